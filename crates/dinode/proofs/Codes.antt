@@ -1,0 +1,98 @@
+-- The codes of an inode, test by test: what a function that tests one thing after the other shows.
+-- Assumes nothing.
+use Prim.Native.Nat.{ℕ, _+_, _-_, _*_, _/_, _≤_, _<_}
+use native.Mathlib.Omega.{arith}
+use mathlib.Core.Bool.{Bool, true, false, not, cond, _||_, _&&_}
+use mathlib.Core.Path.{_≡_, refl, sym, _∙_, ap}
+use mathlib.Core.List.{List}
+use lib.Dec.{eqb, leb}
+use lib.ListN.{length}
+use borrow.Author.Tests.{eq-eqb, ne-eqb, le-leb, lt-leb}
+use Rattle.be.specs.Bytes.{byte, field}
+use Rattle.edition.specs.declared.Edition.{Edition}
+use Rattle.dinode.specs.declared.Tested.the-variants.{Sound, Refused as Tested-refused}
+use Rattle.dinode.specs.declared.Fork.the-variants.{At, Refused}
+use Rattle.dinode.specs.Core.{inode-size, version-good, magic-good, kind-good, inode-code, directory-code, attributes-code, directory-good, attributes-good, attr-start, attr-length, data-length, core-of, tested, directory-fork, attributes-fork}
+
+module _ (e : Edition) (b : List ℕ) where
+  pub not-sized : inode-size (length b) ≡ false → 1 ≡ inode-code e b
+  unfolding inode-code
+  not-sized h = rw h
+
+  pub not-magic : inode-size (length b) ≡ true → (field 0 2 b ≡ 18766 → ⊥) → 2 ≡ inode-code e b
+  unfolding inode-code magic-good
+  not-magic h m = rw (h, ne-eqb _ _ m)
+
+  pub not-version : inode-size (length b) ≡ true → field 0 2 b ≡ 18766 → version-good e (byte 4 b) ≡ false → 3 ≡ inode-code e b
+  unfolding inode-code magic-good kind-good
+  not-version h m v = rw (h, eq-eqb _ _ m, v)
+
+  pub not-inside : inode-size (length b) ≡ true → field 0 2 b ≡ 18766 → version-good e (byte 4 b) ≡ true
+      → length b < e .literal + 8 * byte 82 b → 3 ≡ inode-code e b
+  unfolding inode-code magic-good kind-good attr-start
+  not-inside h m v l = rw (h, eq-eqb _ _ m, v, lt-leb _ _ l)
+
+  pub all-three : inode-size (length b) ≡ true → field 0 2 b ≡ 18766 → version-good e (byte 4 b) ≡ true
+      → e .literal + 8 * byte 82 b ≤ length b → 0 ≡ inode-code e b
+  unfolding inode-code magic-good kind-good attr-start
+  all-three h m v l = rw (h, eq-eqb _ _ m, v, le-leb _ _ l)
+
+  pub tested-sound : inode-code e b ≡ 0 → Sound (core-of b) ≡ tested e b
+  unfolding tested
+  tested-sound h = rw h
+
+  pub tested-not : (inode-code e b ≡ 0 → ⊥) → Tested-refused (inode-code e b) ≡ tested e b
+  unfolding tested
+  tested-not h = rw (ne-eqb _ _ h)
+
+  pub directory-first : (inode-code e b ≡ 0 → ⊥) → inode-code e b ≡ directory-code e b
+  unfolding directory-code
+  directory-first h = rw (ne-eqb _ _ h)
+
+  pub directory-mode : inode-code e b ≡ 0 → (field 2 2 b / 4096 ≡ 4 → ⊥) → 3 ≡ directory-code e b
+  unfolding directory-code directory-good
+  directory-mode h m = rw (h, ne-eqb _ _ m)
+
+  pub directory-format : inode-code e b ≡ 0 → field 2 2 b / 4096 ≡ 4 → (byte 5 b ≡ 1 → ⊥) → 3 ≡ directory-code e b
+  unfolding directory-code directory-good
+  directory-format h m f = rw (h, eq-eqb _ _ m, ne-eqb _ _ f)
+
+  pub directory-all : inode-code e b ≡ 0 → field 2 2 b / 4096 ≡ 4 → byte 5 b ≡ 1 → 0 ≡ directory-code e b
+  unfolding directory-code directory-good
+  directory-all h m f = rw (h, eq-eqb _ _ m, eq-eqb _ _ f)
+
+  pub attributes-first : (inode-code e b ≡ 0 → ⊥) → inode-code e b ≡ attributes-code e b
+  unfolding attributes-code
+  attributes-first h = rw (ne-eqb _ _ h)
+
+  pub attributes-format : inode-code e b ≡ 0 → (byte 83 b ≡ 1 → ⊥) → 3 ≡ attributes-code e b
+  unfolding attributes-code attributes-good
+  attributes-format h m = rw (h, ne-eqb _ _ m)
+
+  pub attributes-none : inode-code e b ≡ 0 → byte 83 b ≡ 1 → byte 82 b ≡ 0 → 3 ≡ attributes-code e b
+  unfolding attributes-code attributes-good
+  attributes-none h m f = rw (h, eq-eqb _ _ m, eq-eqb _ _ f)
+
+  pub attributes-all : inode-code e b ≡ 0 → byte 83 b ≡ 1 → (byte 82 b ≡ 0 → ⊥) → 0 ≡ attributes-code e b
+  unfolding attributes-code attributes-good
+  attributes-all h m f = rw (h, eq-eqb _ _ m, ne-eqb _ _ f)
+
+  pub directory-refused : (directory-code e b ≡ 0 → ⊥) → Refused (directory-code e b) ≡ directory-fork e b
+  unfolding directory-fork
+  directory-refused h = rw (ne-eqb _ _ h)
+
+  pub directory-whole : directory-code e b ≡ 0 → byte 82 b ≡ 0 → At (e .literal) (length b - e .literal) ≡ directory-fork e b
+  unfolding directory-fork data-length
+  directory-whole h f = rw (h, f)
+
+  pub directory-part : directory-code e b ≡ 0 → (byte 82 b ≡ 0 → ⊥) → At (e .literal) (8 * byte 82 b) ≡ directory-fork e b
+  unfolding directory-fork data-length
+  directory-part h f = rw (h, ne-eqb _ _ f)
+
+  pub attributes-refused : (attributes-code e b ≡ 0 → ⊥) → Refused (attributes-code e b) ≡ attributes-fork e b
+  unfolding attributes-fork
+  attributes-refused h = rw (ne-eqb _ _ h)
+
+  pub attributes-there : attributes-code e b ≡ 0 → At (e .literal + 8 * byte 82 b) (length b - (e .literal + 8 * byte 82 b)) ≡ attributes-fork e b
+  unfolding attributes-fork attr-length attr-start
+  attributes-there h = rw h

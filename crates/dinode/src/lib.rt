@@ -1,0 +1,164 @@
+// The inode core: tests 1 to 3, the fields handed out, and where the forks lie.
+ghost use mathlib.Core.Path.{_≡_};
+ghost use Prim.Native.Nat.{_≤_};
+ghost use lib.ListN.{length};
+ghost use Rattle.edition.specs.Edition.{v4, Sane};
+ghost use Rattle.dinode.specs.Core.{core-of, inode-size, version-good, inode-code, directory-code, attributes-code, tested, directory-fork, attributes-fork};
+use edition::Edition;
+use edition::V4;
+
+// The fields that are handed out.
+pub struct Core {
+    pub magic: usize,
+    pub mode: usize,
+    pub version: usize,
+    pub format: usize,
+    pub size: u64,
+    pub forkoff: usize,
+    pub aformat: usize,
+}
+
+// What the test of an inode finds: its fields, or the number of the first test that fails.
+pub enum Tested {
+    Sound(Core),
+    Refused(usize),
+}
+
+// Where a fork lies in the inode, start and length, or the number of the first test that fails.
+pub enum Fork {
+    At(usize, usize),
+    Refused(usize),
+}
+
+// Whether an inode may have this many bytes.
+fn sized(n: usize) -> bool
+    ensures { λ r. ⌜ r ≡ inode-size n ⌝ }
+{
+    (n == 256) | (n == 512) | (n == 1024) | (n == 2048)
+}
+
+// Whether the edition has inodes of this version.
+fn versioned(e: Edition, v: usize) -> bool
+    ensures { λ r. ⌜ r ≡ version-good e v ⌝ }
+{
+    (e.oldest <= v) & (v <= e.newest)
+}
+
+// The fields of what is long enough to have them.
+fn fields(b: &[u8]) -> Core
+    requires { ⌜ 100 ≤ length (now b) ⌝ }
+    ensures { λ r. ⌜ r ≡ core-of (now (b .entry)) ⌝ }
+{
+    let magic = be::be16(b, 0);
+    let mode = be::be16(b, 2);
+    let version = be::be8(b, 4);
+    let format = be::be8(b, 5);
+    let size = be::be64(b, 56);
+    let forkoff = be::be8(b, 82);
+    let aformat = be::be8(b, 83);
+    Core {
+        magic,
+        mode,
+        version,
+        format,
+        size,
+        forkoff,
+        aformat,
+    }
+}
+
+// Tests 1 to 3: 0, or the number of the first that fails.
+pub fn code(e: Edition, b: &[u8]) -> usize
+    requires { ⌜ Sane e ⌝ }
+    ensures { λ r. ⌜ r ≡ inode-code e (now (b .entry)) ⌝ }
+{
+    if !sized(b.len()) {
+        return 1;
+    }
+    if be::be16(b, 0) != 0x494e {
+        return 2;
+    }
+    if !versioned(e, be::be8(b, 4)) {
+        return 3;
+    }
+    if b.len() < e.literal + 8 * be::be8(b, 82) {
+        return 3;
+    }
+    0
+}
+
+// Tests any bytes as an inode of the V4 edition, and hands the fields out.
+pub fn test(b: &[u8]) -> Tested
+    ensures { λ r. ⌜ r ≡ tested v4 (now (b .entry)) ⌝ }
+{
+    let n = code(V4::edition(), b);
+    if n == 0 {
+        return Tested::Sound(fields(b));
+    }
+    Tested::Refused(n)
+}
+
+// Tests 1 to 3 of a directory's inode.
+pub fn code_of_directory(e: Edition, b: &[u8]) -> usize
+    requires { ⌜ Sane e ⌝ }
+    ensures { λ r. ⌜ r ≡ directory-code e (now (b .entry)) ⌝ }
+{
+    let n = code(e, b);
+    if n != 0 {
+        return n;
+    }
+    if be::be16(b, 2) / 4096 != 4 {
+        return 3;
+    }
+    if be::be8(b, 5) != 1 {
+        return 3;
+    }
+    0
+}
+
+// Tests 1 to 3 of an inode with attributes.
+pub fn code_of_attributes(e: Edition, b: &[u8]) -> usize
+    requires { ⌜ Sane e ⌝ }
+    ensures { λ r. ⌜ r ≡ attributes-code e (now (b .entry)) ⌝ }
+{
+    let n = code(e, b);
+    if n != 0 {
+        return n;
+    }
+    if be::be8(b, 83) != 1 {
+        return 3;
+    }
+    if be::be8(b, 82) == 0 {
+        return 3;
+    }
+    0
+}
+
+// The data fork of a local directory.
+pub fn fork_of_directory(e: Edition, b: &[u8]) -> Fork
+    requires { ⌜ Sane e ⌝ }
+    ensures { λ r. ⌜ r ≡ directory-fork e (now (b .entry)) ⌝ }
+{
+    let n = code_of_directory(e, b);
+    if n != 0 {
+        return Fork::Refused(n);
+    }
+    let forkoff = be::be8(b, 82);
+    if forkoff == 0 {
+        return Fork::At(e.literal, b.len() - e.literal);
+    }
+    Fork::At(e.literal, 8 * forkoff)
+}
+
+// The attribute fork of an inode with local attributes.
+pub fn fork_of_attributes(e: Edition, b: &[u8]) -> Fork
+    requires { ⌜ Sane e ⌝ }
+    ensures { λ r. ⌜ r ≡ attributes-fork e (now (b .entry)) ⌝ }
+{
+    let n = code_of_attributes(e, b);
+    if n != 0 {
+        return Fork::Refused(n);
+    }
+    let start = e.literal + 8 * be::be8(b, 82);
+    Fork::At(start, b.len() - start)
+}

@@ -1,0 +1,4 @@
+pub mod Scans
+pub mod Hashing
+pub mod Same
+pub mod Legality

@@ -1,0 +1,49 @@
+-- Name equality: what the rules above use of it.
+-- Assumes nothing.
+use Prim.Native.Nat.{ℕ}
+use mathlib.Core.Bool.{true, false≢true}
+use mathlib.Core.Path.{_≡_, refl, sym, _∙_, ap, ap₂}
+use mathlib.Core.List.{List, [], _∷_}
+use lib.Dec.{eqb}
+use lib.ListN.{length}
+use borrow.Author.Tests.{eqb-true, eq-eqb}
+use Rattle.be.specs.Lists.{same}
+use Rattle.be.proofs.Bools.{and-left, and-right, and-both}
+use Rattle.edition.specs.declared.Edition.{Edition}
+use Rattle.name.specs.Name.{same-name, hash-of, fixed-name}
+
+pub same-refl : (n : List ℕ) → same n n ≡ true
+same-refl [] = refl
+same-refl (x ∷ xs) = and-both (eqb x x) (same xs xs) (eq-eqb x x refl) (same-refl xs)
+
+pub same-eq : (n m : List ℕ) → same n m ≡ true → n ≡ m
+same-eq [] [] h = refl
+same-eq [] (y ∷ ys) h = absurd (false≢true h)
+same-eq (x ∷ xs) [] h = absurd (false≢true h)
+same-eq (x ∷ xs) (y ∷ ys) h =
+    ap₂ (λ (a : ℕ) (l : List ℕ). a ∷ l) (eqb-true x y (and-left (eqb x y) (same xs ys) h)) (same-eq xs ys (and-right (eqb x y) (same xs ys) h))
+
+module _ (e : Edition) where
+  pub same-name-refl : (n : List ℕ) → same-name e n n ≡ true
+  unfolding same-name
+  same-name-refl n = same-refl n
+
+  pub same-name-sym : (n m : List ℕ) → same-name e n m ≡ true → same-name e m n ≡ true
+  unfolding same-name
+  same-name-sym n m h = rw (same-eq n m h) (same-refl m)
+
+  pub same-name-trans : (n m k : List ℕ) → same-name e n m ≡ true → same-name e m k ≡ true → same-name e n k ≡ true
+  unfolding same-name
+  same-name-trans n m k h g = rw (same-eq n m h) g
+
+  pub same-name-hash : (n m : List ℕ) → same-name e n m ≡ true → hash-of e n ≡ hash-of e m
+  unfolding same-name
+  same-name-hash n m h = ap (hash-of e) (same-eq n m h)
+
+  pub same-name-length : (n m : List ℕ) → same-name e n m ≡ true → length n ≡ length m
+  unfolding same-name
+  same-name-length n m h = ap length (same-eq n m h)
+
+  pub same-name-fixed : (n m : List ℕ) → same-name e n m ≡ true → fixed-name n ≡ fixed-name m
+  unfolding same-name
+  same-name-fixed n m h = ap fixed-name (same-eq n m h)
