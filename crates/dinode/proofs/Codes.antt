@@ -12,27 +12,38 @@ use Rattle.be.specs.Bytes.{byte, field}
 use Rattle.edition.specs.declared.Edition.{Edition}
 use Rattle.dinode.specs.declared.Tested.the-variants.{Sound, Refused as Tested-refused}
 use Rattle.dinode.specs.declared.Fork.the-variants.{At, Refused}
-use Rattle.dinode.specs.Core.{inode-size, version-good, magic-good, kind-good, inode-code, directory-code, attributes-code, directory-good, attributes-good, attr-start, attr-length, data-length, core-of, tested, directory-fork, attributes-fork}
+use Rattle.dinode.specs.Core.{inode-size, version-good, magic-good, kind-good, and-kind, inode-code, directory-code, attributes-code, attr-start, attr-length, data-length, core-of, tested, directory-fork, attributes-fork}
+
+-- a test more, after the tests that gave n
+module _ (n : ℕ) (good : Bool) where
+  pub kind-first : (n ≡ 0 → ⊥) → n ≡ and-kind n good
+  kind-first h = rw (ne-eqb n 0 h)
+
+  pub kind-holds : n ≡ 0 → good ≡ true → 0 ≡ and-kind n good
+  kind-holds h g = rw (h, g)
+
+  pub kind-fails : n ≡ 0 → good ≡ false → 3 ≡ and-kind n good
+  kind-fails h g = rw (h, g)
 
 module _ (e : Edition) (b : List ℕ) where
   pub not-sized : inode-size (length b) ≡ false → 1 ≡ inode-code e b
   unfolding inode-code
   not-sized h = rw h
 
-  pub not-magic : inode-size (length b) ≡ true → (field 0 2 b ≡ 18766 → ⊥) → 2 ≡ inode-code e b
+  pub not-magic : inode-size (length b) ≡ true → (field 0 2 b ≡ 0x494e → ⊥) → 2 ≡ inode-code e b
   unfolding inode-code magic-good
   not-magic h m = rw (h, ne-eqb _ _ m)
 
-  pub not-version : inode-size (length b) ≡ true → field 0 2 b ≡ 18766 → version-good e (byte 4 b) ≡ false → 3 ≡ inode-code e b
+  pub not-version : inode-size (length b) ≡ true → field 0 2 b ≡ 0x494e → version-good e (byte 4 b) ≡ false → 3 ≡ inode-code e b
   unfolding inode-code magic-good kind-good
   not-version h m v = rw (h, eq-eqb _ _ m, v)
 
-  pub not-inside : inode-size (length b) ≡ true → field 0 2 b ≡ 18766 → version-good e (byte 4 b) ≡ true
+  pub not-inside : inode-size (length b) ≡ true → field 0 2 b ≡ 0x494e → version-good e (byte 4 b) ≡ true
       → length b < e .literal + 8 * byte 82 b → 3 ≡ inode-code e b
   unfolding inode-code magic-good kind-good attr-start
   not-inside h m v l = rw (h, eq-eqb _ _ m, v, lt-leb _ _ l)
 
-  pub all-three : inode-size (length b) ≡ true → field 0 2 b ≡ 18766 → version-good e (byte 4 b) ≡ true
+  pub all-three : inode-size (length b) ≡ true → field 0 2 b ≡ 0x494e → version-good e (byte 4 b) ≡ true
       → e .literal + 8 * byte 82 b ≤ length b → 0 ≡ inode-code e b
   unfolding inode-code magic-good kind-good attr-start
   all-three h m v l = rw (h, eq-eqb _ _ m, v, le-leb _ _ l)
@@ -44,38 +55,6 @@ module _ (e : Edition) (b : List ℕ) where
   pub tested-not : (inode-code e b ≡ 0 → ⊥) → Tested-refused (inode-code e b) ≡ tested e b
   unfolding tested
   tested-not h = rw (ne-eqb _ _ h)
-
-  pub directory-first : (inode-code e b ≡ 0 → ⊥) → inode-code e b ≡ directory-code e b
-  unfolding directory-code
-  directory-first h = rw (ne-eqb _ _ h)
-
-  pub directory-mode : inode-code e b ≡ 0 → (field 2 2 b / 4096 ≡ 4 → ⊥) → 3 ≡ directory-code e b
-  unfolding directory-code directory-good
-  directory-mode h m = rw (h, ne-eqb _ _ m)
-
-  pub directory-format : inode-code e b ≡ 0 → field 2 2 b / 4096 ≡ 4 → (byte 5 b ≡ 1 → ⊥) → 3 ≡ directory-code e b
-  unfolding directory-code directory-good
-  directory-format h m f = rw (h, eq-eqb _ _ m, ne-eqb _ _ f)
-
-  pub directory-all : inode-code e b ≡ 0 → field 2 2 b / 4096 ≡ 4 → byte 5 b ≡ 1 → 0 ≡ directory-code e b
-  unfolding directory-code directory-good
-  directory-all h m f = rw (h, eq-eqb _ _ m, eq-eqb _ _ f)
-
-  pub attributes-first : (inode-code e b ≡ 0 → ⊥) → inode-code e b ≡ attributes-code e b
-  unfolding attributes-code
-  attributes-first h = rw (ne-eqb _ _ h)
-
-  pub attributes-format : inode-code e b ≡ 0 → (byte 83 b ≡ 1 → ⊥) → 3 ≡ attributes-code e b
-  unfolding attributes-code attributes-good
-  attributes-format h m = rw (h, ne-eqb _ _ m)
-
-  pub attributes-none : inode-code e b ≡ 0 → byte 83 b ≡ 1 → byte 82 b ≡ 0 → 3 ≡ attributes-code e b
-  unfolding attributes-code attributes-good
-  attributes-none h m f = rw (h, eq-eqb _ _ m, eq-eqb _ _ f)
-
-  pub attributes-all : inode-code e b ≡ 0 → byte 83 b ≡ 1 → (byte 82 b ≡ 0 → ⊥) → 0 ≡ attributes-code e b
-  unfolding attributes-code attributes-good
-  attributes-all h m f = rw (h, eq-eqb _ _ m, ne-eqb _ _ f)
 
   pub directory-refused : (directory-code e b ≡ 0 → ⊥) → Refused (directory-code e b) ≡ directory-fork e b
   unfolding directory-fork

@@ -73,13 +73,17 @@ attributes-good b = eqb (byte 83 b) 1 && not (eqb (byte 82 b) 0)
 unfoldable pub inode-code : Edition → List ℕ → ℕ
 inode-code e b = cond (inode-size (length b)) (cond (magic-good b) (cond (kind-good e b) 0 3) 2) 1
 
--- the same for an inode that has to be a local directory
-unfoldable pub directory-code : Edition → List ℕ → ℕ
-directory-code e b = cond (eqb (inode-code e b) 0) (cond (directory-good b) 0 3) (inode-code e b)
+-- the code of the tests so far, or 3 when a call asks more of the inode and that does not hold
+abbrev pub and-kind : ℕ → Bool → ℕ
+and-kind n good = cond (eqb n 0) (cond good 0 3) n
 
--- the same for an inode that has to have local attributes
+-- the code of an inode that has to be a local directory
+unfoldable pub directory-code : Edition → List ℕ → ℕ
+directory-code e b = and-kind (inode-code e b) (directory-good b)
+
+-- of one that has to have local attributes
 unfoldable pub attributes-code : Edition → List ℕ → ℕ
-attributes-code e b = cond (eqb (inode-code e b) 0) (cond (attributes-good b) 0 3) (inode-code e b)
+attributes-code e b = and-kind (inode-code e b) (attributes-good b)
 
 -- what the test of an inode answers
 unfoldable pub tested : Edition → List ℕ → Tested

@@ -3,7 +3,7 @@ ghost use mathlib.Core.Path.{_≡_};
 ghost use Prim.Native.Nat.{_≤_};
 ghost use lib.ListN.{length};
 ghost use Rattle.edition.specs.Edition.{v4, Sane};
-ghost use Rattle.dinode.specs.Core.{core-of, inode-size, version-good, inode-code, directory-code, attributes-code, tested, directory-fork, attributes-fork};
+ghost use Rattle.dinode.specs.Core.{core-of, inode-size, version-good, directory-good, attributes-good, inode-code, directory-code, attributes-code, tested, directory-fork, attributes-fork};
 use edition::Edition;
 use edition::V4;
 
@@ -98,6 +98,22 @@ pub fn test(b: &[u8]) -> Tested
     Tested::Refused(n)
 }
 
+// Whether the inode is a local directory's.
+fn directory(b: &[u8]) -> bool
+    requires { ⌜ 100 ≤ length (now b) ⌝ }
+    ensures { λ r. ⌜ r ≡ directory-good (now (b .entry)) ⌝ }
+{
+    (be::be16(b, 2) / 4096 == 4) & (be::be8(b, 5) == 1)
+}
+
+// Whether the inode has local attributes.
+fn attributes(b: &[u8]) -> bool
+    requires { ⌜ 100 ≤ length (now b) ⌝ }
+    ensures { λ r. ⌜ r ≡ attributes-good (now (b .entry)) ⌝ }
+{
+    (be::be8(b, 83) == 1) & (be::be8(b, 82) != 0)
+}
+
 // Tests 1 to 3 of a directory's inode.
 pub fn code_of_directory(e: Edition, b: &[u8]) -> usize
     requires { ⌜ Sane e ⌝ }
@@ -107,13 +123,10 @@ pub fn code_of_directory(e: Edition, b: &[u8]) -> usize
     if n != 0 {
         return n;
     }
-    if be::be16(b, 2) / 4096 != 4 {
-        return 3;
+    if directory(b) {
+        return 0;
     }
-    if be::be8(b, 5) != 1 {
-        return 3;
-    }
-    0
+    3
 }
 
 // Tests 1 to 3 of an inode with attributes.
@@ -125,13 +138,10 @@ pub fn code_of_attributes(e: Edition, b: &[u8]) -> usize
     if n != 0 {
         return n;
     }
-    if be::be8(b, 83) != 1 {
-        return 3;
+    if attributes(b) {
+        return 0;
     }
-    if be::be8(b, 82) == 0 {
-        return 3;
-    }
-    0
+    3
 }
 
 // The data fork of a local directory.

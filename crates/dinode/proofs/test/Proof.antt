@@ -1,11 +1,34 @@
 use native.Mathlib.Omega.{arith}
+use Prim.Native.Nat.{ℕ}
 use mathlib.Core.Path.{_≡_, sym, _∙_, ap}
-use Rattle.dinode.specs.declared.Tested.the-variants.{Sound, Refused as Tested-refused}
+use mathlib.Core.List.{List}
+use denote.Ref.{now}
+use borrow.Author.Needs.{needs}
+use Rattle.edition.specs.declared.Edition.{Edition}
+use Rattle.edition.specs.Edition.{v4}
+use Rattle.dinode.specs.declared.Tested.the-variants.{Sound, Refused}
+use Rattle.dinode.specs.Core.{inode-code}
 use Rattle.dinode.proofs.Sound.{sound-size}
 use Rattle.dinode.proofs.Codes.{tested-sound, tested-not}
-use borrow.Author.Needs.{needs}
 use Rattle.dinode.proofs.test.Statement.{statement}
 use Rattle.dinode.proofs.test.Tie as tie
 
+-- the code, of the edition that was made
+code-is : {e f : Edition} {n : ℕ} (b : List ℕ) → n ≡ inode-code e b → e ≡ f → n ≡ inode-code f b
+code-is b h q = rw (← q) h
+
 pub test-spec : {M : Type 1} → statement M
-test-spec = tie.close (tie.spec (λ c κs. search needs) (λ c κs. omega (arith, sound-size _ (sym (c .before .code .ensures) ∙ c .if1 .taken))) (λ c. ap Sound (c .fields .ensures) ∙ tested-sound _ (sym (c .before .before .code .ensures) ∙ c .before .if1 .taken)) (λ c. ap Refused (c .before .code .ensures) ∙ tested-not _ (λ e. c .if1 .left (c .before .code .ensures ∙ e))))
+test-spec =
+    tie.close
+    (tie.spec
+    (λ c κs. search needs)
+    (λ c κs. c .edition .ensures .1)
+    (λ c κs. omega (arith, sound-size _ _ (sym (c .before .code .ensures) ∙ c .if1 .taken)))
+    (λ c.
+    let b = now (c .before .before .before .before .before .args .b) in
+    let h = code-is b (c .before .before .code .ensures) (c .before .before .before .edition .ensures .0) in
+    ap Sound (c .fields .ensures) ∙ tested-sound v4 b (sym h ∙ c .before .if1 .taken))
+    (λ c.
+    let b = now (c .before .before .before .before .args .b) in
+    let h = code-is b (c .before .code .ensures) (c .before .before .edition .ensures .0) in
+    ap Refused h ∙ tested-not v4 b (λ q. c .if1 .left (h ∙ q))))

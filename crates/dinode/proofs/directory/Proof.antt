@@ -1,0 +1,11 @@
+use borrow.Author.Needs.{needs}
+use Rattle.dinode.specs.Core.{directory-good}
+use Rattle.dinode.proofs.directory.Statement.{statement}
+use Rattle.dinode.proofs.directory.Tie as tie
+
+returns : tie.Need-returns
+unfolding directory-good
+returns c = cc
+
+pub directory-spec : {M : Type 1} → statement M
+directory-spec = tie.close (tie.spec (λ c κs. search needs) (λ c κs. search needs) returns)
