@@ -25,6 +25,7 @@ put-sets b o (x ∷ xs) = go b o x xs ∙ put-sets (set b o x) (suc o) xs
 pub store : (b : List ℕ) (o v : ℕ) → set b o (v % 256) ≡ put b o (to-be 1 v)
 unfolding to-be
 store b o v = rw put-sets (simp div-one)
+
 sets-append : (l : List ℕ) (i : ℕ) (xs ys : List ℕ) → sets l i (xs ++ ys) ≡ sets (sets l i xs) (i + length xs) ys
 sets-append l i [] ys = rw add-zero
 sets-append l i (x ∷ xs) ys = sets-append (set l i x) (suc i) xs ys ∙ rw (suc-add, ← add-suc)

@@ -1,16 +1,16 @@
 -- What an inode that passes tests 1 to 3 is known to have.
 -- Assumes nothing.
-use Prim.Native.Nat.{ℕ, _+_, _*_, _≤_, _<_}
+use Prim.Native.Nat.{ℕ, _+_, _*_, _≤_}
 use native.Mathlib.Omega.{arith}
-use mathlib.Core.Bool.{Bool, true, false, cond, _||_, _&&_}
-use mathlib.Core.Path.{_≡_, refl, sym, _∙_}
+use mathlib.Core.Bool.{Bool, true, false, cond, _||_}
+use mathlib.Core.Path.{_≡_, refl}
 use mathlib.Core.List.{List}
-use lib.Dec.{eqb, leb}
+use lib.Dec.{eqb}
 use lib.ListN.{length}
 use borrow.Author.Tests.{eqb-true, eqb-false, leb-true}
-use Rattle.be.specs.Bytes.{byte, field}
+use Rattle.be.specs.Bytes.{byte}
 use Rattle.edition.specs.declared.Edition.{Edition}
-use Rattle.be.proofs.Bools.{by-cases, and-left, and-right}
+use Rattle.be.proofs.Bools.{by-cases, and-right}
 use Rattle.dinode.specs.Core.{inode-size, version-good, magic-good, kind-good, inode-code, directory-code, attributes-code, directory-good, attributes-good, attr-start}
 
 or-cases : {P : Type 0} (a b : Bool) → (a || b) ≡ true → (a ≡ true → P) → (b ≡ true → P) → P

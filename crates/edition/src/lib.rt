@@ -54,7 +54,8 @@ pub const LARGEST_BLOCK: usize = 16384;
 pub fn block_sized(n: usize) -> bool
     ensures { λ r. ⌜ r ≡ block-size n ⌝ }
 {
-    (n == 512) | ((n == 1024) | ((n == 2048) | ((n == 4096) | ((n == 8192) | (n == LARGEST_BLOCK)))))
+    (n == 512)
+        | ((n == 1024) | ((n == 2048) | ((n == 4096) | ((n == 8192) | (n == LARGEST_BLOCK)))))
 }
 
 // E: the bytes of an entry whose name has n bytes.

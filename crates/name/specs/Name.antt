@@ -38,9 +38,12 @@ unfoldable pub rol : ℕ → ℕ → ℕ
 rol k h = h * 2 ^ k % 2 ^ 32 + h / 2 ^ (32 - k)
 
 -- Hash, for each byte: rotate 32 bits left by 7, then exclusive-or the byte
+unfoldable pub hash-byte : ℕ → ℕ → ℕ
+hash-byte h x = bitXor (rol 7 h) x
+
 unfoldable pub hash-from : ℕ → List ℕ → ℕ
 hash-from h [] = h
-hash-from h (x ∷ xs) = hash-from (bitXor (rol 7 h) x) xs
+hash-from h (x ∷ xs) = hash-from (hash-byte h x) xs
 
 -- Hash: start at 0 (xfs_da_hashname)
 unfoldable pub hash-of : Edition → List ℕ → ℕ

@@ -6,7 +6,7 @@ use mathlib.Core.Path.{_≡_, refl}
 use mathlib.Core.List.{List, [], _∷_}
 use Rattle.be.specs.Lists.{every, same}
 use Rattle.edition.specs.Edition.{v4}
-use Rattle.name.specs.Name.{hash-of, hash-from, rol, dot, dotdot}
+use Rattle.name.specs.Name.{hash-of, hash-from, hash-byte, rol, dot, dotdot}
 
 pub record Row : Type 0 where
   pub computed : List ℕ
@@ -32,5 +32,5 @@ hash-rows =
     ∷ []
 
 pub starred : every right hash-rows ≡ true
-unfolding hash-rows hash-of hash-from rol
+unfolding hash-rows hash-of hash-from hash-byte rol
 starred = refl

@@ -1,9 +1,8 @@
 // Names and inode numbers: which are legal, the hash of a name, and when two names are the same.
 ghost use mathlib.Core.Path.{_≡_};
 ghost use Prim.Native.Nat.{_<_};
-ghost use lib.Bits.{bitXor};
 ghost use Rattle.be.specs.Lists.{every, same};
-ghost use Rattle.name.specs.Name.{clear-of, legal-name, legal-attr-name, legal-number, rol, hash-of, same-name, fixed-name};
+ghost use Rattle.name.specs.Name.{clear-of, legal-name, legal-attr-name, legal-number, hash-byte, hash-of, same-name, fixed-name};
 use edition::Edition;
 
 // Whether no byte is 0 or equal to t.
@@ -58,7 +57,7 @@ pub fn number_legal(i: u64) -> bool
 
 // The hash with one byte more.
 fn hash_byte(h: u32, x: u8) -> u32
-    ensures { λ r. ⌜ r ≡ bitXor (rol 7 h) x ⌝ }
+    ensures { λ r. ⌜ r ≡ hash-byte h x ⌝ }
 {
     ((h << 7) | (h >> 25)) ^ (x as u32)
 }

@@ -1,12 +1,9 @@
-use Prim.Native.Nat.{_<_}
-use lib.ListN.{length-drop}
+use Prim.Native.Nat.{_<_, _≤_, _-_}
+use lib.ListN.{length-drop, length, take, drop, length-set}
 use mathlib.Core.Path.{_≡_, refl, sym, _∙_}
-use Rattle.be.proofs.Stores.{put-sets}
-use Prim.Native.Nat.{_≤_, _-_, _+_}
+use Rattle.be.proofs.Stores.{put-sets, copy-turn, read-above}
 use native.Mathlib.Omega.{arith}
-use lib.ListN.{length, take, drop, replicate, length-set}
 use lib.Seq.{sets}
-use Rattle.be.proofs.Stores.{copy-turn, read-above}
 use Rattle.be.proofs.move_down.Statement.{statement}
 use Rattle.be.proofs.move_down.Tie as tie
 
@@ -15,27 +12,6 @@ Inv-loop b₀ from to n i₀ b i = (i ≤ n) × (length b ≡ length b₀) × (b
 
 abbrev μ-loop : tie.MeasureT-loop
 μ-loop b₀ from to n i₀ b i = n - i
-
-loop-holds : tie.Need-loop-holds Inv-loop μ-loop
-loop-holds c = (omega arith, refl, refl)
-
-add-b : tie.Need-add-b Inv-loop μ-loop
-add-b c = omega arith
-
-slice-read-b : tie.Need-slice-read-b Inv-loop μ-loop
-slice-read-b c = omega arith
-
-add-b-2 : tie.Need-add-b-2 Inv-loop μ-loop
-add-b-2 c = omega arith
-
-slice-write-b : tie.Need-slice-write-b Inv-loop μ-loop
-slice-write-b c = omega arith
-
-add-i : tie.Need-add-i Inv-loop μ-loop
-add-i c = omega arith
-
-loop-less : tie.Need-loop-less Inv-loop μ-loop
-loop-less c = omega arith
 
 loop-again : tie.Need-loop-again Inv-loop μ-loop
 loop-again c =
@@ -46,9 +22,6 @@ loop-again c =
       simp length-set (l .inv .1),
       copy-turn _ _ _ _ _ _ h (read-above (a .b .now) (l .b) (a .from) (a .to) (l .i) (omega arith) (omega arith) (l .inv .2)) (l .inv .2),
     )
-
-same-length : tie.Need-same-length Inv-loop μ-loop
-same-length c = c .before .loop .inv .1
 
 returns : tie.Need-returns Inv-loop μ-loop
 returns c =
@@ -61,13 +34,13 @@ move-down-spec =
     (tie.spec
     Inv-loop
     μ-loop
-    loop-holds
-    add-b
-    slice-read-b
-    add-b-2
-    slice-write-b
-    add-i
-    loop-less
+    (λ c. (omega arith, refl, refl))
+    (λ c. omega arith)
+    (λ c. omega arith)
+    (λ c. omega arith)
+    (λ c. omega arith)
+    (λ c. omega arith)
+    (λ c. omega arith)
     loop-again
-    same-length
+    (λ c. c .before .loop .inv .1)
     returns)

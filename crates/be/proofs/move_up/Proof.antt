@@ -1,14 +1,11 @@
-use Prim.Native.Nat.{_<_}
+use Prim.Native.Nat.{_<_, _≤_, _-_, _+_}
 use mathlib.Core.List.{[]}
 use native.Mathlib.Nat.{add-zero}
-use lib.ListN.{length-drop, length-take, drop-of-length-le}
+use lib.ListN.{length-drop, length-take, drop-of-length-le, length, take, drop, length-set}
 use mathlib.Core.Path.{_≡_, refl, sym, _∙_}
-use Rattle.be.proofs.Stores.{put-sets}
-use Prim.Native.Nat.{_≤_, _-_, _+_}
+use Rattle.be.proofs.Stores.{put-sets, down-turn, read-below}
 use native.Mathlib.Omega.{arith}
-use lib.ListN.{length, take, drop, replicate, length-set}
 use lib.Seq.{sets}
-use Rattle.be.proofs.Stores.{down-turn, read-below}
 use Rattle.be.proofs.move_up.Statement.{statement}
 use Rattle.be.proofs.move_up.Tie as tie
 
@@ -25,24 +22,6 @@ loop-holds c =
     drop-of-length-le (take (a .n) (drop (a .from) (a .b .now))) {i = a .n} (rw length-take (omega arith)) in
     (omega arith, refl, rw e)
 
-sub-i : tie.Need-sub-i Inv-loop μ-loop
-sub-i c = omega arith
-
-add-b : tie.Need-add-b Inv-loop μ-loop
-add-b c = omega arith
-
-slice-read-b : tie.Need-slice-read-b Inv-loop μ-loop
-slice-read-b c = omega arith
-
-add-b-2 : tie.Need-add-b-2 Inv-loop μ-loop
-add-b-2 c = omega arith
-
-slice-write-b : tie.Need-slice-write-b Inv-loop μ-loop
-slice-write-b c = omega arith
-
-loop-less : tie.Need-loop-less Inv-loop μ-loop
-loop-less c = omega arith
-
 loop-again : tie.Need-loop-again Inv-loop μ-loop
 loop-again c =
     let a = c .before .before .before .args in
@@ -53,9 +32,6 @@ loop-again c =
       down-turn _ _ _ _ (l .i) (l .i - 1) _ (omega arith) h
           (read-below (a .b .now) (l .b) (drop (l .i) (take (a .n) (drop (a .from) (a .b .now)))) (a .from) (a .to) (a .n) (l .i) (l .i - 1) (omega arith) (omega arith) (omega arith) (l .inv .2)) (l .inv .2),
     )
-
-same-length : tie.Need-same-length Inv-loop μ-loop
-same-length c = c .before .loop .inv .1
 
 returns : tie.Need-returns Inv-loop μ-loop
 returns c =
@@ -69,12 +45,12 @@ move-up-spec =
     Inv-loop
     μ-loop
     loop-holds
-    sub-i
-    add-b
-    slice-read-b
-    add-b-2
-    slice-write-b
-    loop-less
+    (λ c. omega arith)
+    (λ c. omega arith)
+    (λ c. omega arith)
+    (λ c. omega arith)
+    (λ c. omega arith)
+    (λ c. omega arith)
     loop-again
-    same-length
+    (λ c. c .before .loop .inv .1)
     returns)

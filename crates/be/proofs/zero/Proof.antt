@@ -1,10 +1,9 @@
 use mathlib.Core.Path.{_≡_, refl, sym, _∙_}
-use Rattle.be.proofs.Stores.{put-sets}
-use Prim.Native.Nat.{_≤_, _-_, _+_}
+use Rattle.be.proofs.Stores.{put-sets, zero-turn}
+use Prim.Native.Nat.{_≤_, _-_}
 use native.Mathlib.Omega.{arith}
-use lib.ListN.{length, take, drop, replicate, length-set}
+use lib.ListN.{length, replicate, length-set}
 use lib.Seq.{sets}
-use Rattle.be.proofs.Stores.{zero-turn}
 use Rattle.be.proofs.zero.Statement.{statement}
 use Rattle.be.proofs.zero.Tie as tie
 
@@ -14,27 +13,9 @@ Inv-loop b₀ o n i₀ b i = (i ≤ n) × (length b ≡ length b₀) × (b ≡ s
 abbrev μ-loop : tie.MeasureT-loop
 μ-loop b₀ o n i₀ b i = n - i
 
-loop-holds : tie.Need-loop-holds Inv-loop μ-loop
-loop-holds c = (omega arith, refl, refl)
-
-add-b : tie.Need-add-b Inv-loop μ-loop
-add-b c = omega arith
-
-slice-write-b : tie.Need-slice-write-b Inv-loop μ-loop
-slice-write-b c = omega arith
-
-add-i : tie.Need-add-i Inv-loop μ-loop
-add-i c = omega arith
-
-loop-less : tie.Need-loop-less Inv-loop μ-loop
-loop-less c = omega arith
-
 loop-again : tie.Need-loop-again Inv-loop μ-loop
 loop-again c =
     (omega arith, simp length-set (c .before .loop .inv .1), zero-turn _ _ _ _ (c .before .loop .inv .2))
-
-same-length : tie.Need-same-length Inv-loop μ-loop
-same-length c = c .before .loop .inv .1
 
 returns : tie.Need-returns Inv-loop μ-loop
 returns c =
@@ -47,11 +28,11 @@ zero-spec =
     (tie.spec
     Inv-loop
     μ-loop
-    loop-holds
-    add-b
-    slice-write-b
-    add-i
-    loop-less
+    (λ c. (omega arith, refl, refl))
+    (λ c. omega arith)
+    (λ c. omega arith)
+    (λ c. omega arith)
+    (λ c. omega arith)
     loop-again
-    same-length
+    (λ c. c .before .loop .inv .1)
     returns)
