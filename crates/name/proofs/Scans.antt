@@ -3,7 +3,7 @@
 use Prim.Native.Nat.{ℕ, suc, _+_, _≤_, _<_}
 use native.Mathlib.Numerals.{add-one}
 use native.Mathlib.Omega.{arith}
-use mathlib.Core.Bool.{Bool, true, false}
+use mathlib.Core.Bool.{Bool, true, false, _&&_}
 use mathlib.Core.Path.{_≡_, refl, sym, _∙_, ap}
 use mathlib.Core.List.{List, [], _∷_}
 use lib.Dec.{eqb}
@@ -43,6 +43,29 @@ clear-other t s i v h a =
 
 pub clear-done : (t : ℕ) (s : List ℕ) (i : ℕ) → Clear t s i → length s ≤ i → true ≡ every (clear-of t) s
 clear-done t s i v h = let q : i ≡ length s = omega arith in sym (v .rest ∙ every-end (clear-of t) s i q)
+
+-- the test of the bytes before i, and of those from i on
+pub and-on : (p : ℕ → Bool) (s : List ℕ) (i : ℕ) (a d : Bool) → i < length s → a ≡ (d && p (getD s i 0))
+    → every p s ≡ (d && every p (drop i s)) → every p s ≡ (a && every p (drop (i + 1) s))
+and-on p s i a d h q v =
+    v ∙ by-cases (p (getD s i 0))
+    (λ t. rw (q, t, every-on p s i h t) (and-true d (every p (drop (i + 1) s))))
+    (λ t. rw (q, t, every-stop p s i h t) (and-false d (every p (drop (i + 1) s))))
+  where
+    and-true : (d r : Bool) → (d && r) ≡ (d && true && r)
+    and-true true r = refl
+    and-true false r = refl
+
+    and-false : (d r : Bool) → (d && false) ≡ (d && false && r)
+    and-false true r = refl
+    and-false false r = refl
+
+pub and-end : (p : ℕ → Bool) (s : List ℕ) (i : ℕ) (d : Bool) → i ≡ length s → every p s ≡ (d && every p (drop i s)) → d ≡ every p s
+and-end p s i d h v = sym (v ∙ rw (every-end p s i h) (and-one d))
+  where
+    and-one : (d : Bool) → (d && true) ≡ d
+    and-one true = refl
+    and-one false = refl
 
 -- ---- two runs of bytes, byte by byte
 

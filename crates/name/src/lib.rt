@@ -1,8 +1,9 @@
 // Names and inode numbers: which are legal, the hash of a name, and when two names are the same.
 ghost use mathlib.Core.Path.{_≡_};
+ghost use mathlib.Core.Bool.{_&&_};
 ghost use Prim.Native.Nat.{_<_};
 ghost use Rattle.be.specs.Lists.{every, same};
-ghost use Rattle.name.specs.Name.{clear-of, legal-name, legal-attr-name, legal-number, hash-byte, hash-of, same-name, fixed-name};
+ghost use Rattle.name.specs.Name.{clear-of, legal-byte, legal-name, legal-attr-name, legal-number, hash-byte, hash-of, same-name, fixed-name};
 use edition::Edition;
 
 // Whether no byte is 0 or equal to t.
@@ -55,6 +56,12 @@ pub fn number_legal(i: u64) -> bool
     (1 <= i) & (i < 72057594037927936)
 }
 
+fn wide(h: u32) -> usize
+    ensures { λ r. ⌜ (r ≡ h) × (r < 4294967296) ⌝ }
+{
+    h as usize
+}
+
 // The hash with one byte more.
 fn hash_byte(h: u32, x: u8) -> u32
     ensures { λ r. ⌜ r ≡ hash-byte h x ⌝ }
@@ -78,7 +85,39 @@ fn hash32(e: Edition, s: &[u8]) -> u32
 pub fn hash(e: Edition, s: &[u8]) -> usize
     ensures { λ r. ⌜ (r ≡ hash-of e (now (s .entry))) × (r < 4294967296) ⌝ }
 {
-    hash32(e, s) as usize
+    wide(hash32(e, s))
+}
+
+// What one pass over a directory name shows.
+pub struct Checked {
+    pub legal: bool,
+    pub hash: usize,
+}
+
+// Whether the bytes so far were clear of 0 and "/", and x is too.
+fn still_clear(clear: bool, x: u8) -> bool
+    ensures { λ r. ⌜ r ≡ (clear && legal-byte x) ⌝ }
+{
+    clear & !((x == 0) | (x == 47))
+}
+
+// Legality and hash of a directory name in one pass.
+pub fn check(e: Edition, s: &[u8]) -> Checked
+    ensures { λ r. ⌜ (r .legal ≡ legal-name e (now (s .entry))) × ((r .hash ≡ hash-of e (now (s .entry))) × (r .hash < 4294967296)) ⌝ }
+{
+    let n = s.len();
+    let mut h: u32 = 0;
+    let mut clear = true;
+    let mut i = 0;
+    while i < n {
+        let x = s[i];
+        clear = still_clear(clear, x);
+        h = hash_byte(h, x);
+        i += 1;
+    }
+    let legal = (1 <= n) & (n <= 255) & clear;
+    let hash = wide(h);
+    Checked { legal, hash }
 }
 
 // Whether two runs of bytes are equal.

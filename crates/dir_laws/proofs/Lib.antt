@@ -1,0 +1,10 @@
+pub mod Top
+pub mod Steps
+pub mod Scans
+pub mod Tables
+pub mod Searches
+pub mod Joins
+pub mod Written
+pub mod Codes
+pub mod Indexes
+pub mod Inserts

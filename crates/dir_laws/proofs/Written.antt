@@ -1,0 +1,146 @@
+-- What a change's stores leave, before its best-gap table is written: the definition's writes, and a tiled block.
+-- Assumes nothing.
+use Prim.Native.Nat.{ℕ, zero, suc, _+_, _-_, _*_, _≤_, _<_}
+use native.Mathlib.Nat.{add-zero, zero-add, add-assoc}
+use native.Mathlib.Omega.{arith}
+use mathlib.Core.Bool.{Bool, true, false, not, cond, _&&_}
+use mathlib.Core.Path.{_≡_, refl, sym, _∙_, ap, ap₂, subst}
+use mathlib.Core.List.{List, [], _∷_, _++_, append-assoc, append-nil}
+use lib.Dec.{eqb, leb, ltb}
+use lib.ListN.{length, take, drop, getD, length-append, length-drop}
+use lib.Seq.{drop-drop}
+use borrow.Author.Tests.{eqb-true, leb-true}
+use Rattle.be.specs.Lists.{every}
+use Rattle.be.specs.Bytes.{bytes, be, part, field, put, to-be, write, Write, written}
+use Rattle.edition.specs.declared.Edition.{Edition}
+use Rattle.edition.specs.Edition.{v4, entry-size}
+use Rattle.dir_rules.specs.Record.{Rec, rec, size, cut, whole, gaps, gap-writes}
+use Rattle.dir_rules.specs.Block.{records, slots, data-end, count-of, stale-of}
+use Rattle.name.specs.Name.{fixed-name}
+use Rattle.dir_rules.specs.Lookup.{sought}
+use Rattle.dir_rules.specs.Verdict.{Accepted, span-ok, size-ok, Pair}
+use Rattle.dir_rules.specs.Change.{gap-start-before, gap-end-after, with-best, changed, pair-bytes, best-of, remove-writes}
+use Rattle.be.proofs.Bools.{by-cases, and-left, and-right}
+use Rattle.be.proofs.Writes.{length-put}
+use Rattle.be.proofs.Numbers.{length-to-be}
+use Rattle.dir_rules.proofs.WritesLeave.{written-append}
+use Rattle.edition.specs.Edition.{Sane}
+use Rattle.dir_rules.proofs.GoodParts.{block-bound}
+use Rattle.dir_rules.proofs.Acceptance.{Passed, passed, tile-whole}
+use Rattle.dir_rules.proofs.StaysBytes.{bytes-written, all-remove}
+use Rattle.dir_rules.proofs.LookupFinds.{Removed, removed-of}
+use Rattle.dir_laws.specs.Tiled.{Tiled, Ready}
+use Rattle.dir_laws.specs.Seen.{Entry-at}
+use Rattle.be.proofs.Writes.{put-next, drop-put}
+use Rattle.dir_laws.proofs.Top.{length-best}
+
+length-pairs : (ps : List Pair) → length (pair-bytes ps) ≡ 4 * length ps
+unfolding pair-bytes
+length-pairs [] = refl
+length-pairs (p ∷ ps) = simp (length-append, length-to-be) (omega (arith, length-pairs ps))
+
+-- the best-gap table stands in the header, so the rest is read as before
+module _ (e : Edition) (sane : Sane e) (w : List ℕ) where
+  behind-header : (k : ℕ) → e .header ≤ k → drop k (with-best e w) ≡ drop k w
+  unfolding with-best written
+  behind-header k h =
+      drop-put w k (e .best) (pair-bytes (best-of 3 (gaps (records e w))))
+      (omega (arith, length-pairs (best-of 3 (gaps (records e w))), length-best 3 (gaps (records e w)), sane .best-inside))
+
+  long-same : length (with-best e w) ≡ length w
+  unfolding with-best written
+  long-same = length-put w (e .best) (pair-bytes (best-of 3 (gaps (records e w))))
+
+  module _ (by : bytes w ≡ true) (a : Accepted e (with-best e w)) where
+    v : List ℕ
+    v = with-best e w
+
+    p : Passed e (with-best e w)
+    p = passed e (with-best e w) a
+
+    room : e .header + 8 * count-of (with-best e w) + 8 ≤ length w
+    unfolding span-ok
+    room = rw long-same at (leb-true (e .header + 8 * count-of (with-best e w) + 8) (length (with-best e w)) (and-left _ _ (p .span)))
+
+    count-same : count-of (with-best e w) ≡ count-of w
+    unfolding count-of
+    count-same =
+        ap (λ (n : ℕ). field (n - 8) 4 (with-best e w)) long-same
+        ∙ ap (λ (l : List ℕ). be (take 4 l)) (behind-header (length w - 8) (omega (arith, room)))
+
+    stale-same : stale-of (with-best e w) ≡ stale-of w
+    unfolding stale-of
+    stale-same =
+        ap (λ (n : ℕ). field (n - 4) 4 (with-best e w)) long-same
+        ∙ ap (λ (l : List ℕ). be (take 4 l)) (behind-header (length w - 4) (omega (arith, room)))
+
+    end-same : data-end (with-best e w) ≡ data-end w
+    unfolding data-end
+    end-same = ap₂ (λ (n c : ℕ). n - 8 - 8 * c) long-same count-same
+
+    records-same : records e (with-best e w) ≡ records e w
+    unfolding records
+    records-same =
+        ap₂ (λ (n m : ℕ). cut e n (e .header) (part (e .header) (m - e .header) (with-best e w))) long-same end-same
+        ∙ ap (λ (l : List ℕ). cut e (length w) (e .header) (take (data-end w - e .header) l)) (behind-header (e .header) (omega arith))
+
+    pub tiled-written : Tiled e w
+    unfolding size-ok span-ok
+    tiled-written =
+        record {
+          are-bytes = by;
+          short = subst (λ (n : ℕ). n ≤ 65536) long-same (block-bound (length (with-best e w)) (p .size));
+          span = ap₂ (λ (c n : ℕ). leb (e .header + 8 * c + 8) n && leb (stale-of w) c) (sym count-same) (sym long-same)
+              ∙ ap (λ (s : ℕ). leb (e .header + 8 * count-of (with-best e w) + 8) (length (with-best e w)) && leb s (count-of (with-best e w))) (sym stale-same) ∙ p .span;
+          wholes = ap (every (whole e)) (sym records-same) ∙ tile-whole e (records e (with-best e w)) (p .tile);
+        }
+
+mark : to-be 2 65535 ≡ 255 ∷ 255 ∷ []
+unfolding to-be
+mark = refl
+
+-- the stores of a gap
+pub gap-stores : (o n : ℕ) (b b₁ b₂ b₃ : List ℕ) → (n ≡ 0 → ⊥)
+    → b₁ ≡ put b o (to-be 2 65535) → b₂ ≡ put b₁ (o + 2) (to-be 2 n) → b₃ ≡ put b₂ (o + n - 2) (to-be 2 o) → b₃ ≡ written b (gap-writes o n)
+unfolding gap-writes written
+gap-stores o zero b b₁ b₂ b₃ h e₁ e₂ e₃ = absurd (h refl)
+gap-stores o (suc n) b b₁ b₂ b₃ h e₁ e₂ e₃ =
+    let m : to-be 2 65535 ≡ 255 ∷ 255 ∷ [] = mark in
+    let w : put (put b o (to-be 2 65535)) (o + 2) (to-be 2 (suc n)) ≡ put b o (to-be 2 65535 ++ to-be 2 (suc n)) =
+    put-next b (o + 2) o (to-be 2 65535) (to-be 2 (suc n)) (ap (λ (k : ℕ). o + k) (length-to-be 2 65535)) in
+    rw (e₃, e₂, e₁, w, m) refl
+
+pub no-gap-stores : (o n : ℕ) (b : List ℕ) → n ≡ 0 → b ≡ written b (gap-writes o n)
+unfolding gap-writes written
+no-gap-stores o zero b h = refl
+no-gap-stores o (suc n) b h = absurd (omega arith)
+
+-- the stores of a removal
+module _ (e : Edition) (b n : List ℕ) where
+  pub remove-stores : (end place at o u m k st : ℕ) (b₁ b₂ b₃ : List ℕ)
+      → sought e b n .place ≡ place → sought e b n .at ≡ at → end ≡ data-end b → st ≡ stale-of b → k ≡ length b - 4
+      → m ≡ at + entry-size e (length n)
+      → o ≡ gap-start-before at (gaps (records e b)) → u ≡ gap-end-after m (gaps (records e b))
+      → b₁ ≡ written b (gap-writes o (u - o)) → b₂ ≡ put b₁ (end + 8 * place + 4) (to-be 4 0) → b₃ ≡ put b₂ k (to-be 4 (st + 1))
+      → b₃ ≡ written b (remove-writes e b n)
+  unfolding remove-writes written
+  remove-stores end place at o u m k st b₁ b₂ b₃ p q r s t w x y e₁ e₂ e₃ =
+      let f = sought e b n in
+      let ws : List Write = gap-writes (gap-start-before (f .at) (gaps (records e b))) (gap-end-after (f .at + entry-size e (length n)) (gaps (records e b)) - gap-start-before (f .at) (gaps (records e b))) in
+      let oo : o ≡ gap-start-before (f .at) (gaps (records e b)) = x ∙ ap (λ (z : ℕ). gap-start-before z (gaps (records e b))) (sym q) in
+      let uu : u ≡ gap-end-after (f .at + entry-size e (length n)) (gaps (records e b)) = y ∙ ap (λ (z : ℕ). gap-end-after z (gaps (records e b))) (w ∙ ap (λ (z : ℕ). z + entry-size e (length n)) (sym q)) in
+      e₃ ∙ ap (λ (l : List ℕ). put l k (to-be 4 (st + 1))) (e₂ ∙ ap (λ (l : List ℕ). put l (end + 8 * place + 4) (to-be 4 0)) e₁)
+      ∙ ap₂ (λ (i j : ℕ). put (put (written b (gap-writes i (j - i))) (end + 8 * place + 4) (to-be 4 0)) k (to-be 4 (st + 1))) oo uu
+      ∙ ap₂ (λ (i j : ℕ). put (put (written b ws) (i + 8 * j + 4) (to-be 4 0)) k (to-be 4 (st + 1))) r (sym p)
+      ∙ ap₂ (λ (i j : ℕ). put (put (written b ws) (data-end b + 8 * f .place + 4) (to-be 4 0)) i (to-be 4 (j + 1))) t s
+      ∙ sym (written-append b ws (write (data-end b + 8 * f .place + 4) (to-be 4 0) ∷ write (length b - 4) (to-be 4 (stale-of b + 1)) ∷ []))
+
+  pub remove-tiled : (sane : Sane e) → Ready e b → sought e b n .hit ≡ true → fixed-name n ≡ false → Tiled e (written b (remove-writes e b n))
+  unfolding changed
+  remove-tiled sane r h x =
+      tiled-written e sane (written b (remove-writes e b n)) (bytes-written b (remove-writes e b n) (r .are-bytes) (all-remove e b n))
+      (removed-of e sane b (r .are-bytes) (r .ok) n h x .accepted)
+
+  pub remove-changed : (c d : List ℕ) → c ≡ written b (remove-writes e b n) → d ≡ with-best e c → d ≡ changed e b (remove-writes e b n)
+  unfolding changed
+  remove-changed c d p q = q ∙ ap (with-best e) p

@@ -1,0 +1,114 @@
+-- One entry more: the parts stay good.
+-- Assumes nothing.
+use Prim.Native.Nat.{ℕ, zero, suc, _+_, _-_, _*_, _/_, _%_, _^_, _≤_, _<_}
+use native.Mathlib.Nat.{add-zero, zero-add, add-assoc, le-refl}
+use native.Mathlib.Omega.{arith}
+use mathlib.Core.Bool.{Bool, true, false, not, _&&_, _||_, cond, true≢false, false≢true, Bool·beq}
+use mathlib.Core.Path.{_≡_, refl, sym, _∙_, ap, ap₂, subst}
+use mathlib.Core.List.{List, [], _∷_, _++_, map, append-assoc}
+use lib.Dec.{eqb, leb, ltb}
+use lib.ListN.{replicate, length, take, drop, getD, length-append}
+use lib.Seq.{take-append-seam, take-at}
+use borrow.Author.Tests.{eqb-true, eqb-false, eq-eqb, ne-eqb, not-true, not-false}
+use Rattle.be.specs.Lists.{every, some-of, tally, keep, same}
+use Rattle.be.specs.Bytes.{be, to-be, part, field}
+use Rattle.edition.specs.declared.Edition.{Edition}
+use Rattle.edition.specs.Edition.{entry-size, Sane}
+use Rattle.name.specs.Name.{legal-name, legal-number, hash-of, same-name, fixed-name, dot, dotdot}
+use Rattle.dir_rules.specs.Record.{Rec, rec, size, apart, entries, is-gap, is-entry, name, number, entry-bytes}
+use Rattle.dir_rules.specs.Block.{Slot, slot}
+use Rattle.dir_rules.specs.Verdict.{names-ok, numbers-ok, once-ok, name-ok, entry-at}
+use Rattle.dir_rules.specs.Change.{insert-slot}
+use Rattle.be.proofs.Bools.{and-left, and-right, and-both, by-cases, clash, every-head, every-tail, every-cons}
+use Rattle.be.proofs.Numbers.{be-to-be, length-to-be}
+use Rattle.dir_rules.proofs.CutJoin.{join, Laid}
+use Rattle.dir_rules.proofs.SlotCounts.{Apart}
+use Rattle.dir_rules.proofs.IndexedEntries.{Indexed, Kept, indexed-insert, addr-of}
+use Rattle.dir_rules.proofs.OneMore.{every-mid, some-mid, once-mid}
+use Rattle.dir_rules.proofs.RecordPlaces.{Split, some-split, some-at, every-at, every-map, apart-keep, apart-front}
+use Rattle.dir_rules.proofs.GoodParts.{Good}
+
+-- the name and the number of a new entry
+pub entry-name : (e : Edition) (o i : ℕ) (n : List ℕ) → name (rec o (entry-bytes e o i n)) ≡ n
+unfolding entry-bytes to-be
+entry-name e o i n =
+    let pd : List ℕ = replicate (entry-size e (length n) - (11 + length n)) 0 in
+    ap (take (length n)) (append-assoc n pd (to-be 2 o)) ∙ take-append-seam n (pd ++ to-be 2 o)
+
+pub entry-number : (e : Edition) (o i : ℕ) (n : List ℕ) → i < 256 ^ 8 → number (rec o (entry-bytes e o i n)) ≡ i
+unfolding entry-bytes
+entry-number e o i n h =
+    let pd : List ℕ = replicate (entry-size e (length n) - (11 + length n)) 0 in
+    let q : entry-bytes e o i n ≡ to-be 8 i ++ ((length n ∷ n) ++ (pd ++ to-be 2 o)) =
+    append-assoc (to-be 8 i ++ (length n ∷ n)) pd (to-be 2 o) ∙ append-assoc (to-be 8 i) (length n ∷ n) (pd ++ to-be 2 o) in
+    ap be (ap (take 8) q ∙ take-at (to-be 8 i) ((length n ∷ n) ++ (pd ++ to-be 2 o)) 8 (length-to-be 8 i)) ∙ be-to-be 8 i h
+
+or-right : (a b : Bool) → b ≡ true → (a || b) ≡ true
+or-right true b h = refl
+or-right false b h = h
+
+or-false-left : (a b : Bool) → (a || b) ≡ false → a ≡ false
+or-false-left true b h = h
+or-false-left false b h = refl
+
+or-false-right : (a b : Bool) → (a || b) ≡ false → b ≡ false
+or-false-right true b h = absurd (true≢false h)
+or-false-right false b h = h
+
+-- an entry elsewhere has another offset
+other-off : (x : Rec) (es : List Rec) (o : ℕ) → Apart (addr-of x ∷ map addr-of es) → some-of (λ r. eqb (r .off) o) es ≡ true → eqb (x .off) o ≡ false
+other-off x es o a h =
+    let t : (t : Split es) × (eqb (t .here .off) o ≡ true) = some-split (λ r. eqb (r .off) o) es h in
+    let r : Rec = t .0 .here in
+    let q : not (eqb (addr-of x) (addr-of r)) ≡ true =
+    every-at (λ r. not (eqb (addr-of x) (addr-of r))) (t .0 .before) r (t .0 .behind)
+    (rw (t .0 .is) at (sym (every-map (λ c. not (eqb (addr-of x) c)) addr-of es) ∙ a .1)) in
+    ne-eqb (x .off) o (λ (z : x .off ≡ o).
+    eqb-false (addr-of x) (addr-of r) (not-true (eqb (addr-of x) (addr-of r)) q) (ap (λ (m : ℕ). m / 8) (z ∙ sym (eqb-true (r .off) o (t .1)))))
+
+module _ (e : Edition) (xs : List Rec) (x : Rec) (ys : List Rec) (a : Apart (addr-of x ∷ map addr-of (xs ++ ys)))
+    (lg : legal-name e (name x) ≡ true) (fx : fixed-name (name x) ≡ false) where
+  grown-name : some-of (λ r. eqb (r .off) (e .header)) (xs ++ ys) ≡ true → some-of (λ r. eqb (r .off) (e .header + 16)) (xs ++ ys) ≡ true → name-ok e x ≡ true
+  unfolding fixed-name
+  grown-name h k =
+      rw (
+        lg,
+        or-false-left (same (name x) dot) (same (name x) dotdot) fx,
+        or-false-right (same (name x) dot) (same (name x) dotdot) fx,
+        other-off x (xs ++ ys) (e .header) a h,
+        other-off x (xs ++ ys) (e .header + 16) a k,
+      )
+
+pub good-insert : (e : Edition) (rs rs′ xs : List Rec) (x : Rec) (ys : List Rec) (ss ts : List Slot) (st m : ℕ) → Sane e
+    → Good e rs ss st → Kept ss ts m → Laid e (e .header) rs′ → apart rs′ ≡ true
+    → entries rs ≡ xs ++ ys → entries rs′ ≡ xs ++ x ∷ ys
+    → legal-name e (name x) ≡ true → legal-number (number x) ≡ true → fixed-name (name x) ≡ false
+    → some-of (λ r. same-name e (name x) (name r)) (xs ++ ys) ≡ false
+    → Good e rs′ (insert-slot (slot (hash-of e (name x)) (addr-of x)) ts) m
+unfolding names-ok numbers-ok
+good-insert e rs rs′ xs x ys ss ts st m sane g k l ap′ old new lg ln fx ab =
+    let a : Apart (addr-of x ∷ map addr-of (xs ++ ys)) =
+    apart-front xs x ys (subst (λ (es : List Rec). Apart (map addr-of es)) new (apart-keep e is-entry (e .header) rs′ (omega (arith, sane .magic-before, sane .best-inside)) l)) in
+    let nm : Bool = every (name-ok e) (entries rs) in
+    let h0 : Bool = entry-at (e .header) rs in
+    let h1 : Bool = entry-at (e .header + 16) rs in
+    let d0 : some-of (λ r. eqb (r .off) (e .header)) (xs ++ ys) ≡ true =
+    subst (λ (es : List Rec). some-of (λ r. eqb (r .off) (e .header)) es ≡ true) old (and-right nm h0 (and-left (nm && h0) h1 (g .names))) in
+    let d1 : some-of (λ r. eqb (r .off) (e .header + 16)) (xs ++ ys) ≡ true =
+    subst (λ (es : List Rec). some-of (λ r. eqb (r .off) (e .header + 16)) es ≡ true) old (and-right (nm && h0) h1 (g .names)) in
+    let ns : every (name-ok e) (xs ++ ys) ≡ true =
+    subst (λ (es : List Rec). every (name-ok e) es ≡ true) old (and-left nm h0 (and-left (nm && h0) h1 (g .names))) in
+    let us : every (λ r. legal-number (number r)) (xs ++ ys) ≡ true =
+    subst (λ (es : List Rec). every (λ r. legal-number (number r)) es ≡ true) old (g .numbers) in
+    record {
+      gaps-apart = ap′;
+      names = rw new
+          (and-both (every (name-ok e) (xs ++ x ∷ ys) && some-of (λ r. eqb (r .off) (e .header)) (xs ++ x ∷ ys)) (some-of (λ r. eqb (r .off) (e .header + 16)) (xs ++ x ∷ ys))
+          (and-both (every (name-ok e) (xs ++ x ∷ ys)) (some-of (λ r. eqb (r .off) (e .header)) (xs ++ x ∷ ys))
+          (every-mid (name-ok e) xs x ys ∙ and-both (name-ok e x) (every (name-ok e) (xs ++ ys)) (grown-name e xs x ys a lg fx d0 d1) ns)
+          (some-mid (λ r. eqb (r .off) (e .header)) xs x ys ∙ or-right (eqb (x .off) (e .header)) (some-of (λ r. eqb (r .off) (e .header)) (xs ++ ys)) d0))
+          (some-mid (λ r. eqb (r .off) (e .header + 16)) xs x ys ∙ or-right (eqb (x .off) (e .header + 16)) (some-of (λ r. eqb (r .off) (e .header + 16)) (xs ++ ys)) d1));
+      numbers = rw new (every-mid (λ r. legal-number (number r)) xs x ys ∙ and-both (legal-number (number x)) (every (λ r. legal-number (number r)) (xs ++ ys)) ln us);
+      index = rw new (indexed-insert e x ss ts m k xs ys st (rw old at (g .index)) a);
+      once = rw new (once-mid e xs x ys ∙ rw ab (rw old at (g .once)));
+    }

@@ -1,0 +1,76 @@
+-- A walk over an accepted block meets each record once, in order, and then the end.
+-- Assumes nothing.
+use Prim.Native.Nat.{ℕ, zero, suc, _+_, _-_, _*_, _≤_, _<_}
+use native.Mathlib.Nat.{add-zero, zero-add, add-assoc}
+use native.Mathlib.Omega.{arith}
+use mathlib.Core.Bool.{Bool, true, false, not, cond, _||_}
+use mathlib.Core.Path.{_≡_, refl, sym, _∙_, ap, ap₂, subst}
+use mathlib.Core.List.{List, [], _∷_, _++_, map, append-assoc, append-nil}
+use lib.Dec.{eqb}
+use lib.ListN.{length, length-append, take}
+use borrow.Author.Tests.{eq-eqb, ne-eqb}
+use Rattle.be.specs.Lists.{some-of}
+use Rattle.be.specs.Bytes.{bytes}
+use Rattle.edition.specs.declared.Edition.{Edition}
+use Rattle.dir_rules.specs.Record.{Rec, rec, size}
+use Rattle.dir_rules.specs.Block.{records, slots, stale-of, data-end}
+use Rattle.dir_rules.specs.Verdict.{Accepted}
+use Rattle.dir_rules.specs.declared.Walked.{Walked}
+use Rattle.dir_rules.specs.declared.Walked.the-variants.{Stepped}
+use Rattle.dir_rules.specs.Walk.{record-at, step-over, step-end, walk-refusal, walk-step, walked-next, walk}
+use Rattle.be.proofs.Bools.{by-cases}
+use Rattle.dir_rules.proofs.CutJoin.{join, Laid, Whole, join-append, laid-back}
+use Rattle.dir_rules.proofs.BlockParts.{build-end}
+use Rattle.dir_rules.proofs.RecordPlaces.{some-at}
+use Rattle.edition.specs.Edition.{Sane}
+use Rattle.dir_rules.proofs.AcceptedParts.{fit-of, build-of}
+
+at-laid : (e : Edition) (o : ℕ) (xs : List Rec) (y : Rec) (ys : List Rec) → Laid e o (xs ++ y ∷ ys) → record-at (o + length (join xs)) (xs ++ y ∷ ys) ≡ y
+unfolding record-at
+at-laid e o [] y ys l = rw (eq-eqb (y .off) (o + 0) (omega (arith, l .0)))
+at-laid e o (x ∷ xs) y ys l =
+    let m : o + length (x .raw ++ join xs) ≡ o + size x + length (join xs) = rw (length-append, add-assoc) in
+    rw (m, ne-eqb (x .off) (o + size x + length (join xs)) (λ (z : x .off ≡ o + size x + length (join xs)). omega (arith, l .0, l .1 .least)))
+    (at-laid e (o + size x) xs y ys (l .2))
+
+module _ (e : Edition) (sane : Sane e) (b : List ℕ) (h : bytes b ≡ true) (a : Accepted e b) where
+  end-is : data-end b ≡ e .header + length (join (records e b))
+  end-is = ap data-end (sym (build-of e sane b h a)) ∙ build-end e (take (e .header) b) (records e b) (slots b) (stale-of b) (fit-of e sane b h a)
+
+  step-at : (xs : List Rec) (y : Rec) (ys : List Rec) → records e b ≡ xs ++ y ∷ ys → walk-step e b (e .header + length (join xs)) ≡ Stepped (step-over y)
+  unfolding walk-step walk-refusal
+  step-at xs y ys q =
+      let p : ℕ = e .header + length (join xs) in
+      let l : Laid e (e .header) (xs ++ y ∷ ys) = subst (λ (r : List Rec). Laid e (e .header) r) q (fit-of e sane b h a .laid) in
+      let w : Laid e p (y ∷ ys) = laid-back e (e .header) xs (y ∷ ys) l in
+      let long : length (join (records e b)) ≡ length (join xs) + (size y + length (join ys)) =
+      ap (λ (r : List Rec). length (join r)) q ∙ ap length (join-append xs (y ∷ ys)) ∙ length-append (join xs) (y .raw ++ join ys) ∙ ap (λ (m : ℕ). length (join xs) + m) (length-append (y .raw) (join ys)) in
+      let far : eqb p (data-end b) ≡ false = ne-eqb p (data-end b) (λ (z : p ≡ data-end b). omega (arith, end-is, long, w .1 .least)) in
+      let is : some-of (λ r. eqb (r .off) p) (records e b) ≡ true =
+      ap (some-of (λ r. eqb (r .off) p)) q ∙ some-at (λ r. eqb (r .off) p) xs y ys (eq-eqb (y .off) p (w .0)) in
+      let here : record-at p (records e b) ≡ y = ap (record-at p) q ∙ at-laid e (e .header) xs y ys l in
+      rw (a, far, is, here) refl
+
+  -- at the data's end a step says end again
+  pub at-end : walk-step e b (data-end b) ≡ Stepped (step-end (data-end b))
+  unfolding walk-step walk-refusal
+  at-end = rw (a, eq-eqb (data-end b) (data-end b) refl) refl
+
+  walk-from : (xs ys : List Rec) → records e b ≡ xs ++ ys
+      → walk e b (suc (length ys)) (e .header + length (join xs)) ≡ map (λ r. Stepped (step-over r)) ys ++ (Stepped (step-end (data-end b)) ∷ [])
+  unfolding walk
+  walk-from xs [] q =
+      let p : e .header + length (join xs) ≡ data-end b = sym (end-is ∙ ap (λ (r : List Rec). e .header + length (join r)) (q ∙ append-nil xs)) in
+      rw p (ap (λ (s : Walked). s ∷ []) at-end)
+  walk-from xs (y ∷ ys) q =
+      let s : walk-step e b (e .header + length (join xs)) ≡ Stepped (step-over y) = step-at xs y ys q in
+      let w : Laid e (e .header + length (join xs)) (y ∷ ys) = laid-back e (e .header) xs (y ∷ ys) (subst (λ (r : List Rec). Laid e (e .header) r) q (fit-of e sane b h a .laid)) in
+      let nx : y .off + size y ≡ e .header + length (join (xs ++ (y ∷ []))) =
+      omega (arith, w .0, ap length (join-append xs (y ∷ [])), length-append (join xs) (y .raw ++ []), ap length (append-nil (y .raw))) in
+      ap₂ (λ (t : Walked) (m : List Walked). t ∷ m) s
+      (ap (λ (t : Walked). walk e b (suc (length ys)) (walked-next t)) s ∙ ap (walk e b (suc (length ys))) nx
+      ∙ walk-from (xs ++ (y ∷ [])) ys (q ∙ sym (append-assoc xs (y ∷ []) ys)))
+
+  -- as many steps as there are records, plus one
+  pub whole-walk : walk e b (suc (length (records e b))) (e .header) ≡ map (λ r. Stepped (step-over r)) (records e b) ++ (Stepped (step-end (data-end b)) ∷ [])
+  whole-walk = ap (walk e b (suc (length (records e b)))) (sym (add-zero (e .header))) ∙ walk-from [] (records e b) refl

@@ -1,0 +1,42 @@
+-- The calls on a block: what each answers, and what it leaves.
+-- Assumes nothing.
+use Prim.Native.Nat.{ℕ}
+use mathlib.Core.Bool.{Bool, cond}
+use mathlib.Core.List.{List, [], _∷_}
+use lib.Dec.{eqb}
+use Rattle.edition.specs.declared.Edition.{Edition}
+use Rattle.dir_rules.specs.declared.Looked.{Looked}
+use Rattle.dir_rules.specs.Lookup.{lookup, looked-number, looked-inode}
+use Rattle.dir_rules.specs.Change.{insert-code, insert-block, remove-code, remove-block}
+
+pub data Call : Type 0 where
+  look-up : List ℕ → Call
+  insert : List ℕ → ℕ → Call
+  remove : List ℕ → Call
+
+pub data Reply : Type 0 where
+  found : ℕ → Reply
+  done : Reply
+  refuse : ℕ → Reply
+
+abbrev pub call-name : Call → List ℕ
+call-name (look-up n) = n
+call-name (insert n i) = n
+call-name (remove n) = n
+
+-- the answer, the names compared left out
+abbrev pub found-or : Looked → Reply
+found-or a = cond (eqb (looked-number a) 0) (found (looked-inode a)) (refuse (looked-number a))
+
+abbrev pub done-or : ℕ → Reply
+done-or k = cond (eqb k 0) done (refuse k)
+
+unfoldable pub reply : Edition → List ℕ → Call → Reply
+reply e b (look-up n) = found-or (lookup e b n)
+reply e b (insert n i) = done-or (insert-code e b n i)
+reply e b (remove n) = done-or (remove-code e b n)
+
+unfoldable pub after : Edition → List ℕ → Call → List ℕ
+after e b (look-up n) = b
+after e b (insert n i) = insert-block e b n i
+after e b (remove n) = remove-block e b n

@@ -1,0 +1,138 @@
+-- Insert and removal: the answer, and the block after the call.
+-- Assumes nothing.
+use Prim.Native.Nat.{ℕ, zero, suc, _+_, _-_, _*_, _/_}
+use mathlib.Core.Bool.{Bool, true, false, not, cond, _&&_, _||_}
+use mathlib.Core.List.{List, [], _∷_, _++_}
+use lib.Dec.{eqb, leb}
+use lib.ListN.{length, getD}
+use Rattle.be.specs.Lists.{keep, without-first}
+use Rattle.be.specs.Bytes.{to-be, Write, write, written}
+use Rattle.edition.specs.declared.Edition.{Edition}
+use Rattle.edition.specs.Edition.{entry-size}
+use Rattle.name.specs.Name.{hash-of, legal-name, legal-number, fixed-name}
+use Rattle.dir_rules.specs.Record.{Rec, size, gaps, besides, entry-bytes, gap-writes}
+use Rattle.dir_rules.specs.Block.{records, slots, Slot, slot, slot-bytes, is-stale, is-live, stale-of, data-end}
+use Rattle.dir_rules.specs.Verdict.{verdict, otherwise, Pair, pair}
+use Rattle.dir_rules.specs.Lookup.{Sought, sought}
+use Rattle.dir_rules.specs.Room.{Room, room, longest, other-gaps, case-a, case-b, case-c, case-d, has-room}
+
+-- the best-gap table as a change writes it: the k longest gaps, lower offset first among equals, then zeros
+unfoldable pub best-of : ℕ → List Rec → List Pair
+best-of zero gs = []
+best-of (suc k) [] = pair 0 0 ∷ best-of k []
+best-of (suc k) (g ∷ gs) =
+    let m = longest (g ∷ gs) in
+    pair (m .off) (size m) ∷ best-of k (besides (m .off) (g ∷ gs))
+
+unfoldable pub pair-bytes : List Pair → List ℕ
+pair-bytes [] = []
+pair-bytes (p ∷ ps) = to-be 2 (p .from) ++ (to-be 2 (p .long) ++ pair-bytes ps)
+
+unfoldable pub with-best : Edition → List ℕ → List ℕ
+with-best e b = written b (write (e .best) (pair-bytes (best-of 3 (gaps (records e b)))) ∷ [])
+
+-- what a change leaves: its writes, then the best-gap table anew
+unfoldable pub changed : Edition → List ℕ → List Write → List ℕ
+changed e b ws = with-best e (written b ws)
+
+-- the slots and the tail of a block of n bytes
+abbrev pub index-writes : ℕ → List Slot → ℕ → List Write
+index-writes n ss s = write (n - 8 - 8 * length ss) (slot-bytes ss ++ (to-be 4 (length ss) ++ to-be 4 s)) ∷ []
+
+-- the new slot stands after all slots with an equal or lower hash
+unfoldable pub insert-slot : Slot → List Slot → List Slot
+insert-slot s [] = s ∷ []
+insert-slot s (t ∷ ts) = let r = insert-slot s ts in cond (leb (t .hash) (s .hash)) (t ∷ r) (s ∷ t ∷ ts)
+
+-- the entry at the start of the free bytes from o up to u, and a gap of what is left of them
+abbrev pub entry-writes : Edition → ℕ → List ℕ → ℕ → ℕ → List Write
+entry-writes e i n o u =
+    write o (entry-bytes e o i n) ∷ gap-writes (o + entry-size e (length n)) (u - (o + entry-size e (length n)))
+
+-- an insert by each case of the room rule
+module _ (e : Edition) (b n : List ℕ) (i : ℕ) where
+  abbrev pub new-slot : ℕ → Slot
+  new-slot o = slot (hash-of e n) (o / 8)
+
+  abbrev pub end-of : Rec → ℕ
+  end-of g = g .off + size g
+
+  -- the longest gap; the first stale slot is dropped
+  unfoldable pub writes-a : Room → List Write
+  writes-a m =
+      let g = longest (m .all-gaps) in
+      entry-writes e i n (g .off) (end-of g)
+      ++ index-writes (length b) (insert-slot (new-slot (g .off)) (without-first is-stale (slots b))) (m .stale - 1)
+
+  -- T, grown over the stale slots that are not needed; all stale slots are dropped
+  unfoldable pub writes-b : Room → List Write
+  writes-b m =
+      let g = m .last-gap in
+      entry-writes e i n (g .off) (end-of g + 8 * (m .stale - 1))
+      ++ index-writes (length b) (insert-slot (new-slot (g .off)) (keep is-live (slots b))) 0
+
+  -- the longest gap other than T; 8 bytes off T's end
+  unfoldable pub writes-c : Room → List Write
+  writes-c m =
+      let g = longest (other-gaps m) in
+      let t = m .last-gap in
+      entry-writes e i n (g .off) (end-of g)
+      ++ (gap-writes (t .off) (size t - 8)
+      ++ index-writes (length b) (insert-slot (new-slot (g .off)) (slots b)) 0)
+
+  -- T, with 8 bytes off its end
+  unfoldable pub writes-d : Room → List Write
+  writes-d m =
+      let g = m .last-gap in
+      entry-writes e i n (g .off) (end-of g - 8)
+      ++ index-writes (length b) (insert-slot (new-slot (g .off)) (slots b)) 0
+
+  -- the first case that holds is used
+  unfoldable pub insert-writes : List Write
+  insert-writes =
+      let m = room e b n in
+      let a = writes-a m in
+      let b′ = writes-b m in
+      let c = writes-c m in
+      let d = writes-d m in
+      cond (case-a m) a (cond (case-b m) b′ (cond (case-c m) c d))
+
+  unfoldable pub insert-code : ℕ
+  insert-code =
+      otherwise (eqb (verdict e b) 0) (verdict e b) (
+      otherwise (legal-name e n && legal-number i) 11 (
+      otherwise (not (fixed-name n)) 12 (
+      otherwise (not (sought e b n .hit)) 14 (
+      otherwise (has-room e b n) 15 0))))
+
+  unfoldable pub insert-block : List ℕ
+  insert-block = let b′ = changed e b insert-writes in cond (eqb insert-code 0) b′ b
+
+-- removal: where the joined gap starts and ends, for freed bytes from o, and up to u
+unfoldable pub gap-start-before : ℕ → List Rec → ℕ
+gap-start-before o [] = o
+gap-start-before o (g ∷ gs) = cond (eqb (g .off + size g) o) (g .off) (gap-start-before o gs)
+
+unfoldable pub gap-end-after : ℕ → List Rec → ℕ
+gap-end-after u [] = u
+gap-end-after u (g ∷ gs) = cond (eqb (g .off) u) (g .off + size g) (gap-end-after u gs)
+
+module _ (e : Edition) (b n : List ℕ) where
+  unfoldable pub remove-writes : List Write
+  remove-writes =
+      let f = sought e b n in
+      let gs = gaps (records e b) in
+      let o = gap-start-before (f .at) gs in
+      let u = gap-end-after (f .at + entry-size e (length n)) gs in
+      gap-writes o (u - o)
+      ++ (write (data-end b + 8 * f .place + 4) (to-be 4 0) ∷ write (length b - 4) (to-be 4 (stale-of b + 1)) ∷ [])
+
+  unfoldable pub remove-code : ℕ
+  remove-code =
+      otherwise (eqb (verdict e b) 0) (verdict e b) (
+      otherwise (legal-name e n) 11 (
+      otherwise (not (fixed-name n)) 12 (
+      otherwise (sought e b n .hit) 13 0)))
+
+  unfoldable pub remove-block : List ℕ
+  remove-block = let b′ = changed e b remove-writes in cond (eqb remove-code 0) b′ b

@@ -1,0 +1,50 @@
+-- Demand 3: one claim about every list of lookups, inserts and removals, with any names and numbers.
+-- Its proof: proofs/Demand3.antt.
+-- Assumes nothing.
+use Prim.Native.Nat.{ℕ, _≤_}
+use mathlib.Core.Bool.{Bool, true, false}
+use mathlib.Core.Path.{_≡_}
+use mathlib.Core.List.{List, [], _∷_}
+use lib.ListN.{length}
+use Rattle.be.specs.Lists.{every}
+use Rattle.be.specs.Bytes.{bytes}
+use Rattle.edition.specs.declared.Edition.{Edition}
+use Rattle.name.specs.Name.{legal-name, legal-number}
+use Rattle.dir_rules.specs.Block.{sum-of-parts}
+use Rattle.dir_rules.specs.Verdict.{Accepted}
+use Rattle.dir_rules.specs.Room.{has-room}
+use Rattle.dir_rules.specs.Calls.{Call, look-up, insert, remove, Reply, done, reply, after, call-name}
+use Rattle.dir_rules.specs.Book.{Book, book-of, holds, book-reply, book-after, SameBook}
+
+-- right after a removal is done, any legal absent name no longer than the one removed goes in, with any legal number
+unfoldable pub Reuse : Edition → List ℕ → Call → Reply → Type 0
+Reuse e b (look-up n) r = Unit {0}
+Reuse e b (insert n i) r = Unit {0}
+Reuse e b (remove n) r =
+    r ≡ done → (m : List ℕ) (i : ℕ) → bytes m ≡ true → legal-name e m ≡ true → legal-number i ≡ true
+    → holds e m (book-of e b) ≡ false → length m ≤ length n → reply e b (insert m i) ≡ done
+
+-- what holds of one call c made on block b with book k: the answer is the book's, the block that is left is accepted and
+-- as long as before, its names and numbers are the book's, its parts add up to its length, and freed room serves again
+pub record Call-right (e : Edition) (k : Book) (b : List ℕ) (c : Call) : Type 0 where
+  pub answers : reply e b c ≡ book-reply e k (has-room e b (call-name c)) c
+  pub accepted : Accepted e (after e b c)
+  pub lengths : length (after e b c) ≡ length b
+  pub listed : SameBook (book-of e (after e b c)) (book-after e k (has-room e b (call-name c)) c)
+  pub adds-up : sum-of-parts e (after e b c) ≡ length (after e b c)
+  pub reuse : Reuse e (after e b c) c (reply e b c)
+
+-- each call gets what the one before left
+abbrev pub Run : Edition → Book → List ℕ → List Call → Type 0
+Run e k b [] = Unit {0}
+Run e k b (c ∷ cs) =
+    Call-right e k b c × Run e (book-after e k (has-room e b (call-name c)) c) (after e b c) cs
+
+abbrev pub call-bytes : Call → Bool
+call-bytes c = bytes (call-name c)
+
+-- demand 3
+unfoldable pub Demand-3 : Edition → Type 0
+Demand-3 e =
+    (b : List ℕ) → bytes b ≡ true → Accepted e b
+    → (cs : List Call) → every call-bytes cs ≡ true → Run e (book-of e b) b cs

@@ -1,0 +1,11 @@
+pub mod Record
+pub mod Block
+pub mod Verdict
+pub mod Lookup
+pub mod Room
+pub mod Change
+pub mod Walk
+pub mod Calls
+pub mod Book
+pub mod Demand
+pub mod Starred

@@ -1,0 +1,16 @@
+pub mod Fields
+pub mod Whole
+pub mod Tile
+pub mod Search
+pub mod Fits
+pub mod Entries
+pub mod BestPass
+pub mod TwicePass
+pub mod Answers
+pub mod IndexLaw
+pub mod Table
+pub mod BestLaw
+pub mod TwiceLaw
+pub mod Assembly
+pub mod Conclusions
+pub mod Whence
