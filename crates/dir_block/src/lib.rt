@@ -9,7 +9,7 @@ ghost use Rattle.name.specs.Name.{same-name};
 ghost use Rattle.dir_rules.specs.Block.{data-end, count-of, slots};
 ghost use Rattle.dir_rules.specs.Lookup.{sought, name-at};
 ghost use Rattle.dir_laws.specs.Tiled.{Ready};
-ghost use Rattle.dir_laws.specs.Search.{all-below, all-from};
+ghost use Rattle.dir_laws.specs.SlotPlaces.{all-below, all-from};
 ghost use Rattle.dir_block.specs.Hit.{as-sought};
 use edition::Edition;
 

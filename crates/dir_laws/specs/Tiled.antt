@@ -1,10 +1,9 @@
 -- What code that walks the records of a block takes as given.
 -- Assumes nothing.
-use Prim.Native.Nat.{_≤_}
+use Prim.Native.Nat.{_≤_, ℕ}
 use mathlib.Core.Path.{_≡_}
 use mathlib.Core.Bool.{true}
 use mathlib.Core.List.{List}
-use Prim.Native.Nat.{ℕ}
 use lib.ListN.{length}
 use Rattle.be.specs.Lists.{every}
 use Rattle.be.specs.Bytes.{bytes}

@@ -1,16 +1,16 @@
 -- Acceptance, as the tests that pass.
 -- Assumes nothing.
-use Prim.Native.Nat.{ℕ, zero, suc, _+_, _≤_, _<_}
+use Prim.Native.Nat.{ℕ, suc}
 use native.Mathlib.Omega.{arith}
-use mathlib.Core.Bool.{Bool, true, false, not, _&&_, cond}
-use mathlib.Core.Path.{_≡_, refl, sym, _∙_, ap}
-use mathlib.Core.List.{List, [], _∷_}
+use mathlib.Core.Bool.{Bool, true, false}
+use mathlib.Core.Path.{_≡_, refl}
+use mathlib.Core.List.{List}
 use Rattle.be.specs.Lists.{every}
 use Rattle.edition.specs.declared.Edition.{Edition}
 use Rattle.dir_rules.specs.Record.{Rec, whole, apart, entries, gaps}
 use Rattle.dir_rules.specs.Block.{records, slots, stale-of}
 use Rattle.dir_rules.specs.Verdict.{verdict, otherwise, Accepted, size-ok, magic-ok, span-ok, tile-ok, names-ok, numbers-ok, index-ok, best-ok, best-pairs, once-ok}
-use Rattle.be.proofs.Bools.{and-left, and-right, and-both, by-cases}
+use Rattle.be.proofs.Bools.{and-left, and-right, and-both}
 
 pub record Passed (e : Edition) (b : List ℕ) : Type 0 where
   pub size : size-ok b ≡ true
@@ -23,7 +23,8 @@ pub record Passed (e : Edition) (b : List ℕ) : Type 0 where
   pub best : best-ok (best-pairs e b) (gaps (records e b)) ≡ true
   pub once : once-ok e (entries (records e b)) ≡ true
 
-passes : (t : Bool) (n rest : ℕ) → otherwise t (suc n) rest ≡ 0 → (t ≡ true) × (rest ≡ 0)
+-- a test in a chain of refusals
+pub passes : (t : Bool) (n rest : ℕ) → otherwise t (suc n) rest ≡ 0 → (t ≡ true) × (rest ≡ 0)
 passes true n rest h = (refl, h)
 passes false n rest h = absurd (omega arith)
 

@@ -1,35 +1,32 @@
--- An accepted block, taken apart; and what a change leaves.
+-- An accepted block has good parts, and is the block that they build.
 -- Assumes nothing.
-use Prim.Native.Nat.{ℕ, zero, suc, _+_, _-_, _*_, _/_, _%_, _^_, _≤_, _<_}
-use native.Mathlib.Nat.{add-zero, zero-add, add-assoc, le-refl}
+use Prim.Native.Nat.{ℕ, _+_, _^_, _<_}
 use native.Mathlib.Omega.{arith}
-use mathlib.Core.Bool.{Bool, true, false, not, _&&_, _||_, cond, true≢false, false≢true}
-use mathlib.Core.Path.{_≡_, refl, sym, _∙_, ap, ap₂, subst}
+use mathlib.Core.Bool.{Bool, true, false}
+use mathlib.Core.Path.{_≡_, refl, sym, _∙_, ap, subst}
 use mathlib.Core.List.{List, [], _∷_, _++_, map, append-assoc, append-nil, nil≢cons, head-eq-of-cons-eq, tail-eq-of-cons-eq}
-use lib.Dec.{eqb, leb, ltb}
-use lib.ListN.{length, take, drop, length-append, length-take, take-append-drop}
-use lib.Seq.{take-take, take-append-le}
-use borrow.Author.Tests.{eqb-true, eq-eqb, ltb-true, not-true}
-use Rattle.name.proofs.Hashing.{hash-lt}
-use Rattle.be.specs.Lists.{every, some-of, keep, tally, without-first}
-use Rattle.be.specs.Bytes.{bytes, be, part, field, written, Write}
+use lib.Dec.{eqb}
+use lib.ListN.{length, take, length-append}
+use lib.Seq.{take-take}
+use borrow.Author.Tests.{not-true}
+use Rattle.be.specs.Lists.{every, keep, without-first}
+use Rattle.be.specs.Bytes.{bytes, be, field}
 use Rattle.edition.specs.declared.Edition.{Edition}
-use Rattle.edition.specs.Edition.{block-size, Sane}
-use Rattle.name.specs.Name.{hash-of}
-use Rattle.dir_rules.specs.Record.{Rec, rec, whole, size, entries, is-gap, is-entry, name, number}
-use Rattle.dir_rules.specs.Block.{Slot, slot, slot-bytes, records, slots, stale-of}
-use Rattle.dir_rules.specs.Verdict.{Accepted, size-ok, magic-ok, once-ok}
+use Rattle.edition.specs.Edition.{Sane}
+use Rattle.dir_rules.specs.Record.{Rec, whole, entries, is-gap, is-entry, name, number}
+use Rattle.dir_rules.specs.Block.{Slot, slot-bytes, records, slots, stale-of, data-end}
+use Rattle.dir_rules.specs.Verdict.{Accepted, magic-ok}
 use Rattle.dir_rules.specs.Lookup.{name-at, number-at}
-use Rattle.dir_rules.specs.Change.{changed, with-best, insert-slot}
-use Rattle.be.proofs.Bools.{and-left, and-right, and-both, by-cases, every-head, every-tail, every-cons}
-use Rattle.dir_rules.proofs.CutJoin.{join, Laid, Whole, join-append, laid-back, laid-front}
-use Rattle.dir_rules.proofs.BlockParts.{build, Fit, SlotsFit, tail-bytes, refit, rebuild, build-records, build-slots, build-stale, length-build}
+use Rattle.dir_rules.specs.Change.{insert-slot, in-front}
+use Rattle.be.proofs.Bools.{by-cases}
+use Rattle.dir_rules.proofs.CutJoin.{join, Laid, join-append, laid-back}
+use Rattle.dir_rules.proofs.BlockParts.{build, build-end, Fit, SlotsFit, tail-bytes, refit, rebuild}
 use Rattle.dir_rules.proofs.Acceptance.{Passed, passed, tile-whole, tile-apart}
 use Rattle.dir_rules.proofs.SlotCounts.{Apart}
-use Rattle.dir_rules.proofs.IndexedEntries.{Indexed, indexed, addr-of}
+use Rattle.dir_rules.proofs.IndexedEntries.{indexed, addr-of}
 use Rattle.dir_rules.proofs.RecordPlaces.{Split, apart-keep, laid-eights, name-there, number-there}
 use Rattle.dir_rules.proofs.SearchFinds.{Reads}
-use Rattle.dir_rules.proofs.GoodParts.{Good, new-head, new-fit, best-build, good-accepted}
+use Rattle.dir_rules.proofs.GoodParts.{Good}
 
 -- a record among those that pass a test, with what stands before and behind it among all
 pub record Found-in (p : Rec → Bool) (rs xs : List Rec) (x : Rec) (ys : List Rec) : Type 0 where
@@ -70,7 +67,7 @@ pub fit-insert : (s : Slot) (ss : List Slot) → s .hash < 256 ^ 4 → s .addr <
 unfolding insert-slot
 fit-insert s [] h k f = (h, k, tt)
 fit-insert s (t ∷ ts) h k f =
-    by-cases (leb (t .hash) (s .hash)) (λ q. rw q (f .0, f .1, fit-insert s ts h k (f .2))) (λ q. rw q (h, k, f))
+    by-cases (in-front s t) (λ q. rw q (f .0, f .1, fit-insert s ts h k (f .2))) (λ q. rw q (h, k, f))
 
 pub fit-keep : (p : Slot → Bool) (ss : List Slot) → SlotsFit ss → SlotsFit (keep p ss)
 fit-keep p [] f = tt
@@ -103,6 +100,10 @@ module _ (e : Edition) (sane : Sane e) (b : List ℕ) (h : bytes b ≡ true) (a 
         index = indexed e (records e b) (slots b) (stale-of b) (tests .index);
         once = tests .once;
       }
+
+  -- the data ends where its records do
+  pub end-of-data : data-end b ≡ e .header + length (join (records e b))
+  end-of-data = ap data-end (sym build-of) ∙ build-end e (take (e .header) b) (records e b) (slots b) (stale-of b) fit-of
 
   pub magic-of : eqb (field 0 4 (take (e .header) b)) (e .magic) ≡ true
   unfolding magic-ok

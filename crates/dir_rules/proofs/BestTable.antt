@@ -1,23 +1,22 @@
 -- The best-gap table that a change writes is right.
 -- Assumes nothing.
-use Prim.Native.Nat.{ℕ, zero, suc, _+_, _-_, _*_, _^_, _≤_, _<_}
-use native.Mathlib.Nat.{add-zero, zero-add, add-assoc, le-refl, le-trans}
+use Prim.Native.Nat.{ℕ, zero, suc, _^_, _≤_, _<_}
+use native.Mathlib.Nat.{le-refl}
 use native.Mathlib.Omega.{arith}
-use mathlib.Core.Bool.{Bool, true, false, not, _&&_, _||_, cond}
-use mathlib.Core.Path.{_≡_, refl, sym, _∙_, ap, ap₂, subst}
-use mathlib.Core.List.{List, [], _∷_, _++_, append-assoc, append-nil}
+use mathlib.Core.Bool.{Bool, true, false, _&&_, _||_}
+use mathlib.Core.Path.{_≡_, refl}
+use mathlib.Core.List.{List, [], _∷_, _++_, append-assoc}
 use lib.Dec.{eqb, leb, leb·zero}
-use lib.ListN.{length, take, drop, length-append, length-take, length-drop, take-append-drop}
+use lib.ListN.{length, length-append}
 use lib.Seq.{take-at, drop-at}
-use borrow.Author.Tests.{eqb-true, leb-true, leb-false, eq-eqb, le-leb}
+use borrow.Author.Tests.{leb-true, leb-false, eq-eqb, le-leb}
 use Rattle.be.specs.Lists.{every, some-of}
-use Rattle.be.specs.Bytes.{be, to-be, part, field}
-use Rattle.edition.specs.declared.Edition.{Edition}
+use Rattle.be.specs.Bytes.{to-be}
 use Rattle.dir_rules.specs.Record.{Rec, size, besides}
-use Rattle.dir_rules.specs.Verdict.{Pair, pair, pairs-in, best-ok, is-gap-of, zero-pair}
+use Rattle.dir_rules.specs.Verdict.{Pair, pair, pairs-in, best-ok, is-gap-of}
 use Rattle.dir_rules.specs.Room.{longest}
 use Rattle.dir_rules.specs.Change.{best-of, pair-bytes}
-use Rattle.be.proofs.Bools.{and-left, and-right, and-both, by-cases, every-cons}
+use Rattle.be.proofs.Bools.{and-both, by-cases, every-cons}
 use Rattle.be.proofs.Numbers.{length-to-be, be-to-be}
 
 -- the longest is at least as long as each
@@ -34,7 +33,7 @@ longest-every (g ∷ gs) n h =
 or-left : (a b : Bool) → a ≡ true → (a || b) ≡ true
 or-left a b h = rw h
 
-or-right : (a b : Bool) → b ≡ true → (a || b) ≡ true
+pub or-right : (a b : Bool) → b ≡ true → (a || b) ≡ true
 or-right true b h = refl
 or-right false b h = h
 
@@ -47,18 +46,18 @@ longest-some t g (g₂ ∷ gs) h =
     (λ q. or-left (t g) (some-of t (g₂ ∷ gs)) (rw q at h))
     (λ q. or-right (t g) (some-of t (g₂ ∷ gs)) (longest-some t g₂ gs (rw q at h)))
 
-pub best-right : (k : ℕ) (gs : List Rec) → best-ok (best-of k gs) gs ≡ true
+pub best-of-right : (k : ℕ) (gs : List Rec) → best-ok (best-of k gs) gs ≡ true
 unfolding best-of best-ok
-best-right zero gs = refl
-best-right (suc k) [] = best-right k []
-best-right (suc k) (g ∷ gs) =
+best-of-right zero gs = refl
+best-of-right (suc k) [] = best-of-right k []
+best-of-right (suc k) (g ∷ gs) =
     let m : Rec = longest (g ∷ gs) in
     let p : Pair = pair (m .off) (size m) in
     and-both (some-of (is-gap-of p) (g ∷ gs) && every (λ r. leb (size r) (p .long)) (g ∷ gs)) (best-ok (best-of k (besides (m .off) (g ∷ gs))) (besides (m .off) (g ∷ gs)))
     (and-both (some-of (is-gap-of p) (g ∷ gs)) (every (λ r. leb (size r) (p .long)) (g ∷ gs))
     (longest-some (is-gap-of p) g gs (and-both (eqb (m .off) (m .off)) (eqb (size m) (size m)) (eq-eqb (m .off) (m .off) refl) (eq-eqb (size m) (size m) refl)))
     (longest-every (g ∷ gs) (size m) (le-refl (size m))))
-    (best-right k (besides (m .off) (g ∷ gs)))
+    (best-of-right k (besides (m .off) (g ∷ gs)))
 
 abbrev pub PairsFit : List Pair → Type 0
 PairsFit [] = Unit {0}

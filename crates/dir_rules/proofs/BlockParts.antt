@@ -1,24 +1,22 @@
 -- A block put together from its parts, and taken apart again.
 -- Assumes nothing.
-use Prim.Native.Nat.{ℕ, zero, suc, _+_, _-_, _*_, _/_, _%_, _^_, _≤_, _<_}
-use native.Mathlib.Nat.{add-zero, zero-add, add-assoc, add-comm, suc-add, add-suc, not-suc-le-zero}
+use Prim.Native.Nat.{ℕ, zero, suc, _+_, _-_, _*_, _^_, _≤_, _<_}
 use native.Mathlib.Omega.{arith}
-use mathlib.Core.Bool.{Bool, true, false, not, _&&_, cond}
-use mathlib.Core.Path.{_≡_, refl, sym, _∙_, ap, ap₂, subst}
+use mathlib.Core.Bool.{true}
+use mathlib.Core.Path.{_≡_, refl, sym, _∙_, ap, ap₂}
 use mathlib.Core.List.{List, [], _∷_, _++_, append-assoc, append-nil}
-use lib.Dec.{eqb, leb, ltb}
-use lib.ListN.{length, take, drop, getD, length-append, length-take, length-drop, take-append-drop}
-use lib.Seq.{take-add, take-append-le, drop-append-le, take-append-seam, drop-append-seam, take-at, drop-at, take-all, drop-append-add, take-take, drop-drop}
-use borrow.Author.Tests.{eqb-true, leb-true, eq-eqb, le-leb}
+use lib.ListN.{length, take, drop, length-append, length-take, length-drop, take-append-drop}
+use lib.Seq.{take-add, take-at, drop-at, drop-drop}
+use borrow.Author.Tests.{leb-true}
 use Rattle.be.specs.Lists.{every}
-use Rattle.be.specs.Bytes.{bytes, be, to-be, part, field}
+use Rattle.be.specs.Bytes.{bytes, be, to-be, part}
 use Rattle.edition.specs.declared.Edition.{Edition}
 use Rattle.dir_rules.specs.Record.{Rec, cut, whole}
-use Rattle.dir_rules.specs.Block.{Slot, slot, slots-in, slot-bytes, slots, records, count-of, stale-of, data-end}
+use Rattle.dir_rules.specs.Block.{Slot, slots-in, slot-bytes, slots, records, count-of, stale-of, data-end}
 use Rattle.dir_rules.specs.Verdict.{span-ok}
-use Rattle.be.proofs.Bools.{and-left, and-right, and-both, by-cases}
-use Rattle.be.proofs.Parts.{piece, last-piece, bytes-take, bytes-drop, field-bytes, field-lt, part-at}
-use Rattle.be.proofs.Numbers.{length-to-be, be-to-be, to-be-be, be-lt}
+use Rattle.be.proofs.Bools.{and-left}
+use Rattle.be.proofs.Parts.{piece, last-piece, bytes-drop, field-bytes, field-lt, part-at}
+use Rattle.be.proofs.Numbers.{length-to-be, be-to-be}
 use Rattle.dir_rules.proofs.CutJoin.{join, Laid, cut-laid, laid-count, laid-cut, join-cut}
 
 pub length-slot-bytes : (ss : List Slot) → length (slot-bytes ss) ≡ 8 * length ss
@@ -196,7 +194,3 @@ module _ (e : Edition) (b : List ℕ) (h : bytes b ≡ true) (sp : span-ok e b �
   rebuild =
       rw (index-is, records-join, piece (e .header) (data-end b - e .header) (data-end b) b (omega (arith, head-end)))
       (take-append-drop (e .header) b)
-
-  -- demand 3's sum, half of it: the records and the index fill the block
-  pub filled : e .header + length (join (records e b)) + 8 * length (slots b) + 8 ≡ length b
-  filled = rw (records-join, slots-count) (simp (length-take, length-drop) (omega (arith, room-for, end-is, head-end)))

@@ -1,15 +1,14 @@
--- The book against a block's names and numbers.
+-- What stands stored once in a block and in a book: the two hold the same, and change alike.
 -- Assumes nothing.
-use Prim.Native.Nat.{ℕ, zero, suc, _+_, _-_, _*_, _/_, _%_, _≤_, _<_}
+use Prim.Native.Nat.{ℕ, _+_}
 use native.Mathlib.Omega.{arith}
 use mathlib.Core.Bool.{Bool, true, false, not, _&&_, _||_, cond, true≢false, false≢true}
 use mathlib.Core.Path.{_≡_, refl, sym, _∙_, ap, ap₂, subst}
 use mathlib.Core.List.{List, [], _∷_, _++_, map, nil≢cons, head-eq-of-cons-eq, tail-eq-of-cons-eq}
 use lib.Dec.{eqb}
-use lib.ListN.{length}
 use borrow.Author.Tests.{eqb-true, eq-eqb, not-true}
-use Rattle.name.proofs.Same.{same-refl, same-eq}
-use Rattle.be.specs.Lists.{every, some-of, tally, without-first, same}
+use Rattle.name.proofs.Same.{same-refl, same-eq, same-name-sym, same-name-trans}
+use Rattle.be.specs.Lists.{some-of, tally, without-first, same}
 use Rattle.edition.specs.declared.Edition.{Edition}
 use Rattle.name.specs.Name.{same-name}
 use Rattle.dir_rules.specs.Record.{Rec, name, number, entries}
@@ -85,40 +84,34 @@ some-sub p q f (x ∷ l) h =
     or-no true b h = absurd (true≢false h)
     or-no false b h = h
 
-not-yes : (a : Bool) → not a ≡ true → a ≡ false
-not-yes true h = absurd (false≢true h)
-not-yes false h = refl
-
-pub same-name-eq : (e : Edition) (n m : List ℕ) → same-name e n m ≡ true → n ≡ m
-unfolding same-name
-same-name-eq e n m h = same-eq n m h
-
-pub name-is-same : (e : Edition) (n m : List ℕ) → n ≡ m → same-name e n m ≡ true
-unfolding same-name
-name-is-same e n m h = ap (same n) (sym h) ∙ same-refl n
-
--- names are stored once, so entries of one name have one number
+-- names are stored once: what holds of one entry holds of each entry of the same name
 module _ (e : Edition) (es : List Rec) (once : once-ok e es ≡ true) where
-  pub one-number : (s t : Split es) → name (s .here) ≡ name (t .here) → number (t .here) ≡ number (s .here)
-  one-number s t q =
+  one-entry : (q : Rec → Bool) (s t : Split es) → q (s .here) ≡ true → same-name e (name (s .here)) (name (t .here)) ≡ true → q (t .here) ≡ true
+  one-entry q s t qs sn =
       let r : Rec = s .here in
-      let sn : Rec → Bool = λ x. same-name e (name r) (name x) in
-      let p : Rec → Bool = λ x. same-name e (name r) (name x) && not (eqb (number x) (number r)) in
-      let al : (alone e r (s .before ++ s .behind) && once-ok e (s .before ++ s .behind)) ≡ true =
+      let rest : List Rec = s .before ++ s .behind in
+      let nm : Rec → Bool = λ x. same-name e (name r) (name x) in
+      let p : Rec → Bool = λ x. same-name e (name r) (name x) && not (q x) in
+      let al : (alone e r rest && once-ok e rest) ≡ true =
       sym (once-mid e (s .before) r (s .behind)) ∙ subst (λ (l : List Rec). once-ok e l ≡ true) (s .is) once in
-      let nn : some-of sn (s .before ++ s .behind) ≡ false =
-      not-yes (some-of sn (s .before ++ s .behind)) (and-left (alone e r (s .before ++ s .behind)) (once-ok e (s .before ++ s .behind)) al) in
-      let np : some-of p (s .before ++ s .behind) ≡ false =
-      some-sub p sn (λ x y. and-left (same-name e (name r) (name x)) (not (eqb (number x) (number r))) y) (s .before ++ s .behind) nn in
-      let pr : p r ≡ false = rw (eq-eqb (number r) (number r) refl) (and-no (same-name e (name r) (name r))) in
+      let nn : some-of nm rest ≡ false = not-true (some-of nm rest) (and-left (alone e r rest) (once-ok e rest) al) in
+      let np : some-of p rest ≡ false = some-sub p nm (λ x y. and-left (same-name e (name r) (name x)) (not (q x)) y) rest nn in
+      let pr : p r ≡ false = rw qs (and-no (same-name e (name r) (name r))) in
       let all : some-of p es ≡ false = ap (some-of p) (s .is) ∙ some-mid p (s .before) r (s .behind) ∙ rw (pr, np) refl in
-      by-cases (eqb (number (t .here)) (number r)) (λ y. eqb-true (number (t .here)) (number r) y)
-      (λ y. let pt : p (t .here) ≡ true = rw (name-is-same e (name r) (name (t .here)) q, y) refl in
+      by-cases (q (t .here)) (λ y. y)
+      (λ y. let pt : p (t .here) ≡ true = rw (sn, y) refl in
       absurd (clash (ap (some-of p) (t .is) ∙ some-at p (t .before) (t .here) (t .behind) pt) all))
     where
       and-no : (a : Bool) → (a && false) ≡ false
       and-no true = refl
       and-no false = refl
+
+  pub one-number : (s t : Split es) → same-name e (name (s .here)) (name (t .here)) ≡ true → number (t .here) ≡ number (s .here)
+  one-number s t sn =
+      eqb-true (number (t .here)) (number (s .here)) (one-entry (λ x. eqb (number x) (number (s .here))) s t (eq-eqb (number (s .here)) (number (s .here)) refl) sn)
+
+  pub one-name : (s t : Split es) → same-name e (name (s .here)) (name (t .here)) ≡ true → name (t .here) ≡ name (s .here)
+  one-name s t sn = same-eq (name (t .here)) (name (s .here)) (one-entry (λ x. same (name x) (name (s .here))) s t (same-refl (name (s .here))) sn)
 
 -- the first of that name in a book
 pub record First-named (e : Edition) (n : List ℕ) (k : Book) : Type 0 where
@@ -144,9 +137,12 @@ module _ (e : Edition) (b n : List ℕ) (k : Book) (m : SameBook (book-of e b) k
   first-is f =
       let o : (t : Split (book-of e b)) × (t .here .name ≡ f .split .here .name) × (t .here .inode ≡ f .split .here .inode) = in-other k (book-of e b) (book-sym (book-of e b) k m) (f .split) in
       let r : (t : Split (entries (records e b))) × (name (t .here) ≡ o .0 .here .name) × (number (t .here) ≡ o .0 .here .inode) = map-split (entries (records e b)) (o .0) in
-      let nm : f .split .here .name ≡ name (s .here) = sym (same-name-eq e n (f .split .here .name) (f .is-named)) ∙ same-name-eq e n (name (s .here)) sn in
-      let same-n : name (s .here) ≡ name (r .0 .here) = sym nm ∙ sym (o .1) ∙ sym (r .1) in
-      (nm, sym (o .2) ∙ sym (r .2) ∙ one-number e (entries (records e b)) once s (r .0) same-n)
+      let nr : f .split .here .name ≡ name (r .0 .here) = sym (o .1) ∙ sym (r .1) in
+      let sr : same-name e (name (s .here)) (name (r .0 .here)) ≡ true =
+      same-name-trans e (name (s .here)) n (name (r .0 .here)) (same-name-sym e n (name (s .here)) sn) (subst (λ (m : List ℕ). same-name e n m ≡ true) nr (f .is-named)) in (
+        nr ∙ one-name e (entries (records e b)) once s (r .0) sr,
+        sym (o .2) ∙ sym (r .2) ∙ one-number e (entries (records e b)) once s (r .0) sr,
+      )
 
 -- the book after an insert and after a removal
 tally-map : (p : Held → Bool) (xs : List Rec) (x : Rec) (ys : List Rec)

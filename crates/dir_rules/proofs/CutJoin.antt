@@ -1,20 +1,18 @@
 -- The data cut into records, and records laid end to end: one is the other's inverse where every record is whole.
 -- Assumes nothing.
-use Prim.Native.Nat.{ℕ, zero, suc, _+_, _-_, _*_, _/_, _%_, _≤_, _<_}
-use native.Mathlib.Nat.{add-zero, zero-add, add-assoc, add-comm, suc-add, add-suc, le-of-suc-le-suc, not-suc-le-zero, le-trans}
+use Prim.Native.Nat.{ℕ, zero, suc, _+_, _-_, _*_, _%_, _≤_, _<_}
+use native.Mathlib.Nat.{add-zero, zero-add, add-assoc, suc-add, not-suc-le-zero}
 use native.Mathlib.Omega.{arith}
-use mathlib.Core.Bool.{Bool, true, false, not, _&&_, cond}
-use mathlib.Core.Path.{_≡_, refl, sym, _∙_, ap, ap₂, subst}
+use mathlib.Core.Bool.{true, _&&_}
+use mathlib.Core.Path.{_≡_, refl, sym, _∙_, ap, ap₂}
 use mathlib.Core.List.{List, [], _∷_, _++_, append-assoc, append-nil}
 use lib.Dec.{eqb, leb}
-use lib.ListN.{length, take, drop, getD, length-append, length-take, length-drop, take-append-drop, List·getD-append}
-use lib.Seq.{take-append-le, drop-append-le, take-append-seam, drop-append-seam, take-at, drop-at, take-all}
+use lib.ListN.{length, take, drop, getD, length-append, length-drop, take-append-drop, List·getD-append}
+use lib.Seq.{take-append-le, drop-append-le, take-append-seam, drop-append-seam}
 use borrow.Author.Tests.{eqb-true, leb-true, eq-eqb, le-leb}
 use Rattle.edition.proofs.Sizes.{entry-size-least}
 use Rattle.be.specs.Lists.{every}
-use Rattle.be.specs.Bytes.{be, part, field}
 use Rattle.edition.specs.declared.Edition.{Edition}
-use Rattle.edition.specs.Edition.{entry-size}
 use Rattle.dir_rules.specs.Record.{Rec, rec, cut, says, whole, size, tag, gap-start}
 use Rattle.be.proofs.Bools.{and-left, and-right, and-both, by-cases}
 
@@ -78,7 +76,7 @@ unfolding cut
 cut-step e k o [] h = absurd (not-suc-le-zero h)
 cut-step e k o (x ∷ xs) h = refl
 
--- (a) the records of xs ++ ys, where xs is tiled by the records rs: those, and then the records of ys
+-- the records of xs ++ ys, where xs is tiled by the records rs: those, and then the records of ys
 pub cut-join : (e : Edition) (k o : ℕ) (rs : List Rec) (ys : List ℕ) → Laid e o rs
     → cut e (length rs + k) o (join rs ++ ys) ≡ rs ++ cut e k (o + length (join rs)) ys
 cut-join e k o [] ys h = rw (zero-add, add-zero)
@@ -146,7 +144,7 @@ pub laid-back : (e : Edition) (o : ℕ) (rs ss : List Rec) → Laid e o (rs ++ s
 laid-back e o [] ss h = rw add-zero h
 laid-back e o (r ∷ rs) ss h = rw (length-append, ← add-assoc) (laid-back e (o + size r) rs ss (h .2))
 
--- (b) the records gs replaced by whole records ms of the same length in all. An insert replaces one gap by an entry and perhaps a
+-- the records gs replaced by whole records ms of the same length in all. An insert replaces one gap by an entry and perhaps a
 -- gap; a removal replaces an entry and the gaps beside it by one gap
 pub laid-replaced : (e : Edition) (o : ℕ) (xs gs ms ys : List Rec)
     → Laid e o (xs ++ (gs ++ ys)) → Laid e (o + length (join xs)) ms → length (join ms) ≡ length (join gs)
@@ -156,15 +154,6 @@ laid-replaced e o xs gs ms ys h m q =
     laid-back e (o + length (join xs)) gs ys (laid-back e o xs (gs ++ ys) h) in
     laid-append e o xs (ms ++ ys) (laid-front e o xs (gs ++ ys) h)
     (laid-append e (o + length (join xs)) ms ys m (rw q back))
-
-pub cut-replaced : (e : Edition) (k o : ℕ) (xs gs ms ys : List Rec)
-    → Laid e o (xs ++ (gs ++ ys)) → Laid e (o + length (join xs)) ms → length (join ms) ≡ length (join gs)
-    → length (xs ++ (ms ++ ys)) ≤ k
-    → cut e k o (join xs ++ (join ms ++ join ys)) ≡ xs ++ (ms ++ ys)
-cut-replaced e k o xs gs ms ys h m q l =
-    let r : cut e k o (join (xs ++ (ms ++ ys))) ≡ xs ++ (ms ++ ys) =
-    cut-laid e k o (xs ++ (ms ++ ys)) (laid-replaced e o xs gs ms ys h m q) l in
-    rw (join-append xs (ms ++ ys), join-append ms ys) at r
 
 -- fewer records than bytes, so the block's length is fuel enough
 pub laid-count : (e : Edition) (o : ℕ) (rs : List Rec) → Laid e o rs → 8 * length rs ≤ length (join rs)

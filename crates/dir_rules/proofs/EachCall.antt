@@ -1,41 +1,43 @@
 -- One call on an accepted block is right: its answer is the book's, and so is what it leaves.
 -- Assumes nothing.
-use Prim.Native.Nat.{ℕ, zero, suc, _+_, _-_, _*_, _/_, _%_, _^_, _≤_, _<_}
+use Prim.Native.Nat.{ℕ, _+_, _^_, _≤_, _<_}
 use native.Mathlib.Omega.{arith}
 use native.Mathlib.Nat.{le-refl, le-trans}
-use mathlib.Core.Bool.{Bool, true, false, not, _&&_, _||_, cond, true≢false, false≢true, Bool·beq}
+use mathlib.Core.Bool.{Bool, true, false, not, _&&_, cond, false≢true, Bool·beq}
 use mathlib.Core.Path.{_≡_, refl, sym, _∙_, ap, ap₂, subst}
-use mathlib.Core.List.{List, [], _∷_, _++_, map}
-use lib.Dec.{eqb, leb, ltb}
+use mathlib.Core.List.{List, _∷_}
+use lib.Dec.{eqb, leb}
 use lib.ListN.{length}
-use borrow.Author.Tests.{eqb-true, eq-eqb, not-true, leb-true, le-leb, leb-false, ltb-true}
+use borrow.Author.Tests.{eqb-true, not-true, leb-true, le-leb, leb-false}
 use Rattle.name.proofs.Legality.{legal-bounds, number-bounds}
 use Rattle.edition.proofs.Sizes.{entry-size-mono}
 use Rattle.be.specs.Lists.{every, some-of, same, without-first}
 use Rattle.be.specs.Bytes.{bytes}
 use Rattle.edition.specs.declared.Edition.{Edition}
-use Rattle.edition.specs.Edition.{v4, entry-size, Sane}
-use Rattle.name.specs.Name.{legal-byte, legal-name, legal-number, fixed-name, same-name, dot, dotdot}
-use Rattle.dir_rules.specs.Record.{Rec, size, entries, gaps, name, number}
-use Rattle.dir_rules.specs.Block.{records, stale-of, sum-of-parts}
-use Rattle.dir_rules.specs.Verdict.{verdict, otherwise, Accepted, names-ok, name-ok, entry-at}
+use Rattle.edition.specs.Edition.{entry-size, Sane}
+use Rattle.name.specs.Name.{legal-name, legal-number, fixed-name, same-name, dot, dotdot}
+use Rattle.dir_rules.specs.Record.{Rec, size, entries, gaps, name}
+use Rattle.dir_rules.specs.Block.{records, stale-of}
+use Rattle.dir_rules.specs.Verdict.{otherwise, Accepted, names-ok, name-ok, entry-at}
 use Rattle.dir_rules.specs.Lookup.{lookup, lookup-refusal, sought, number-at}
-use Rattle.dir_rules.specs.Room.{room, longest, has-room, case-a, case-b, case-c, case-d}
-use Rattle.dir_rules.specs.Change.{changed, insert-writes, insert-code, insert-block, remove-writes, remove-code, remove-block}
-use Rattle.dir_rules.specs.Calls.{found-or, done-or, Call, look-up, insert, remove, Reply, found, done, refuse, reply, after, call-name}
-use Rattle.dir_rules.specs.Book.{first-of, Held, held, Book, book-of, named, holds, inode-of, SameBook, book-reply, book-after, entered, is-done}
+use Rattle.dir_rules.specs.Room.{some-stale, room, longest, has-room}
+use Rattle.dir_rules.specs.Change.{insert-writes, insert-code, insert-block, remove-writes, remove-code, remove-block}
+use Rattle.dir_rules.specs.Calls.{done-or, Call, look-up, insert, remove, done, refuse, reply, after, call-name}
+use Rattle.dir_rules.specs.Book.{first-of, held, Book, book-of, named, holds, inode-of, SameBook, book-reply, book-after, entered, is-done}
 use Rattle.dir_rules.specs.Demand.{Reuse, Call-right, call-bytes}
-use Rattle.be.proofs.Bools.{and-left, and-right, and-both, by-cases, clash}
+use Rattle.be.proofs.Bools.{and-left, and-right, by-cases, clash}
 use Rattle.dir_rules.proofs.RecordPlaces.{Split, some-split, some-at, every-at}
-use Rattle.name.proofs.Same.{same-eq}
+use Rattle.name.proofs.Same.{same-eq, same-name-refl}
 use Rattle.dir_rules.proofs.BestTable.{longest-every}
 use Rattle.dir_rules.proofs.AcceptedParts.{good-of}
 use Rattle.dir_rules.proofs.PartsAddUp.{adds-up}
-use Rattle.dir_rules.proofs.BooksAgree.{holds-same, holds-entries, first-named, First-named, first-is, book-inserted, book-removed, entry-held, name-is-same}
+use Rattle.dir_rules.proofs.BooksAgree.{holds-same, holds-entries, first-named, First-named, first-is, book-inserted, book-removed}
+use Rattle.dir_rules.proofs.InsertFree.{Asked}
 use Rattle.dir_rules.proofs.InsertCases.{Inserted, insert-any}
 use Rattle.dir_rules.proofs.LookupFinds.{Removed, hit-of, spot, spot-name, number-found, removed-of}
 use Rattle.dir_rules.proofs.StaysBytes.{bytes-changed, all-insert, all-remove}
 use Rattle.dir_rules.proofs.EveryList.{Steps}
+use Rattle.dir_rules.proofs.Acceptance.{passes}
 
 pub number-lt : (i : ℕ) → legal-number i ≡ true → i < 2 ^ 56
 number-lt i h = number-bounds i h .1
@@ -59,15 +61,11 @@ remove-chain true false h = refl
 remove-chain true true false = refl
 remove-chain true true true = refl
 
-passes : (t : Bool) (n rest : ℕ) → otherwise t (suc n) rest ≡ 0 → (t ≡ true) × (rest ≡ 0)
-passes true n rest h = (refl, h)
-passes false n rest h = absurd (omega arith)
-
 keeps : {A : Type 0} (t : Bool) (x : A) → cond t x x ≡ x
 keeps true x = refl
 keeps false x = refl
 
-refused-not-done : (k : ℕ) → eqb k 0 ≡ false → is-done (done-or k) ≡ false
+pub refused-not-done : (k : ℕ) → eqb k 0 ≡ false → is-done (done-or k) ≡ false
 refused-not-done k h = rw h refl
 
 -- the longest gap is at least as long as any
@@ -92,9 +90,9 @@ module _ (e : Edition) (sane : Sane e) (b : List ℕ) (h : bytes b ≡ true) (a 
       number-found e sane b h a n q
       ∙ sym (f .inode-is ∙ first-is e b n k m (good-of e sane b h a .once) (spot e sane b h a n q) (spot-name e sane b h a n q) f .1)
 
-  lookup-right : (k : Book) → SameBook (book-of e b) k → (n : List ℕ) (r : Bool) → reply e b (look-up n) ≡ book-reply e k r (look-up n)
+  lookup-reply : (k : Book) → SameBook (book-of e b) k → (n : List ℕ) (r : Bool) → reply e b (look-up n) ≡ book-reply e k r (look-up n)
   unfolding reply lookup lookup-refusal book-reply
-  lookup-right k m n r =
+  lookup-reply k m n r =
       by-cases (legal-name e n)
       (λ l. by-cases (sought e b n .hit)
       (λ q. rw (a, l, q, sym (hit-holds k m n) ∙ q, lookup-hit k m n q) refl)
@@ -136,7 +134,8 @@ module _ (e : Edition) (sane : Sane e) (b : List ℕ) (h : bytes b ≡ true) (a 
   unfolding insert-block
   insert-done n i nb q =
       let f : _ = insert-facts n i q in
-      rw q (insert-any e sane b h a i n nb (f .0) (f .1) (number-lt i (f .1)) (f .2) (sym (hit-of e sane b h a n) ∙ f .3) (f .4))
+      let ask : Asked e b n i = record { name-bytes = nb; name-legal = f .0; number-legal = f .1; not-fixed = f .2; absent = sym (hit-of e sane b h a n) ∙ f .3 } in
+      rw q (insert-any e sane b h a i n ask (f .4))
 
   pub remove-facts : (n : List ℕ) → remove-code e b n ≡ 0 → (legal-name e n ≡ true) × (fixed-name n ≡ false) × (sought e b n .hit ≡ true)
   remove-facts n q =
@@ -181,7 +180,7 @@ module _ (e : Edition) (sane : Sane e) (b : List ℕ) (h : bytes b ≡ true) (a 
       let nk : name-ok e r ≡ true = every-at (name-ok e) (t .0 .before) r (t .0 .behind) (subst (λ (l : List Rec). every (name-ok e) l ≡ true) (t .0 .is) ev) in
       let nm : name r ≡ d = same-eq (name r) d (ok r nk (t .1)) in
       ap (some-of (λ r. same-name e m (name r))) (t .0 .is)
-      ∙ some-at (λ r. same-name e m (name r)) (t .0 .before) r (t .0 .behind) (name-is-same e m (name r) (same-eq m d q ∙ sym nm))
+      ∙ some-at (λ r. same-name e m (name r)) (t .0 .before) r (t .0 .behind) (subst (λ (l : List ℕ). same-name e m l ≡ true) (same-eq m d q ∙ sym nm) (same-name-refl e m))
 
   fixed-held : (m : List ℕ) → fixed-name m ≡ true → some-of (λ r. same-name e m (name r)) (entries (records e b)) ≡ true
   unfolding fixed-name names-ok
@@ -205,7 +204,9 @@ module _ (e : Edition) (sane : Sane e) (b : List ℕ) (h : bytes b ≡ true) (a 
   -- room by (a) is room
   room-by-a : (m : List ℕ) → 1 ≤ stale-of b → entry-size e (length m) ≤ size (longest (gaps (records e b))) → has-room e b m ≡ true
   unfolding has-room room
-  room-by-a m s l = rw (le-leb 1 (stale-of b) s, le-leb (entry-size e (length m)) (size (longest (gaps (records e b)))) l) refl
+  room-by-a m s l =
+      let t : some-stale (room e b m) ≡ true = by-cases (some-stale (room e b m)) (λ q. q) (λ q. absurd (omega (arith, leb-false))) in
+      rw (t, le-leb (entry-size e (length m)) (size (longest (gaps (records e b)))) l) refl
 
   -- a legal absent name with a legal number goes in where (a) finds room
   goes-in : (m : List ℕ) (i : ℕ) → legal-name e m ≡ true → legal-number i ≡ true → holds e m (book-of e b) ≡ false → has-room e b m ≡ true → reply e b (insert m i) ≡ done
@@ -219,7 +220,7 @@ module _ (e : Edition) (sane : Sane e) (b : List ℕ) (h : bytes b ≡ true) (a 
   look-right : (n : List ℕ) → Call-right e k b (look-up n)
   unfolding after book-after Reuse
   look-right n =
-      unchanged e sane b h a k m (look-up n) (lookup-right e sane b h a k m n (has-room e b n)) refl (keeps (is-done (book-reply e k (has-room e b n) (look-up n))) k) tt
+      unchanged e sane b h a k m (look-up n) (lookup-reply e sane b h a k m n (has-room e b n)) refl (keeps (is-done (book-reply e k (has-room e b n) (look-up n))) k) tt
 
   done-is : (c : Call) → reply e b c ≡ book-reply e k (has-room e b (call-name c)) c → reply e b c ≡ done → book-after e k (has-room e b (call-name c)) c ≡ entered e k c
   unfolding book-after

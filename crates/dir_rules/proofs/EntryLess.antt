@@ -1,26 +1,23 @@
 -- One entry less: the parts stay good.
 -- Assumes nothing.
-use Prim.Native.Nat.{ℕ, zero, suc, _+_, _-_, _*_, _/_, _%_, _^_, _≤_, _<_}
-use native.Mathlib.Nat.{add-zero, zero-add, add-assoc, le-refl}
+use Prim.Native.Nat.{ℕ, _+_, _<_}
 use native.Mathlib.Omega.{arith}
-use mathlib.Core.Bool.{Bool, true, false, not, _&&_, _||_, cond, true≢false, false≢true, Bool·beq}
-use mathlib.Core.Path.{_≡_, refl, sym, _∙_, ap, ap₂, subst}
-use mathlib.Core.List.{List, [], _∷_, _++_, map, append-assoc}
-use lib.Dec.{eqb, leb, ltb}
-use lib.ListN.{length}
-use borrow.Author.Tests.{eqb-true, eqb-false, eq-eqb, ne-eqb, not-true, not-false}
-use Rattle.be.specs.Lists.{every, some-of, tally, keep, same}
+use mathlib.Core.Bool.{Bool, true, false, not, _&&_, _||_, true≢false, false≢true, Bool·beq}
+use mathlib.Core.Path.{_≡_, refl, sym, _∙_, subst}
+use mathlib.Core.List.{List, [], _∷_, _++_, map}
+use lib.Dec.{eqb}
+use borrow.Author.Tests.{ne-eqb, not-true}
+use Rattle.be.specs.Lists.{every, some-of, tally, same}
 use Rattle.edition.specs.declared.Edition.{Edition}
-use Rattle.name.specs.Name.{legal-name, legal-number, hash-of, same-name, fixed-name, dot, dotdot}
-use Rattle.dir_rules.specs.Record.{Rec, rec, size, apart, entries, is-gap, is-entry, name, number}
+use Rattle.name.specs.Name.{legal-name, legal-number, hash-of, fixed-name, dot, dotdot}
+use Rattle.dir_rules.specs.Record.{Rec, apart, entries, name, number}
 use Rattle.dir_rules.specs.Block.{Slot, slot, is-stale, is-live}
 use Rattle.dir_rules.specs.Verdict.{names-ok, numbers-ok, once-ok, name-ok, entry-at, has-slot}
-use Rattle.be.proofs.Bools.{and-left, and-right, and-both, by-cases, clash, every-head, every-tail, every-cons}
+use Rattle.be.proofs.Bools.{and-left, and-right, and-both, every-head, every-tail, every-cons}
 use Rattle.dir_rules.proofs.SlotCounts.{Apart, at-addr}
 use Rattle.dir_rules.proofs.SlotOrder.{From}
 use Rattle.dir_rules.proofs.IndexedEntries.{Indexed, Slotted, slotted, →slotted, at-both, addr-of}
 use Rattle.dir_rules.proofs.OneMore.{every-mid, some-mid, once-mid, tally-mid, length-mid, alone}
-use Rattle.edition.specs.Edition.{Sane}
 use Rattle.dir_rules.proofs.GoodParts.{Good}
 
 -- a slot made stale keeps the order

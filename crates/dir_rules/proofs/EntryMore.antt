@@ -1,32 +1,32 @@
 -- One entry more: the parts stay good.
 -- Assumes nothing.
-use Prim.Native.Nat.{ℕ, zero, suc, _+_, _-_, _*_, _/_, _%_, _^_, _≤_, _<_}
-use native.Mathlib.Nat.{add-zero, zero-add, add-assoc, le-refl}
+use Prim.Native.Nat.{ℕ, _+_, _-_, _/_, _^_, _<_}
 use native.Mathlib.Omega.{arith}
-use mathlib.Core.Bool.{Bool, true, false, not, _&&_, _||_, cond, true≢false, false≢true, Bool·beq}
-use mathlib.Core.Path.{_≡_, refl, sym, _∙_, ap, ap₂, subst}
-use mathlib.Core.List.{List, [], _∷_, _++_, map, append-assoc}
-use lib.Dec.{eqb, leb, ltb}
-use lib.ListN.{replicate, length, take, drop, getD, length-append}
+use mathlib.Core.Bool.{Bool, true, false, not, _&&_, _||_, true≢false}
+use mathlib.Core.Path.{_≡_, refl, sym, _∙_, ap, subst}
+use mathlib.Core.List.{List, _∷_, _++_, map, append-assoc}
+use lib.Dec.{eqb}
+use lib.ListN.{replicate, length, take}
 use lib.Seq.{take-append-seam, take-at}
-use borrow.Author.Tests.{eqb-true, eqb-false, eq-eqb, ne-eqb, not-true, not-false}
-use Rattle.be.specs.Lists.{every, some-of, tally, keep, same}
-use Rattle.be.specs.Bytes.{be, to-be, part, field}
+use borrow.Author.Tests.{eqb-true, eqb-false, ne-eqb, not-true}
+use Rattle.be.specs.Lists.{every, some-of, same}
+use Rattle.be.specs.Bytes.{be, to-be}
 use Rattle.edition.specs.declared.Edition.{Edition}
 use Rattle.edition.specs.Edition.{entry-size, Sane}
 use Rattle.name.specs.Name.{legal-name, legal-number, hash-of, same-name, fixed-name, dot, dotdot}
-use Rattle.dir_rules.specs.Record.{Rec, rec, size, apart, entries, is-gap, is-entry, name, number, entry-bytes}
+use Rattle.dir_rules.specs.Record.{Rec, rec, apart, entries, is-entry, name, number, entry-bytes}
 use Rattle.dir_rules.specs.Block.{Slot, slot}
-use Rattle.dir_rules.specs.Verdict.{names-ok, numbers-ok, once-ok, name-ok, entry-at}
+use Rattle.dir_rules.specs.Verdict.{names-ok, numbers-ok, name-ok, entry-at}
 use Rattle.dir_rules.specs.Change.{insert-slot}
-use Rattle.be.proofs.Bools.{and-left, and-right, and-both, by-cases, clash, every-head, every-tail, every-cons}
+use Rattle.be.proofs.Bools.{and-left, and-right, and-both}
 use Rattle.be.proofs.Numbers.{be-to-be, length-to-be}
-use Rattle.dir_rules.proofs.CutJoin.{join, Laid}
+use Rattle.dir_rules.proofs.CutJoin.{Laid}
 use Rattle.dir_rules.proofs.SlotCounts.{Apart}
-use Rattle.dir_rules.proofs.IndexedEntries.{Indexed, Kept, indexed-insert, addr-of}
+use Rattle.dir_rules.proofs.IndexedEntries.{Kept, indexed-insert, addr-of}
 use Rattle.dir_rules.proofs.OneMore.{every-mid, some-mid, once-mid}
-use Rattle.dir_rules.proofs.RecordPlaces.{Split, some-split, some-at, every-at, every-map, apart-keep, apart-front}
+use Rattle.dir_rules.proofs.RecordPlaces.{Split, some-split, every-at, every-map, apart-keep, apart-front}
 use Rattle.dir_rules.proofs.GoodParts.{Good}
+use Rattle.dir_rules.proofs.BestTable.{or-right}
 
 -- the name and the number of a new entry
 pub entry-name : (e : Edition) (o i : ℕ) (n : List ℕ) → name (rec o (entry-bytes e o i n)) ≡ n
@@ -42,10 +42,6 @@ entry-number e o i n h =
     let q : entry-bytes e o i n ≡ to-be 8 i ++ ((length n ∷ n) ++ (pd ++ to-be 2 o)) =
     append-assoc (to-be 8 i ++ (length n ∷ n)) pd (to-be 2 o) ∙ append-assoc (to-be 8 i) (length n ∷ n) (pd ++ to-be 2 o) in
     ap be (ap (take 8) q ∙ take-at (to-be 8 i) ((length n ∷ n) ++ (pd ++ to-be 2 o)) 8 (length-to-be 8 i)) ∙ be-to-be 8 i h
-
-or-right : (a b : Bool) → b ≡ true → (a || b) ≡ true
-or-right true b h = refl
-or-right false b h = h
 
 or-false-left : (a b : Bool) → (a || b) ≡ false → a ≡ false
 or-false-left true b h = h

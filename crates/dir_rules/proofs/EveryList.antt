@@ -1,8 +1,8 @@
 -- What holds of one call holds along every list of calls: the induction.
 -- Assumes nothing.
 use Prim.Native.Nat.{ℕ}
-use mathlib.Core.Bool.{Bool, true, false, _&&_}
-use mathlib.Core.Path.{_≡_, refl}
+use mathlib.Core.Bool.{true}
+use mathlib.Core.Path.{_≡_}
 use mathlib.Core.List.{List, [], _∷_}
 use Rattle.be.specs.Lists.{every}
 use Rattle.be.specs.Bytes.{bytes}

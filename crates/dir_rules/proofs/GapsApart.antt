@@ -1,11 +1,10 @@
 -- No two gaps touch: entries put in, and gaps that change their length.
 -- Assumes nothing.
-use Prim.Native.Nat.{ℕ}
 use mathlib.Core.Bool.{Bool, true, false, not, _&&_, false≢true}
-use mathlib.Core.Path.{_≡_, refl, sym, _∙_, ap, subst}
-use mathlib.Core.List.{List, [], _∷_, _++_, append-assoc}
+use mathlib.Core.Path.{_≡_, refl}
+use mathlib.Core.List.{List, [], _∷_, _++_}
 use Rattle.dir_rules.specs.Record.{Rec, is-gap, apart}
-use Rattle.be.proofs.Bools.{and-left, and-right, and-both, by-cases}
+use Rattle.be.proofs.Bools.{and-left, and-right, and-both}
 
 -- what may follow a record that is a gap or not
 abbrev pub Follows : Bool → List Rec → Type 0

@@ -1,34 +1,32 @@
 -- A block put together from good parts is accepted once its best-gap table is written.
 -- Assumes nothing.
-use Prim.Native.Nat.{ℕ, zero, suc, _+_, _-_, _*_, _/_, _%_, _^_, _≤_, _<_}
-use native.Mathlib.Nat.{add-zero, zero-add, add-assoc, le-refl}
+use Prim.Native.Nat.{ℕ, zero, suc, _+_, _*_, _^_, _≤_, _<_}
 use native.Mathlib.Omega.{arith}
-use mathlib.Core.Bool.{Bool, true, false, not, _&&_, _||_, cond, true≢false, false≢true}
-use mathlib.Core.Path.{_≡_, refl, sym, _∙_, ap, ap₂, subst}
-use mathlib.Core.List.{List, [], _∷_, _++_, map, append-assoc}
+use mathlib.Core.Bool.{Bool, true, not, _&&_}
+use mathlib.Core.Path.{_≡_, refl, sym, _∙_, ap, subst}
+use mathlib.Core.List.{List, [], _∷_, _++_, append-assoc}
 use lib.Dec.{eqb, leb, ltb, leb·zero}
 use lib.ListN.{length, take, drop, length-append, length-take, length-drop, take-append-drop}
-use lib.Seq.{take-take, take-append-le, drop-append-le, take-at, drop-at, drop-append-seam}
-use borrow.Author.Tests.{eqb-true, eqb-false, eq-eqb, ne-eqb, leb-true, leb-false, le-leb, ltb-true, lt-ltb}
+use lib.Seq.{take-take, take-append-le, drop-at}
+use borrow.Author.Tests.{le-leb, ltb-true, lt-ltb}
 use Rattle.edition.proofs.Sizes.{block-size-bounds}
-use Rattle.edition.specs.Edition.{Sane, v4, block-size, block-sizes}
-use Rattle.be.specs.Lists.{every, some-of, tally, keep}
-use Rattle.be.specs.Bytes.{be, part, field, put, written, write}
+use Rattle.edition.specs.Edition.{Sane, block-size}
+use Rattle.be.specs.Lists.{every, tally, keep}
+use Rattle.be.specs.Bytes.{be, part, field, put, written}
 use Rattle.edition.specs.declared.Edition.{Edition}
-use Rattle.dir_rules.specs.Record.{Rec, rec, size, whole, apart, entries, gaps, is-gap, besides}
-use Rattle.dir_rules.specs.Block.{Slot, slot-bytes, records, slots, stale-of, count-of, is-stale, is-live}
-use Rattle.dir_rules.specs.Verdict.{Accepted, Pair, pair, size-ok, magic-ok, span-ok, tile-ok, names-ok, numbers-ok, index-ok, best-ok, best-pairs, pairs-in, once-ok}
+use Rattle.dir_rules.specs.Record.{Rec, size, whole, apart, entries, gaps, is-gap, besides}
+use Rattle.dir_rules.specs.Block.{Slot, slot-bytes, is-stale}
+use Rattle.dir_rules.specs.Verdict.{Accepted, Pair, size-ok, magic-ok, span-ok, names-ok, numbers-ok, best-pairs, pairs-in, once-ok}
 use Rattle.dir_rules.specs.Room.{longest}
-use Rattle.dir_rules.specs.Change.{best-of, pair-bytes, with-best}
+use Rattle.dir_rules.specs.Change.{best-of, best-table, pair-bytes, with-best}
 use Rattle.be.proofs.Bools.{and-left, and-right, and-both, by-cases, every-head, every-tail, every-cons}
 use Rattle.be.proofs.Parts.{piece}
 use Rattle.be.proofs.Numbers.{length-to-be}
 use Rattle.be.proofs.Writes.{put-inside, put-at, length-put}
-use Rattle.dir_rules.proofs.CutJoin.{join, Laid, Whole, →whole}
+use Rattle.dir_rules.proofs.CutJoin.{join, Laid, →whole}
 use Rattle.dir_rules.proofs.BlockParts.{build, Fit, tail-bytes, build-records, build-slots, build-stale, build-count, length-build}
-use Rattle.dir_rules.proofs.Acceptance.{Passed, accepted, tile-both}
-use Rattle.dir_rules.proofs.BestTable.{best-right, PairsFit, pairs-in-bytes}
-use Rattle.dir_rules.proofs.RecordPlaces.{Split, some-split, every-at}
+use Rattle.dir_rules.proofs.Acceptance.{accepted, tile-both}
+use Rattle.dir_rules.proofs.BestTable.{best-of-right, PairsFit, pairs-in-bytes}
 use Rattle.dir_rules.proofs.IndexedEntries.{Indexed, →indexed}
 
 pub record Good (e : Edition) (rs : List Rec) (ss : List Slot) (st : ℕ) : Type 0 where
@@ -86,6 +84,10 @@ length-best zero gs = refl
 length-best (suc k) [] = ap suc (length-best k [])
 length-best (suc k) (g ∷ gs) = ap suc (length-best k (besides (longest (g ∷ gs) .off) (g ∷ gs)))
 
+-- the table has three pairs
+length-table : (gs : List Rec) → length (best-table gs) ≡ 3
+length-table gs = length-best _ gs
+
 length-pair-bytes : (ps : List Pair) → length (pair-bytes ps) ≡ 4 * length ps
 unfolding pair-bytes
 length-pair-bytes [] = refl
@@ -105,11 +107,11 @@ block-bound n h = omega (arith, block-size-bounds n h)
 module _ (e : Edition) (sane : Sane e) (hd : List ℕ) (rs : List Rec) (ss : List Slot) (st : ℕ) (f : Fit e hd rs ss st) (g : Good e rs ss st)
     (sz : size-ok (build hd rs ss st) ≡ true) (mg : eqb (field 0 4 hd) (e .magic) ≡ true) where
   table : List ℕ
-  table = pair-bytes (best-of 3 (gaps rs))
+  table = pair-bytes (best-table (gaps rs))
 
   table-long : length table ≡ 12
   unfolding table
-  table-long = length-pair-bytes (best-of 3 (gaps rs)) ∙ ap (λ (n : ℕ). 4 * n) (length-best 3 (gaps rs))
+  table-long = length-pair-bytes (best-table (gaps rs)) ∙ ap (λ (n : ℕ). 4 * n) (length-table (gaps rs))
 
   -- the header with the table in it
   pub new-head : List ℕ
@@ -118,7 +120,7 @@ module _ (e : Edition) (sane : Sane e) (hd : List ℕ) (rs : List Rec) (ss : Lis
   pub best-build : with-best e (build hd rs ss st) ≡ build new-head rs ss st
   unfolding with-best written table new-head
   best-build =
-      ap (λ (l : List Rec). put (build hd rs ss st) (e .best) (pair-bytes (best-of 3 (gaps l)))) (build-records e hd rs ss st f)
+      ap (λ (l : List Rec). put (build hd rs ss st) (e .best) (pair-bytes (best-table (gaps l)))) (build-records e hd rs ss st f)
       ∙ put-inside hd (join rs ++ (slot-bytes ss ++ tail-bytes (length ss) st)) (e .best) table (omega (arith, table-long, f .head, sane .best-inside))
 
   pub new-fit : Fit e new-head rs ss st
@@ -164,7 +166,7 @@ module _ (e : Edition) (sane : Sane e) (hd : List ℕ) (rs : List Rec) (ss : Lis
       (le-leb (e .header + 8 * length ss + 8) (length (build new-head rs ss st)) (omega (arith, length-build e new-head rs ss st new-fit)))
       (le-leb st (length ss) (omega (arith, g .index .stales, tally-length is-stale ss))))
 
-  new-pairs : best-pairs e (build new-head rs ss st) ≡ best-of 3 (gaps rs)
+  pub new-pairs : best-pairs e (build new-head rs ss st) ≡ best-table (gaps rs)
   unfolding best-pairs rest table
   new-pairs =
       let a : List ℕ = take (e .best) hd in
@@ -176,8 +178,8 @@ module _ (e : Edition) (sane : Sane e) (hd : List ℕ) (rs : List Rec) (ss : Lis
       omega (arith, length-build e hd rs ss st f, block-bound (length (build hd rs ss st)) (unfold size-ok in sz)) in
       ap (λ (l : List ℕ). pairs-in 3 (drop (e .best) l)) q
       ∙ ap (pairs-in 3) (drop-at a (table ++ z) (e .best) (simp length-take (omega (arith, f .head, sane .best-inside))))
-      ∙ subst (λ (n : ℕ). pairs-in n (table ++ z) ≡ best-of 3 (gaps rs)) (length-best 3 (gaps rs))
-      (pairs-in-bytes (best-of 3 (gaps rs)) z (pairs-fit 3 (gaps rs) (laid-small e is-gap (e .header) rs (f .laid) ll)))
+      ∙ subst (λ (n : ℕ). pairs-in n (table ++ z) ≡ best-table (gaps rs)) (length-table (gaps rs))
+      (pairs-in-bytes (best-table (gaps rs)) z (pairs-fit _ (gaps rs) (laid-small e is-gap (e .header) rs (f .laid) ll)))
 
   pub good-accepted : Accepted e (build new-head rs ss st)
   good-accepted =
@@ -190,6 +192,6 @@ module _ (e : Edition) (sane : Sane e) (hd : List ℕ) (rs : List Rec) (ss : Lis
         names = rw (build-records e new-head rs ss st new-fit) (g .names);
         numbers = rw (build-records e new-head rs ss st new-fit) (g .numbers);
         index = rw (build-records e new-head rs ss st new-fit, build-slots e new-head rs ss st new-fit, build-stale e new-head rs ss st new-fit) (→indexed e rs ss st (g .index));
-        best = rw (build-records e new-head rs ss st new-fit, new-pairs) (best-right 3 (gaps rs));
+        best = rw (build-records e new-head rs ss st new-fit, new-pairs) (best-of-right 3 (gaps rs));
         once = rw (build-records e new-head rs ss st new-fit) (g .once);
       })

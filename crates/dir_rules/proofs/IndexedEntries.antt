@@ -1,26 +1,24 @@
--- The tests of a block's records and slots, with one entry more: what an insert adds and what a removal takes away.
+-- The index stays right with one entry and its slot more, by whichever slots the room rule keeps.
 -- Assumes nothing.
-use Prim.Native.Nat.{ℕ, zero, suc, _+_, _-_, _*_, _/_, _%_, _≤_, _<_}
-use native.Mathlib.Nat.{add-zero, zero-add, add-assoc, le-refl}
+use Prim.Native.Nat.{ℕ, _+_, _-_, _/_, _≤_, _<_}
 use native.Mathlib.Omega.{arith}
-use mathlib.Core.Bool.{Bool, true, false, not, _&&_, _||_, cond}
-use mathlib.Core.Path.{_≡_, refl, sym, _∙_, ap, ap₂, subst}
+use mathlib.Core.Bool.{Bool, true, false, not, _&&_, cond}
+use mathlib.Core.Path.{_≡_, refl, _∙_, ap}
 use mathlib.Core.List.{List, [], _∷_, _++_, map}
-use lib.Dec.{eqb, leb, ltb}
-use lib.ListN.{length, length-append, length-map}
-use borrow.Author.Tests.{eqb-true, eqb-false, eq-eqb, ne-eqb, not-true, ltb-true, lt-ltb, leb-true, le-leb}
-use Rattle.be.specs.Lists.{every, some-of, tally, total, keep, without-first}
+use lib.Dec.{eqb}
+use lib.ListN.{length}
+use borrow.Author.Tests.{eqb-true, eq-eqb, ne-eqb, not-true}
+use Rattle.be.specs.Lists.{every, tally, total, keep, without-first}
 use Rattle.edition.specs.declared.Edition.{Edition}
 use Rattle.name.specs.Name.{hash-of}
-use Rattle.dir_rules.specs.Record.{Rec, rec, size, name, entries, is-entry, is-gap}
+use Rattle.dir_rules.specs.Record.{Rec, name, entries}
 use Rattle.dir_rules.specs.Block.{Slot, slot, is-stale, is-live}
 use Rattle.dir_rules.specs.Verdict.{index-ok, has-slot, rising}
 use Rattle.dir_rules.specs.Change.{insert-slot}
 use Rattle.be.proofs.Bools.{and-left, and-right, and-both, by-cases, clash, every-head, every-tail, every-cons}
-use Rattle.dir_rules.proofs.CutJoin.{join, Laid, Whole, laid-front, laid-back}
 use Rattle.dir_rules.proofs.SlotOrder.{From, rising-from, from-rising, insert-from, tally-insert, drop-first-from, keep-from}
-use Rattle.dir_rules.proofs.SlotCounts.{Apart, at-addr, pigeon, one-if}
-use Rattle.dir_rules.proofs.OneMore.{every-mid, some-mid, tally-mid, total-mid, length-mid, keep-append}
+use Rattle.dir_rules.proofs.SlotCounts.{Apart, at-addr, pigeon}
+use Rattle.dir_rules.proofs.OneMore.{every-mid, length-mid}
 
 -- what index-ok says of the entries as
 pub record Indexed (e : Edition) (es : List Rec) (ss : List Slot) (n : ℕ) : Type 0 where
@@ -186,7 +184,7 @@ drop-stale : (ss : List Slot) → tally is-stale (without-first is-stale ss) ≡
 drop-stale [] = refl
 drop-stale (s ∷ ss) = by-cases (is-stale s) (λ h. rw h (omega arith)) (λ h. rw (h, h) (omega (arith, drop-stale ss)))
 
--- (a)
+-- (a) drops the first stale slot
 pub kept-less-one : (ss : List Slot) (n : ℕ) → tally is-stale ss ≡ n → Kept ss (without-first is-stale ss) (n - 1)
 kept-less-one ss n h = record { order = drop-first-from is-stale 0 ss; stales = rw (← h) (drop-stale ss); same-live = λ p f. drop-tally p f ss }
 
@@ -201,6 +199,6 @@ keep-stale : (ss : List Slot) → tally is-stale (keep is-live ss) ≡ 0
 keep-stale [] = refl
 keep-stale (s ∷ ss) = by-cases (is-stale s) (λ h. rw h (keep-stale ss)) (λ h. rw (h, h) (omega (arith, keep-stale ss)))
 
--- (b)
+-- (b) drops all stale slots
 pub kept-live : (ss : List Slot) → Kept ss (keep is-live ss) 0
 kept-live ss = record { order = keep-from is-live 0 ss; stales = keep-stale ss; same-live = λ p f. keep-tally p f ss }

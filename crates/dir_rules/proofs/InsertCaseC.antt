@@ -1,39 +1,36 @@
 -- An insert by case (c): the entry in a gap other than T, and 8 bytes off T's end.
 -- Assumes nothing.
-use Prim.Native.Nat.{ℕ, zero, suc, _+_, _-_, _*_, _/_, _%_, _^_, _≤_, _<_}
-use native.Mathlib.Nat.{add-zero, zero-add, add-assoc, le-refl}
+use Prim.Native.Nat.{ℕ, _+_, _-_, _*_, _/_, _≤_}
 use native.Mathlib.Omega.{arith}
-use mathlib.Core.Bool.{Bool, true, false, not, _&&_, _||_, cond, true≢false, false≢true}
-use mathlib.Core.Path.{_≡_, refl, sym, _∙_, ap, ap₂, subst}
-use mathlib.Core.List.{List, [], _∷_, _++_, map, append-assoc, append-nil}
+use mathlib.Core.Bool.{Bool, true, false}
+use mathlib.Core.Path.{_≡_, sym, _∙_, ap, ap₂, subst}
+use mathlib.Core.List.{List, [], _∷_, _++_, append-assoc, append-nil}
 use lib.ListN.{length, take, drop, length-append, length-take, length-drop, take-append-drop}
 use Rattle.name.proofs.Hashing.{hash-lt}
-use Rattle.be.specs.Lists.{every, some-of, keep}
-use Rattle.be.specs.Bytes.{bytes, to-be, written, Write}
+use Rattle.be.specs.Bytes.{bytes, written, Write}
 use Rattle.edition.specs.declared.Edition.{Edition}
 use Rattle.edition.specs.Edition.{entry-size, Sane}
-use Rattle.name.specs.Name.{hash-of, same-name, legal-name, legal-number, fixed-name}
-use Rattle.dir_rules.specs.Record.{Rec, rec, size, is-gap, is-entry, entries, name, gap-writes}
+use Rattle.name.specs.Name.{hash-of}
+use Rattle.dir_rules.specs.Record.{Rec, size, is-gap, is-entry, entries, gap-writes}
 use Rattle.dir_rules.specs.Block.{Slot, slot, slot-bytes, records, slots, stale-of}
 use Rattle.dir_rules.specs.Verdict.{Accepted}
 use Rattle.dir_rules.specs.Change.{changed, entry-writes, index-writes, insert-slot}
-use Rattle.dir_rules.proofs.CutJoin.{join, Laid, Whole, join-append, laid-append, laid-front, laid-back}
+use Rattle.dir_rules.proofs.CutJoin.{join, Laid, join-append, laid-append, laid-front, laid-back}
 use Rattle.dir_rules.proofs.BlockParts.{build, Fit, tail-bytes}
 use Rattle.dir_rules.proofs.WritesLeave.{written-append, gap-written, index-written, free, Gapful, length-free, free-laid}
 use Rattle.be.proofs.Writes.{length-written}
 use Rattle.dir_rules.proofs.IndexedEntries.{kept-all}
 use Rattle.dir_rules.proofs.OneMore.{keep-append}
 use Rattle.dir_rules.proofs.GoodParts.{Good}
-use Rattle.dir_rules.proofs.InsertWrites.{placed, entered, join-three}
+use Rattle.dir_rules.proofs.InsertWrites.{placed, entered}
 use Rattle.edition.proofs.Sizes.{entry-size-eights}
 use Rattle.dir_rules.proofs.InsertGood.{new-records, new-apart, new-laid, new-good, gapful, free-entries, free-follows}
 use Rattle.dir_rules.proofs.GapsApart.{Follows, follows, follows-front, follows-back, follows-append, last-gap?, last-no}
 use Rattle.dir_rules.proofs.AcceptedParts.{fit-of, good-of, block-around, index-bytes, place-of, fit-insert}
 use Rattle.dir_rules.proofs.ChangeAccepted.{After, finish, short, total-long, three-long, long-index, length-insert}
+use Rattle.dir_rules.proofs.InsertFree.{Asked, asked-small}
 
-module _ (e : Edition) (sane : Sane e) (b : List ℕ) (h : bytes b ≡ true) (a : Accepted e b) (i : ℕ) (n : List ℕ) (nb : bytes n ≡ true)
-    (lg : legal-name e n ≡ true) (ln : legal-number i ≡ true) (ib : i < 2 ^ 56) (fx : fixed-name n ≡ false)
-    (ab : some-of (λ r. same-name e n (name r)) (entries (records e b)) ≡ false)
+module _ (e : Edition) (sane : Sane e) (b : List ℕ) (h : bytes b ≡ true) (a : Accepted e b) (i : ℕ) (n : List ℕ) (ask : Asked e b n i)
     (xs : List Rec) (g : Rec) (ys : List Rec) (t : Rec) (q : records e b ≡ xs ++ (g ∷ (ys ++ (t ∷ [])))) (gp : is-gap g ≡ true) (tp : is-gap t ≡ true)
     (fits : entry-size e (length n) ≤ size g) (eight : 8 ≤ size t) (none : stale-of b ≡ 0) where
   here : Laid e (e .header + length (join xs)) (g ∷ (ys ++ (t ∷ [])))
@@ -113,7 +110,7 @@ module _ (e : Edition) (sane : Sane e) (b : List ℕ) (h : bytes b ≡ true) (a 
   laid-c : Laid e (e .header) records-c
   unfolding records-c
   laid-c =
-      new-laid e sane i n xs (g .raw) behind (g .off) ib (sym (here .0)) fits (here .1 .eights) (omega (arith, all-long, short e sane b h a))
+      new-laid e sane i n xs (g .raw) behind (g .off) (asked-small e b n i ask) (sym (here .0)) fits (here .1 .eights) (omega (arith, all-long, short e sane b h a))
       (laid-front e (e .header) xs (g ∷ (ys ++ (t ∷ []))) (rw q at (fit-of e sane b h a .laid))) laid-behind
 
   good-c : Good e records-c index-c 0
@@ -121,8 +118,8 @@ module _ (e : Edition) (sane : Sane e) (b : List ℕ) (h : bytes b ≡ true) (a 
   good-c =
       new-good e sane i n xs (g .raw) behind (g .off) (records e b) (slots b) (slots b) (stale-of b) 0 (good-of e sane b h a)
       (kept-all (slots b) 0 (good-of e sane b h a .index .stales ∙ none)) entries-old laid-c
-      (new-apart e sane i n xs (g .raw) behind (g .off) ib (follows-front false xs (g ∷ (ys ++ (t ∷ []))) apart-all) apart-behind)
-      lg ln ib fx (rw entries-old at ab)
+      (new-apart e sane i n xs (g .raw) behind (g .off) (asked-small e b n i ask) (follows-front false xs (g ∷ (ys ++ (t ∷ []))) apart-all) apart-behind)
+      (ask .name-legal) (ask .number-legal) (asked-small e b n i ask) (ask .not-fixed) (rw entries-old at (ask .absent))
 
   fit-c : Fit e (take (e .header) b) records-c index-c 0
   unfolding index-c
@@ -132,7 +129,7 @@ module _ (e : Edition) (sane : Sane e) (b : List ℕ) (h : bytes b ≡ true) (a 
         laid = laid-c;
         few = rw (length-insert (slot (hash-of e n) (g .off / 8)) (slots b)) (omega (arith, all-long, short e sane b h a));
         fewer = omega arith;
-        fits = fit-insert (slot (hash-of e n) (g .off / 8)) (slots b) (hash-lt e n nb) (omega (arith, all-long, short e sane b h a)) (fit-of e sane b h a .fits);
+        fits = fit-insert (slot (hash-of e n) (g .off / 8)) (slots b) (hash-lt e n (ask .name-bytes)) (omega (arith, all-long, short e sane b h a)) (fit-of e sane b h a .fits);
       }
 
   unfoldable pub writes-of-c : List Write

@@ -1,34 +1,34 @@
 -- An insert that finds room, by whichever case.
 -- Assumes nothing.
-use Prim.Native.Nat.{ℕ, zero, suc, _+_, _-_, _*_, _/_, _%_, _^_, _≤_, _<_}
-use native.Mathlib.Nat.{add-zero, zero-add, add-assoc, le-refl}
+use Prim.Native.Nat.{ℕ, _+_, _-_, _*_, _/_, _≤_, _<_}
 use native.Mathlib.Omega.{arith}
-use mathlib.Core.Bool.{Bool, true, false, not, _&&_, _||_, cond, true≢false, false≢true}
-use mathlib.Core.Path.{_≡_, refl, sym, _∙_, ap, ap₂, subst}
-use mathlib.Core.List.{List, [], _∷_, _++_, map, append-assoc, append-nil}
-use lib.Dec.{eqb, leb, ltb}
-use lib.ListN.{length, take, drop, length-append, length-take, length-drop}
+use mathlib.Core.Bool.{Bool, true, not, _&&_}
+use mathlib.Core.Path.{_≡_, refl, sym, _∙_, ap, subst}
+use mathlib.Core.List.{List, [], _∷_, _++_, append-assoc, append-nil}
+use lib.Dec.{eqb, leb}
+use lib.ListN.{length, take, length-append, length-take}
 use borrow.Author.Tests.{leb-true, eqb-true, eqb-false, not-true}
-use Rattle.be.specs.Lists.{every, some-of, keep, without-first}
-use Rattle.be.specs.Bytes.{bytes, written, Write}
+use Rattle.be.specs.Lists.{keep, without-first}
+use Rattle.be.specs.Bytes.{bytes, Write}
 use Rattle.edition.specs.declared.Edition.{Edition}
 use Rattle.edition.specs.Edition.{entry-size, Sane}
-use Rattle.name.specs.Name.{hash-of, same-name, legal-name, legal-number, fixed-name}
-use Rattle.dir_rules.specs.Record.{gap-writes, Rec, rec, size, is-gap, is-entry, entries, gaps, name, number, besides}
+use Rattle.name.specs.Name.{hash-of}
+use Rattle.dir_rules.specs.Record.{gap-writes, Rec, rec, size, is-gap, entries, gaps, name, number, besides}
 use Rattle.dir_rules.specs.Block.{Slot, slot, slot-bytes, records, slots, stale-of, data-end, is-stale, is-live}
-use Rattle.dir_rules.specs.Verdict.{Accepted}
-use Rattle.dir_rules.specs.Room.{Room, room, longest, last-of, touching, other-gaps, case-a, case-b, case-c, case-d, has-room}
-use Rattle.dir_rules.specs.Change.{changed, entry-writes, index-writes, insert-slot, writes-a, writes-b, writes-c, writes-d, insert-writes, end-of}
-use Rattle.be.proofs.Bools.{and-left, and-right, and-both, by-cases, clash}
+use Rattle.dir_rules.specs.Verdict.{Accepted, best-pairs}
+use Rattle.dir_rules.specs.Room.{some-stale, Room, room, longest, last-of, touching, case-a, case-b, case-c, case-d, has-room}
+use Rattle.dir_rules.specs.Change.{changed, entry-writes, index-writes, insert-slot, writes-a, writes-b, writes-c, writes-d, insert-writes, best-table}
+use Rattle.be.proofs.Bools.{and-left, and-right, by-cases}
 use Rattle.edition.proofs.Sizes.{entry-size-least}
-use Rattle.dir_rules.proofs.CutJoin.{join, Laid, join-append, laid-back}
-use Rattle.dir_rules.proofs.BlockParts.{build-end, length-slot-bytes}
+use Rattle.dir_rules.proofs.CutJoin.{join, Laid, laid-back}
+use Rattle.dir_rules.proofs.BlockParts.{length-slot-bytes}
 use Rattle.dir_rules.proofs.RecordPlaces.{Split}
 use Rattle.dir_rules.proofs.GoodParts.{tally-length}
 use Rattle.dir_rules.proofs.EntryMore.{entry-name, entry-number}
 use Rattle.dir_rules.proofs.InsertGood.{new-records, new-entry, new-entries}
-use Rattle.dir_rules.proofs.AcceptedParts.{Found-in, keep-find, fit-of, build-of, good-of}
-use Rattle.dir_rules.proofs.ChangeAccepted.{After, Free, free-writes, insert-free, free-a, free-b, free-d, longest-in}
+use Rattle.dir_rules.proofs.AcceptedParts.{Found-in, keep-find, fit-of, good-of, end-of-data}
+use Rattle.dir_rules.proofs.ChangeAccepted.{After, longest-in}
+use Rattle.dir_rules.proofs.InsertFree.{Free, free-writes, insert-free, free-a, free-b, free-d, Asked, asked-small}
 use Rattle.dir_rules.proofs.RemoveAccepted.{snoc}
 use Rattle.dir_rules.proofs.InsertCaseC.{insert-c, records-c, writes-of-c, index-c, behind, entries-old}
 
@@ -39,6 +39,7 @@ pub record Inserted (e : Edition) (b n : List ℕ) (i : ℕ) (c : List ℕ) : Ty
   pub new : Rec
   pub accepted : Accepted e c
   pub long : length c ≡ length b
+  pub best-is : best-pairs e c ≡ best-table (gaps (records e c))
   pub old-entries : entries (records e b) ≡ before ++ behind
   pub new-entries-are : entries (records e c) ≡ before ++ new ∷ behind
   pub named : name new ≡ n
@@ -80,25 +81,28 @@ last-behind o rs ws t q zs g (x ∷ vs) r ne =
     let same : s .0 .here ≡ t = sym (last-is o (zs ++ (g ∷ s .0 .before)) (s .0 .here)) ∙ ap (last-of o) (sym all ∙ q) ∙ last-is o ws t in
     (s .0 .before, is ∙ ap (λ (y : Rec). s .0 .before ++ (y ∷ [])) same)
 
-module _ (e : Edition) (sane : Sane e) (b : List ℕ) (h : bytes b ≡ true) (a : Accepted e b) (i : ℕ) (n : List ℕ) (nb : bytes n ≡ true)
-    (lg : legal-name e n ≡ true) (ln : legal-number i ≡ true) (ib : i < 2 ^ 56) (fx : fixed-name n ≡ false)
-    (ab : some-of (λ r. same-name e n (name r)) (entries (records e b)) ≡ false) where
-  from-free : (xs : List Rec) (c : List ℕ) (ys : List Rec) (r : List ℕ) (o : ℕ) (ts : List Slot) (m : ℕ) (f : Free e sane b h a i n nb lg ln ib fx ab xs c ys r o ts m)
-      → Inserted e b n i (changed e b (free-writes e sane b h a i n nb lg ln ib fx ab xs c ys r o ts m f))
+-- s ≥ 1, as a number
+stale-least : (m : Room) → some-stale m ≡ true → 1 ≤ m .stale
+stale-least m q = omega (arith, leb-true)
+
+module _ (e : Edition) (sane : Sane e) (b : List ℕ) (h : bytes b ≡ true) (a : Accepted e b) (i : ℕ) (n : List ℕ) (ask : Asked e b n i) where
+  from-free : (xs : List Rec) (c : List ℕ) (ys : List Rec) (r : List ℕ) (o : ℕ) (ts : List Slot) (m : ℕ) (f : Free e sane b h a i n ask xs c ys r o ts m)
+      → Inserted e b n i (changed e b (free-writes e sane b h a i n ask xs c ys r o ts m f))
   unfolding new-entry
   from-free xs c ys r o ts m f =
-      let w : After e b (changed e b (free-writes e sane b h a i n nb lg ln ib fx ab xs c ys r o ts m f)) (new-records e sane i n xs c ys o) _ m =
-      insert-free e sane b h a i n nb lg ln ib fx ab xs c ys r o ts m f in
+      let w : After e b (changed e b (free-writes e sane b h a i n ask xs c ys r o ts m f)) (new-records e sane i n xs c ys o) _ m =
+      insert-free e sane b h a i n ask xs c ys r o ts m f in
       record {
         before = entries xs;
         behind = entries ys;
         new = new-entry e sane i n xs c ys o;
         accepted = w .accepted;
         long = w .long;
+        best-is = w .best-is;
         old-entries = f .entries-old;
-        new-entries-are = ap entries (w .records-are) ∙ new-entries e sane i n xs c ys o ib;
+        new-entries-are = ap entries (w .records-are) ∙ new-entries e sane i n xs c ys o (asked-small e b n i ask);
         named = entry-name e o i n;
-        numbered = entry-number e o i n (omega arith);
+        numbered = entry-number e o i n (omega (arith, asked-small e b n i ask));
       }
 
   need : ℕ
@@ -108,15 +112,15 @@ module _ (e : Edition) (sane : Sane e) (b : List ℕ) (h : bytes b ≡ true) (a 
   unfolding room writes-a
   by-a q =
       let G : List Rec = gaps (records e b) in
-      let s : 1 ≤ stale-of b = leb-true 1 (stale-of b) (and-left (leb 1 (stale-of b)) (leb (entry-size e (length n)) (size (longest G))) q) in
-      let f : entry-size e (length n) ≤ size (longest G) = leb-true (entry-size e (length n)) (size (longest G)) (and-right (leb 1 (stale-of b)) (leb (entry-size e (length n)) (size (longest G))) q) in
+      let s : 1 ≤ stale-of b = stale-least (room e b n) (and-left (some-stale (room e b n)) (leb (entry-size e (length n)) (size (longest G))) q) in
+      let f : entry-size e (length n) ≤ size (longest G) = leb-true (entry-size e (length n)) (size (longest G)) (and-right (some-stale (room e b n)) (leb (entry-size e (length n)) (size (longest G))) q) in
       let t : (t : Split G) × (t .here ≡ longest G) = longest-in G (omega (arith, entry-size-least e (length n))) in
       let g : Rec = t .0 .here in
       let k : Found-in is-gap (records e b) (t .0 .before) g (t .0 .behind) = keep-find is-gap (records e b) (t .0 .before) g (t .0 .behind) (t .0 .is) in
       subst (λ (g : Rec). Inserted e b n i (changed e b (entry-writes e i n (g .off) (g .off + size g)
       ++ index-writes (length b) (insert-slot (slot (hash-of e n) (g .off / 8)) (without-first is-stale (slots b))) (stale-of b - 1)))) (t .1)
       (from-free (k .before) (g .raw) (k .behind) _ (g .off) (without-first is-stale (slots b)) (stale-of b - 1)
-      (free-a e sane b h a i n nb lg ln ib fx ab (k .before) g (k .behind) (k .is) (k .passes) (subst (λ (z : Rec). entry-size e (length n) ≤ size z) (sym (t .1)) f) s))
+      (free-a e sane b h a i n ask (k .before) g (k .behind) (k .is) (k .passes) (subst (λ (z : Rec). entry-size e (length n) ≤ size z) (sym (t .1)) f) s))
 
   -- the writes of (b), (c) and (d), over T and the gap
   abbrev wd : Rec → ℕ → List Write
@@ -128,9 +132,6 @@ module _ (e : Edition) (sane : Sane e) (b : List ℕ) (h : bytes b ≡ true) (a 
   abbrev T : Rec
   T = touching (data-end b) (records e b)
 
-  end-is : data-end b ≡ e .header + length (join (records e b))
-  end-is = ap data-end (sym (build-of e sane b h a)) ∙ build-end e (take (e .header) b) (records e b) (slots b) (stale-of b) (fit-of e sane b h a)
-
   go-d : Touch (data-end b) (records e b) → stale-of b ≡ 0 → entry-size e (length n) + 8 ≤ size T → Inserted e b n i (changed e b (wd T (T .off + size T - 8)))
   go-d (unreal tq) z f = absurd (omega (arith, ap size tq, f))
   go-d (real xs t q gp tq) z f =
@@ -138,7 +139,7 @@ module _ (e : Edition) (sane : Sane e) (b : List ℕ) (h : bytes b ≡ true) (a 
       let l : t .off + length (take (size t - 8) (t .raw)) ≡ t .off + size t - 8 = rw length-take (omega arith) in
       subst (λ (x : Rec). Inserted e b n i (changed e b (wd x (x .off + size x - 8)))) (sym tq)
       (subst (λ (u : ℕ). Inserted e b n i (changed e b (wd t u))) l
-      (from-free xs (take (size t - 8) (t .raw)) [] _ (t .off) (slots b) 0 (free-d e sane b h a i n nb lg ln ib fx ab xs t q gp f′ z)))
+      (from-free xs (take (size t - 8) (t .raw)) [] _ (t .off) (slots b) 0 (free-d e sane b h a i n ask xs t q gp f′ z)))
 
   by-d : case-d (room e b n) ≡ true → Inserted e b n i (changed e b (writes-d e b n i (room e b n)))
   unfolding room writes-d
@@ -155,12 +156,12 @@ module _ (e : Edition) (sane : Sane e) (b : List ℕ) (h : bytes b ≡ true) (a 
   go-b (unreal tq) z f =
       let k : ℕ = 8 * (stale-of b - 1) in
       let f′ : entry-size e (length n) ≤ 0 + k = omega (arith, ap size tq, f) in
-      let o : e .header + length (join (records e b)) ≡ T .off = sym end-is ∙ ap (λ (x : Rec). x .off) (sym tq) in
+      let o : e .header + length (join (records e b)) ≡ T .off = sym (end-of-data e sane b h a) ∙ ap (λ (x : Rec). x .off) (sym tq) in
       let u : e .header + length (join (records e b)) + length (take k (slot-bytes (slots b))) ≡ T .off + size T + k = rw length-take (omega (arith, o, ap size tq, slots-room)) in
       subst (λ (x : ℕ). Inserted e b n i (changed e b (wb x (T .off + size T + k)))) o
       (subst (λ (x : ℕ). Inserted e b n i (changed e b (wb (e .header + length (join (records e b))) x))) u
       (from-free (records e b) (take k (slot-bytes (slots b))) [] _ (e .header + length (join (records e b))) (keep is-live (slots b)) 0
-      (free-b e sane b h a i n nb lg ln ib fx ab (records e b) [] (sym (append-nil (records e b))) refl f′ z)))
+      (free-b e sane b h a i n ask (records e b) [] (sym (append-nil (records e b))) refl f′ z)))
   go-b (real xs t q gp tq) z f =
       let k : ℕ = 8 * (stale-of b - 1) in
       let w : Laid e (e .header + length (join xs)) (t ∷ []) = laid-back e (e .header) xs (t ∷ []) (subst (λ (l : List Rec). Laid e (e .header) l) q (fit-of e sane b h a .laid)) in
@@ -173,14 +174,14 @@ module _ (e : Edition) (sane : Sane e) (b : List ℕ) (h : bytes b ≡ true) (a 
       subst (λ (x : ℕ). Inserted e b n i (changed e b (wb x (T .off + size T + k)))) o
       (subst (λ (x : ℕ). Inserted e b n i (changed e b (wb (e .header + length (join xs)) x))) u
       (from-free xs c [] _ (e .header + length (join xs)) (keep is-live (slots b)) 0
-      (free-b e sane b h a i n nb lg ln ib fx ab xs (t ∷ []) q (rw gp) f′ z)))
+      (free-b e sane b h a i n ask xs (t ∷ []) q (rw gp) f′ z)))
 
   by-b : case-b (room e b n) ≡ true → Inserted e b n i (changed e b (writes-b e b n i (room e b n)))
   unfolding room writes-b
   by-b q =
-      let s : Bool = leb 1 (stale-of b) in
+      let s : Bool = some-stale (room e b n) in
       let f : Bool = leb (entry-size e (length n)) (size T + 8 * (stale-of b - 1)) in
-      go-b (touch (data-end b) (records e b)) (leb-true 1 (stale-of b) (and-left s f q))
+      go-b (touch (data-end b) (records e b)) (stale-least (room e b n) (and-left s f q))
       (leb-true (entry-size e (length n)) (size T + 8 * (stale-of b - 1)) (and-right s f q))
 
   abbrev wc : Rec → Rec → List Write
@@ -191,17 +192,18 @@ module _ (e : Edition) (sane : Sane e) (b : List ℕ) (h : bytes b ≡ true) (a 
       → entry-size e (length n) ≤ size g → 8 ≤ size t → stale-of b ≡ 0 → Inserted e b n i (changed e b (wc g t))
   unfolding new-entry records-c writes-of-c index-c behind
   from-c xs g ys t q gp tp f k z =
-      let w : After e b (changed e b (wc g t)) _ _ 0 = insert-c e sane b h a i n nb lg ln ib fx ab xs g ys t q gp tp f k z in
+      let w : After e b (changed e b (wc g t)) _ _ 0 = insert-c e sane b h a i n ask xs g ys t q gp tp f k z in
       record {
         before = entries xs;
-        behind = entries (behind e sane b h a i n nb lg ln ib fx ab xs g ys t q gp tp f k z);
+        behind = entries (behind e sane b h a i n ask xs g ys t q gp tp f k z);
         new = new-entry e sane i n xs (g .raw) ys (g .off);
         accepted = w .accepted;
         long = w .long;
-        old-entries = entries-old e sane b h a i n nb lg ln ib fx ab xs g ys t q gp tp f k z;
-        new-entries-are = ap entries (w .records-are) ∙ new-entries e sane i n xs (g .raw) (behind e sane b h a i n nb lg ln ib fx ab xs g ys t q gp tp f k z) (g .off) ib;
+        best-is = w .best-is;
+        old-entries = entries-old e sane b h a i n ask xs g ys t q gp tp f k z;
+        new-entries-are = ap entries (w .records-are) ∙ new-entries e sane i n xs (g .raw) (behind e sane b h a i n ask xs g ys t q gp tp f k z) (g .off) (asked-small e b n i ask);
         named = entry-name e (g .off) i n;
-        numbered = entry-number e (g .off) i n (omega arith);
+        numbered = entry-number e (g .off) i n (omega (arith, asked-small e b n i ask));
       }
 
   go-c : Touch (data-end b) (records e b) → stale-of b ≡ 0 → 8 ≤ size T → entry-size e (length n) ≤ size (longest (besides (T .off) (gaps (records e b))))

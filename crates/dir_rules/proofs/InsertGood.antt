@@ -1,35 +1,28 @@
 -- An insert leaves good parts: (a), (b) and (d) of the room rule at once, over where the free bytes lie.
 -- Assumes nothing.
-use Prim.Native.Nat.{ℕ, zero, suc, _+_, _-_, _*_, _/_, _%_, _^_, _≤_, _<_}
-use native.Mathlib.Nat.{add-zero, zero-add, add-assoc, le-refl}
+use Prim.Native.Nat.{ℕ, _+_, _/_, _%_, _^_, _≤_, _<_}
 use native.Mathlib.Omega.{arith}
-use mathlib.Core.Bool.{Bool, true, false, not, _&&_, _||_, cond, true≢false, false≢true}
-use mathlib.Core.Path.{_≡_, refl, sym, _∙_, ap, ap₂, subst}
-use mathlib.Core.List.{List, [], _∷_, _++_, map, append-assoc, append-nil}
-use lib.Dec.{eqb, leb, ltb}
-use lib.ListN.{length, take, drop, length-append, length-take, length-drop, take-append-drop}
-use borrow.Author.Tests.{ltb-true}
-use Rattle.name.proofs.Hashing.{hash-lt}
-use Rattle.edition.proofs.Sizes.{entry-size-eights, entry-size-least}
-use Rattle.be.specs.Lists.{every, some-of, keep, tally}
-use Rattle.be.specs.Bytes.{bytes, be, be-from, to-be, written, Write}
+use mathlib.Core.Bool.{true, false}
+use mathlib.Core.Path.{_≡_, refl, _∙_, ap, subst}
+use mathlib.Core.List.{List, [], _∷_, _++_}
+use lib.ListN.{length, drop, length-drop}
+use Rattle.edition.proofs.Sizes.{entry-size-eights}
+use Rattle.be.specs.Lists.{some-of}
+use Rattle.be.specs.Bytes.{be, be-from}
 use Rattle.edition.specs.declared.Edition.{Edition}
 use Rattle.edition.specs.Edition.{entry-size, Sane}
 use Rattle.name.specs.Name.{hash-of, same-name, legal-name, legal-number, fixed-name}
-use Rattle.dir_rules.specs.Record.{Rec, rec, size, is-gap, is-entry, entries, apart, gap-start, name, number, entry-bytes}
-use Rattle.dir_rules.specs.Block.{Slot, slot, slot-bytes}
-use Rattle.dir_rules.specs.Change.{entry-writes, index-writes, insert-slot}
-use Rattle.be.proofs.Bools.{and-left, and-right, and-both, by-cases}
-use Rattle.dir_rules.proofs.CutJoin.{join, Laid, Whole, join-append, laid-append, laid-front, laid-back}
-use Rattle.dir_rules.proofs.BlockParts.{build, Fit, SlotsFit, tail-bytes, length-slot-bytes}
-use Rattle.dir_rules.proofs.WritesLeave.{free, Gapful, length-free, gap-raw, entry-no-gap}
-use Rattle.dir_rules.proofs.IndexedEntries.{Indexed, Kept, addr-of}
+use Rattle.dir_rules.specs.Record.{Rec, rec, is-entry, entries, apart, gap-start, name, number, entry-bytes}
+use Rattle.dir_rules.specs.Block.{Slot, slot}
+use Rattle.dir_rules.specs.Change.{insert-slot}
+use Rattle.dir_rules.proofs.CutJoin.{join, Laid, laid-append}
+use Rattle.dir_rules.proofs.WritesLeave.{free, Gapful, gap-raw, entry-no-gap}
+use Rattle.dir_rules.proofs.IndexedEntries.{Kept}
 use Rattle.dir_rules.proofs.OneMore.{keep-append}
 use Rattle.dir_rules.proofs.GoodParts.{Good}
 use Rattle.dir_rules.proofs.EntryMore.{good-insert, entry-name, entry-number}
-use Rattle.dir_rules.proofs.InsertWrites.{placed, placed-laid, length-placed, inserted, join-three}
-use Rattle.dir_rules.proofs.GapsApart.{Follows, follows, from-follows, weaken, last-gap?, follows-front, follows-back, follows-append, follows-entry}
-use Rattle.dir_rules.proofs.AcceptedParts.{fit-insert}
+use Rattle.dir_rules.proofs.InsertWrites.{placed, placed-laid, length-placed}
+use Rattle.dir_rules.proofs.GapsApart.{Follows, from-follows, weaken, last-gap?, follows-append, follows-entry}
 
 pub gapful : (d : List ℕ) → length d % 8 ≡ 0 → Gapful d
 gapful [] h = tt

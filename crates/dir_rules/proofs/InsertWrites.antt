@@ -1,23 +1,20 @@
 -- An insert by a case of the room rule, on a block put together from parts: what its writes leave.
 -- Assumes nothing.
-use Prim.Native.Nat.{ℕ, zero, suc, _+_, _-_, _*_, _/_, _%_, _^_, _≤_, _<_}
-use native.Mathlib.Nat.{add-zero, zero-add, add-assoc, le-refl}
+use Prim.Native.Nat.{ℕ, _+_, _*_, _^_, _≤_, _<_}
 use native.Mathlib.Omega.{arith}
-use mathlib.Core.Bool.{Bool, true, false, not, _&&_, _||_, cond, true≢false, false≢true}
-use mathlib.Core.Path.{_≡_, refl, sym, _∙_, ap, ap₂, subst}
-use mathlib.Core.List.{List, [], _∷_, _++_, map, append-assoc, append-nil}
-use lib.ListN.{length, take, drop, length-append, length-take, length-drop, take-append-drop}
-use Rattle.be.specs.Bytes.{to-be, written, Write}
+use mathlib.Core.Path.{_≡_, refl, sym, _∙_, ap}
+use mathlib.Core.List.{List, _∷_, _++_, append-assoc}
+use lib.ListN.{length, drop, length-append, length-drop}
+use Rattle.be.specs.Bytes.{written}
 use Rattle.edition.specs.declared.Edition.{Edition}
 use Rattle.edition.specs.Edition.{entry-size}
-use Rattle.dir_rules.specs.Record.{Rec, rec, size, is-gap, is-entry, entries, apart, gap-start, entry-bytes, gap-writes}
+use Rattle.dir_rules.specs.Record.{Rec, rec, entry-bytes}
 use Rattle.dir_rules.specs.Block.{Slot, slot-bytes}
 use Rattle.dir_rules.specs.Change.{entry-writes, index-writes}
-use Rattle.dir_rules.proofs.CutJoin.{join, Laid, Whole, join-append, laid-append, laid-front, laid-back, laid-replaced}
-use Rattle.dir_rules.proofs.BlockParts.{build, tail-bytes, length-slot-bytes}
-use Rattle.be.proofs.Numbers.{length-to-be}
+use Rattle.dir_rules.proofs.CutJoin.{join, Laid, join-append}
+use Rattle.dir_rules.proofs.BlockParts.{build, tail-bytes}
 use Rattle.be.proofs.Writes.{length-written}
-use Rattle.dir_rules.proofs.WritesLeave.{written-append, entry-written, index-written, gap-written, free, Gapful, length-free, free-laid, entry-whole, length-entry-bytes}
+use Rattle.dir_rules.proofs.WritesLeave.{written-append, entry-written, index-written, free, Gapful, length-free, free-laid, entry-whole, length-entry-bytes}
 
 -- the records that an entry of name n and number i at offset o leaves of the free bytes c
 abbrev pub placed : Edition → ℕ → ℕ → List ℕ → List ℕ → List Rec
@@ -36,7 +33,7 @@ placed-laid e o i n c h g k l = (
   rw (length-entry-bytes e o i n) (free-laid e (o + entry-size e (length n)) (drop (entry-size e (length n)) c) g (simp length-drop (omega arith)) (omega arith)),
 )
 
-regroup : (hd a m y r : List ℕ) → hd ++ a ++ (m ++ (y ++ r)) ≡ hd ++ (a ++ (m ++ y)) ++ r
+pub regroup : (hd a m y r : List ℕ) → hd ++ a ++ (m ++ (y ++ r)) ≡ hd ++ (a ++ (m ++ y)) ++ r
 regroup hd a m y r = simp append-assoc
 
 pub join-three : (xs ms ys : List Rec) → join (xs ++ (ms ++ ys)) ≡ join xs ++ (join ms ++ join ys)

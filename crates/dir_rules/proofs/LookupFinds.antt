@@ -1,37 +1,36 @@
 -- What a search in an accepted block finds, and the removal of what it finds.
 -- Assumes nothing.
-use Prim.Native.Nat.{ℕ, zero, suc, _+_, _-_, _*_, _/_, _%_, _≤_, _<_}
-use native.Mathlib.Nat.{add-zero, zero-add, add-assoc, le-refl, le-of-eq}
+use Prim.Native.Nat.{ℕ, _+_, _-_, _*_, _≤_}
+use native.Mathlib.Nat.{zero-add, le-of-eq}
 use native.Mathlib.Omega.{arith}
-use mathlib.Core.Bool.{Bool, true, false, not, _&&_, _||_, cond, true≢false, false≢true}
-use mathlib.Core.Path.{_≡_, refl, sym, _∙_, ap, ap₂, subst}
-use mathlib.Core.List.{List, [], _∷_, _++_, map, append-assoc, append-nil}
+use mathlib.Core.Bool.{true, false}
+use mathlib.Core.Path.{_≡_, sym, _∙_, ap, ap₂, subst}
+use mathlib.Core.List.{List, [], _∷_, _++_, append-assoc, append-nil}
 use lib.Dec.{eqb}
 use lib.ListN.{length, length-append}
 use borrow.Author.Tests.{eqb-true, not-true}
-use Rattle.be.specs.Lists.{every, some-of, keep}
+use Rattle.be.specs.Lists.{every, some-of}
 use Rattle.be.specs.Bytes.{bytes, to-be, Write, write}
 use Rattle.edition.specs.declared.Edition.{Edition}
 use Rattle.edition.specs.Edition.{entry-size, Sane}
 use Rattle.name.specs.Name.{hash-of, same-name, fixed-name}
 use Rattle.dir_rules.specs.Record.{Rec, rec, size, is-gap, is-entry, entries, gaps, name, number, gap-writes}
-use Rattle.dir_rules.specs.Block.{Slot, slot, records, slots, stale-of, data-end}
-use Rattle.dir_rules.specs.Verdict.{Accepted}
-use Rattle.dir_rules.specs.Lookup.{Sought, sought, seek, number-at}
-use Rattle.dir_rules.specs.Change.{changed, gap-start-before, gap-end-after, remove-writes}
-use Rattle.be.proofs.Bools.{and-left, and-right, and-both, by-cases}
-use Rattle.dir_rules.proofs.CutJoin.{join, Laid, Whole, join-append}
+use Rattle.dir_rules.specs.Block.{records, slots, stale-of, data-end}
+use Rattle.dir_rules.specs.Verdict.{Accepted, best-pairs}
+use Rattle.dir_rules.specs.Lookup.{sought, number-at}
+use Rattle.dir_rules.specs.Change.{changed, gap-start-before, gap-end-after, remove-writes, best-table}
+use Rattle.dir_rules.proofs.CutJoin.{join, Laid, join-append}
 use Rattle.dir_rules.proofs.WritesLeave.{free, gap-raw, length-gap-raw}
 use Rattle.dir_rules.proofs.InsertGood.{gap-raw-gap}
 use Rattle.dir_rules.proofs.IndexedEntries.{addr-of}
 use Rattle.dir_rules.proofs.OneMore.{keep-append}
 use Rattle.dir_rules.proofs.RecordPlaces.{Split, every-at}
-use Rattle.dir_rules.proofs.SearchFinds.{match, First, seek-hit, seek-first, Owner, match-owner, hit-is}
+use Rattle.dir_rules.proofs.SearchFinds.{First, seek-hit, seek-first, Owner, match-owner, hit-is}
 use Rattle.dir_rules.proofs.PartsAddUp.{entry-long}
-use Rattle.dir_rules.proofs.BooksAgree.{same-name-eq}
-use Rattle.dir_rules.proofs.AcceptedParts.{Found-in, keep-find, fit-of, good-of, apart-of, reads-of, place-of, number-of}
+use Rattle.name.proofs.Same.{same-name-length, same-name-fixed}
+use Rattle.dir_rules.proofs.AcceptedParts.{Found-in, keep-find, good-of, apart-of, reads-of, place-of, number-of}
 use Rattle.dir_rules.proofs.ChangeAccepted.{After}
-use Rattle.dir_rules.proofs.RemoveAccepted.{Front, Back, fr, bk, from, freed, left, stale-slots, free-writes, remove-entry, freed-long, entries-before, entries-left}
+use Rattle.dir_rules.proofs.RemoveAccepted.{Removable, Front, Back, fr, bk, from, freed, left, stale-slots, free-writes, remove-entry, freed-long, entries-before, entries-left}
 
 -- the freed bytes are a gap among the gaps
 free-gap : (ws : List Rec) (o : ℕ) (c : List ℕ) (zs : List Rec) → 8 ≤ length c → (t : Split (gaps (ws ++ (free o c ++ zs)))) × (length c ≤ size (t .here))
@@ -53,6 +52,7 @@ pub record Removed (e : Edition) (b n c : List ℕ) : Type 0 where
   pub behind : List Rec
   pub accepted : Accepted e c
   pub long : length c ≡ length b
+  pub best-is : best-pairs e c ≡ best-table (gaps (records e c))
   pub old-entries : entries (records e b) ≡ before ++ gone ∷ behind
   pub new-entries-are : entries (records e c) ≡ before ++ behind
   pub of-name : same-name e n (name gone) ≡ true
@@ -60,27 +60,37 @@ pub record Removed (e : Edition) (b n c : List ℕ) : Type 0 where
   pub gap-split : Split (gaps (records e c))
   pub gap-long : entry-size e (length n) ≤ size (gap-split .here)
 
-module _ (e : Edition) (sane : Sane e) (b : List ℕ) (h : bytes b ≡ true) (a : Accepted e b)
-    (xs : List Rec) (r : Rec) (ys : List Rec) (q : records e b ≡ xs ++ (r ∷ ys)) (en : is-entry r ≡ true) (fx : fixed-name (name r) ≡ false)
-    (us : List Slot) (s : Slot) (vs : List Slot) (sq : slots b ≡ us ++ s ∷ vs) (sa : s .addr ≡ addr-of r)
-    (n : List ℕ) (sn : same-name e n (name r) ≡ true) (fa : sought e b n .at ≡ r .off) (fp : sought e b n .place ≡ length us) where
+module _ (e : Edition) (sane : Sane e) (b : List ℕ) (h : bytes b ≡ true) (a : Accepted e b) (p : Removable e b)
+    (n : List ℕ) (sn : same-name e n (name (p .entry)) ≡ true) (fa : sought e b n .at ≡ p .entry .off) (fp : sought e b n .place ≡ length (p .slots-before)) where
+  abbrev xs : List Rec
+  xs = p .before
+
+  abbrev r : Rec
+  r = p .entry
+
+  abbrev ys : List Rec
+  ys = p .behind
+
+  q : records e b ≡ xs ++ (r ∷ ys)
+  q = p .record-is
+
   F : Front e (e .header) xs (r ∷ ys)
-  F = fr e sane b h a xs r ys q en fx us s vs sq sa
+  F = fr e sane b h a p
 
   B : Back e (e .header) (xs ++ (r ∷ [])) ys
-  B = bk e sane b h a xs r ys q en fx us s vs sq sa
+  B = bk e sane b h a p
 
   here : Laid e (e .header + length (join xs)) (r ∷ ys)
   here = place-of e sane b h a xs (r ∷ []) ys q
 
   long-r : size r ≡ entry-size e (length n)
-  long-r = entry-long e r (here .1) (not-true (is-gap r) en) ∙ ap (λ (m : List ℕ). entry-size e (length m)) (sym (same-name-eq e n (name r) sn))
+  long-r = entry-long e r (here .1) (not-true (is-gap r) (p .no-gap)) ∙ ap (entry-size e) (sym (same-name-length e n (name r) sn))
 
   o : ℕ
-  o = from e sane b h a xs r ys q en fx us s vs sq sa
+  o = from e sane b h a p
 
   c : List ℕ
-  c = freed e sane b h a xs r ys q en fx us s vs sq sa
+  c = freed e sane b h a p
 
   o-is : gap-start-before (sought e b n .at) (gaps (records e b)) ≡ o
   unfolding o F
@@ -96,7 +106,7 @@ module _ (e : Edition) (sane : Sane e) (b : List ℕ) (h : bytes b ≡ true) (a 
       let start : sought e b n .at + entry-size e (length n) ≡ e .header + length (join (xs ++ (r ∷ []))) = omega (arith, fa, here .0, jl, long-r) in
       ap₂ (λ (m : ℕ) (l : List Rec). gap-end-after m (gaps l)) start all ∙ B .stop ∙ omega (arith, jl, xl, cl)
 
-  same-writes : free-writes e sane b h a xs r ys q en fx us s vs sq sa ≡ remove-writes e b n
+  same-writes : free-writes e sane b h a p ≡ remove-writes e b n
   unfolding remove-writes o c
   same-writes =
       sym (ap₂ (λ (x y : ℕ). gap-writes x (y - x) ++ (write (data-end b + 8 * sought e b n .place + 4) (to-be 4 0) ∷ write (length b - 4) (to-be 4 (stale-of b + 1)) ∷ [])) o-is u-is
@@ -108,13 +118,13 @@ module _ (e : Edition) (sane : Sane e) (b : List ℕ) (h : bytes b ≡ true) (a 
   pub removed-at : Removed e b n (changed e b (remove-writes e b n))
   unfolding o c
   removed-at =
-      let w : After e b (changed e b (free-writes e sane b h a xs r ys q en fx us s vs sq sa)) (left e sane b h a xs r ys q en fx us s vs sq sa) (stale-slots e sane b h a xs r ys q en fx us s vs sq sa) (stale-of b + 1) =
-      remove-entry e sane b h a xs r ys q en fx us s vs sq sa in
-      let g : (t : Split (gaps (left e sane b h a xs r ys q en fx us s vs sq sa))) × (entry-size e (length n) ≤ size (t .here)) =
-      let f : size r ≤ length (freed e sane b h a xs r ys q en fx us s vs sq sa) = freed-long e sane b h a xs r ys q en fx us s vs sq sa in
-      let z : (t : Split (gaps (left e sane b h a xs r ys q en fx us s vs sq sa))) × (length (freed e sane b h a xs r ys q en fx us s vs sq sa) ≤ size (t .here)) =
-      free-gap (fr e sane b h a xs r ys q en fx us s vs sq sa .rest) (from e sane b h a xs r ys q en fx us s vs sq sa) (freed e sane b h a xs r ys q en fx us s vs sq sa)
-      (bk e sane b h a xs r ys q en fx us s vs sq sa .rest) (omega (arith, f, here .1 .least)) in
+      let w : After e b (changed e b (free-writes e sane b h a p)) (left e sane b h a p) (stale-slots e sane b h a p) (stale-of b + 1) =
+      remove-entry e sane b h a p in
+      let g : (t : Split (gaps (left e sane b h a p))) × (entry-size e (length n) ≤ size (t .here)) =
+      let f : size r ≤ length (freed e sane b h a p) = freed-long e sane b h a p in
+      let z : (t : Split (gaps (left e sane b h a p))) × (length (freed e sane b h a p) ≤ size (t .here)) =
+      free-gap (fr e sane b h a p .rest) (from e sane b h a p) (freed e sane b h a p)
+      (bk e sane b h a p .rest) (omega (arith, f, here .1 .least)) in
       (z .0, omega (arith, f, z .1, long-r)) in
       subst (λ (z : List Write). Removed e b n (changed e b z)) same-writes
       (record {
@@ -123,8 +133,9 @@ module _ (e : Edition) (sane : Sane e) (b : List ℕ) (h : bytes b ≡ true) (a 
         behind = entries ys;
         accepted = w .accepted;
         long = w .long;
-        old-entries = entries-before e sane b h a xs r ys q en fx us s vs sq sa;
-        new-entries-are = ap entries (w .records-are) ∙ entries-left e sane b h a xs r ys q en fx us s vs sq sa;
+        best-is = w .best-is;
+        old-entries = entries-before e sane b h a p;
+        new-entries-are = ap entries (w .records-are) ∙ entries-left e sane b h a p;
         of-name = sn;
         one-more = w .stale-is;
         gap-split = record { before = g .0 .before; here = g .0 .here; behind = g .0 .behind; is = ap gaps (w .records-are) ∙ g .0 .is };
@@ -172,7 +183,17 @@ module _ (e : Edition) (sane : Sane e) (b : List ℕ) (h : bytes b ≡ true) (a 
     removed-of fx =
         let t : Split (entries (records e b)) = owned .0 .split in
         let k : Found-in is-entry (records e b) (t .before) (t .here) (t .behind) = keep-find is-entry (records e b) (t .before) (t .here) (t .behind) (t .is) in
-        removed-at e sane b h a (k .before) (t .here) (k .behind) (k .is) (k .passes)
-        (subst (λ (m : List ℕ). fixed-name m ≡ false) (same-name-eq e n (name (t .here)) (owned .1)) fx)
-        (first .split .before) (first .split .here) (first .split .behind) (first .split .is) (sym (owned .0 .addr-is))
-        n (owned .1) at-spot (first .place-is ∙ zero-add (length (first .split .before)))
+        let p : Removable e b = record {
+          before = k .before;
+          entry = t .here;
+          behind = k .behind;
+          record-is = k .is;
+          no-gap = k .passes;
+          not-fixed = sym (same-name-fixed e n (name (t .here)) (owned .1)) ∙ fx;
+          slots-before = first .split .before;
+          own = first .split .here;
+          slots-behind = first .split .behind;
+          slot-is = first .split .is;
+          addr-is = sym (owned .0 .addr-is);
+        } in
+        removed-at e sane b h a p n (owned .1) at-spot (first .place-is ∙ zero-add (length (first .split .before)))

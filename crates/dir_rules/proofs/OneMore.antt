@@ -1,14 +1,13 @@
 -- Tests over a list with one element more in its middle.
 -- Assumes nothing.
-use Prim.Native.Nat.{ℕ, zero, suc, _+_, _≤_, _<_}
+use Prim.Native.Nat.{ℕ, suc, _+_}
 use native.Mathlib.Omega.{arith}
 use mathlib.Core.Bool.{Bool, true, false, not, _&&_, _||_, cond, true≢false}
-use mathlib.Core.Path.{_≡_, refl, sym, _∙_, ap, ap₂, subst}
+use mathlib.Core.Path.{_≡_, refl, _∙_, ap}
 use mathlib.Core.List.{List, [], _∷_, _++_}
-use lib.Dec.{eqb}
-use lib.ListN.{length, length-append}
-use borrow.Author.Tests.{eqb-true, eq-eqb, ne-eqb, eqb-false}
-use Rattle.be.specs.Lists.{every, some-of, tally, total, keep, same}
+use lib.ListN.{length}
+use Rattle.name.proofs.Same.{same-name-swap}
+use Rattle.be.specs.Lists.{every, some-of, tally, total, keep}
 use Rattle.edition.specs.declared.Edition.{Edition}
 use Rattle.name.specs.Name.{same-name}
 use Rattle.dir_rules.specs.Record.{Rec, name}
@@ -61,21 +60,6 @@ module _ {A : Type 0} where
   pub some-none : (p : A → Bool) (xs : List A) → some-of p xs ≡ false → every (λ x. not (p x)) xs ≡ true
   some-none p [] h = refl
   some-none p (x ∷ xs) h = by-cases (p x) (λ q. absurd (true≢false (rw q at h))) (λ q. rw q (some-none p xs (rw q at h)))
-
--- names are the same either way round
-eqb-swap : (a b : ℕ) → eqb a b ≡ eqb b a
-eqb-swap a b =
-    by-cases (eqb a b) (λ q. q ∙ sym (eq-eqb b a (sym (eqb-true a b q)))) (λ q. q ∙ sym (ne-eqb b a (λ (z : b ≡ a). eqb-false a b q (sym z))))
-
-pub same-swap : (xs ys : List ℕ) → same xs ys ≡ same ys xs
-same-swap [] [] = refl
-same-swap [] (y ∷ ys) = refl
-same-swap (x ∷ xs) [] = refl
-same-swap (x ∷ xs) (y ∷ ys) = ap₂ (λ (a b : Bool). a && b) (eqb-swap x y) (same-swap xs ys)
-
-pub same-name-swap : (e : Edition) (n m : List ℕ) → same-name e n m ≡ same-name e m n
-unfolding same-name
-same-name-swap e n m = same-swap n m
 
 -- no other record has its name
 abbrev pub alone : Edition → Rec → List Rec → Bool

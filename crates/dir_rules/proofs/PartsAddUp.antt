@@ -1,17 +1,17 @@
 -- Demand 3's sum, of every accepted block.
 -- Assumes nothing.
-use Prim.Native.Nat.{ℕ, zero, suc, _+_, _-_, _*_, _/_, _%_, _≤_, _<_}
+use Prim.Native.Nat.{ℕ, _+_}
 use native.Mathlib.Omega.{arith}
-use mathlib.Core.Bool.{Bool, true, false, not, cond}
+use mathlib.Core.Bool.{true, false}
 use mathlib.Core.Path.{_≡_, refl, sym, _∙_, ap}
-use mathlib.Core.List.{List, [], _∷_, _++_}
-use lib.ListN.{length, take, drop, getD, length-append, length-take, length-drop}
-use Rattle.be.specs.Lists.{total, keep}
+use mathlib.Core.List.{List, [], _∷_}
+use lib.ListN.{length, getD, length-append, length-take, length-drop}
+use Rattle.be.specs.Lists.{total}
 use Rattle.be.specs.Bytes.{bytes}
 use Rattle.edition.specs.declared.Edition.{Edition}
 use Rattle.edition.specs.Edition.{entry-size, Sane}
-use Rattle.dir_rules.specs.Record.{Rec, size, says, is-gap, is-entry, entries, gaps, name}
-use Rattle.dir_rules.specs.Block.{records, slots, sum-of-parts}
+use Rattle.dir_rules.specs.Record.{Rec, size, says, is-gap, entries, gaps, name}
+use Rattle.dir_rules.specs.Block.{records, sum-of-parts}
 use Rattle.dir_rules.specs.Verdict.{Accepted}
 use Rattle.be.proofs.Bools.{by-cases}
 use Rattle.edition.proofs.Sizes.{entry-size-least}

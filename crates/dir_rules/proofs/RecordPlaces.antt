@@ -1,27 +1,25 @@
 -- Where records stand, and what a block reads at their offsets.
 -- Assumes nothing.
-use Prim.Native.Nat.{ℕ, zero, suc, _+_, _-_, _*_, _/_, _%_, _≤_, _<_}
-use native.Mathlib.Nat.{add-zero, zero-add, add-assoc, le-refl}
+use Prim.Native.Nat.{ℕ, _+_, _*_, _%_, _≤_, _<_}
 use native.Mathlib.Omega.{arith}
-use mathlib.Core.Bool.{Bool, true, false, not, _&&_, _||_, cond, true≢false, false≢true}
-use mathlib.Core.Path.{_≡_, refl, sym, _∙_, ap, ap₂, subst}
-use mathlib.Core.List.{List, [], _∷_, _++_, map, append-assoc}
-use lib.Dec.{eqb, leb, ltb}
-use lib.ListN.{length, take, drop, getD, length-append, length-drop, List·getD-append}
+use mathlib.Core.Bool.{Bool, true, false, not, _&&_, false≢true}
+use mathlib.Core.Path.{_≡_, refl, sym, _∙_, ap}
+use mathlib.Core.List.{List, [], _∷_, _++_, map}
+use lib.Dec.{eqb}
+use lib.ListN.{length, take, drop, getD, length-drop, List·getD-append}
 use lib.Seq.{drop-append-seam, take-append-le, drop-append-le, drop-append-add, getD-append-add}
-use borrow.Author.Tests.{eqb-true, eqb-false, eq-eqb, ne-eqb, not-true}
+use borrow.Author.Tests.{eqb-false, eq-eqb, ne-eqb, not-true}
 use Rattle.be.specs.Lists.{every, some-of, tally, keep}
-use Rattle.be.specs.Bytes.{be, part, field}
+use Rattle.be.specs.Bytes.{be, part}
 use Rattle.edition.specs.declared.Edition.{Edition}
-use Rattle.edition.specs.Edition.{entry-size}
-use Rattle.dir_rules.specs.Record.{Rec, rec, says, size, name, number, entries, is-entry, is-gap, gap-start}
+use Rattle.dir_rules.specs.Record.{Rec, says, size, name, number, is-gap}
 use Rattle.dir_rules.specs.Lookup.{name-at, number-at}
-use Rattle.be.proofs.Bools.{and-left, and-right, and-both, by-cases, clash, every-head, every-tail, every-cons}
+use Rattle.be.proofs.Bools.{and-left, and-right, by-cases, every-cons}
 use Rattle.edition.proofs.Sizes.{entry-size-least}
-use Rattle.dir_rules.proofs.CutJoin.{join, Laid, Whole, laid-front, laid-back, join-append}
+use Rattle.dir_rules.proofs.CutJoin.{Laid, Whole}
 use Rattle.dir_rules.proofs.SlotCounts.{Apart}
 use Rattle.dir_rules.proofs.IndexedEntries.{addr-of}
-use Rattle.dir_rules.proofs.OneMore.{every-mid, some-mid, tally-mid}
+use Rattle.dir_rules.proofs.OneMore.{every-mid, some-mid}
 
 -- a list in three: what stands before an element, the element, and the rest
 pub record Split {A : Type 0} (l : List A) : Type 0 where
@@ -113,14 +111,18 @@ module _ (e : Edition) (p q : List ℕ) (r : Rec) (w : Whole e r) (i : is-gap r 
   number-there =
       ap be (ap (λ (n : ℕ). take 8 (drop n (p ++ (r .raw ++ q)))) (sym h) ∙ ap (take 8) (drop-append-seam p (r .raw ++ q)) ∙ take-append-le 8 (r .raw) q (w .least))
 
+  -- the name, as the part of the block that starts after number and namelen
+  pub part-there : part (r .off + 9) (getD (r .raw) 8 0) (p ++ (r .raw ++ q)) ≡ name r
+  part-there =
+      ap (λ (n : ℕ). take (getD (r .raw) 8 0) (drop (n + 9) (p ++ (r .raw ++ q)))) (sym h)
+      ∙ ap (take (getD (r .raw) 8 0)) (drop-append-add p (r .raw ++ q) 9 ∙ drop-append-le 9 (r .raw) q (omega (arith, entry-long)))
+      ∙ take-append-le (getD (r .raw) 8 0) (drop 9 (r .raw)) q (simp length-drop (omega (arith, entry-long)))
+
   pub name-there : name-at (p ++ (r .raw ++ q)) (r .off) ≡ name r
   name-there =
       let long : getD (p ++ (r .raw ++ q)) (r .off + 8) 0 ≡ getD (r .raw) 8 0 =
       ap (λ (n : ℕ). getD (p ++ (r .raw ++ q)) (n + 8) 0) (sym h) ∙ getD-append-add p (r .raw ++ q) 8 0 ∙ List·getD-append (r .raw) q 0 8 (omega (arith, entry-long)) in
-      let start : drop (r .off + 9) (p ++ (r .raw ++ q)) ≡ drop 9 (r .raw) ++ q =
-      ap (λ (n : ℕ). drop (n + 9) (p ++ (r .raw ++ q))) (sym h) ∙ drop-append-add p (r .raw ++ q) 9 ∙ drop-append-le 9 (r .raw) q (omega (arith, entry-long)) in
-      ap₂ (λ (n : ℕ) (l : List ℕ). take n l) long start
-      ∙ take-append-le (getD (r .raw) 8 0) (drop 9 (r .raw)) q (simp length-drop (omega (arith, entry-long)))
+      ap (λ (n : ℕ). part (r .off + 9) n (p ++ (r .raw ++ q))) long ∙ part-there
 
 pub apart-pos : (es : List Rec) → Apart (map addr-of es) → every (λ r. not (eqb (addr-of r) 0)) es ≡ true
 apart-pos [] a = refl

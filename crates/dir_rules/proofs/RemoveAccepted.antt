@@ -1,38 +1,36 @@
 -- A removal from an accepted block leaves an accepted block with that entry gone.
 -- Assumes nothing.
-use Prim.Native.Nat.{ℕ, zero, suc, _+_, _-_, _*_, _/_, _%_, _^_, _≤_, _<_}
-use native.Mathlib.Nat.{add-zero, zero-add, add-assoc, le-refl}
+use Prim.Native.Nat.{ℕ, _+_, _-_, _*_, _%_, _≤_}
+use native.Mathlib.Nat.{add-zero, add-assoc}
 use native.Mathlib.Omega.{arith}
-use mathlib.Core.Bool.{Bool, true, false, not, _&&_, _||_, cond, true≢false, false≢true}
+use mathlib.Core.Bool.{Bool, true, false, not, _&&_, false≢true}
 use mathlib.Core.Path.{_≡_, refl, sym, _∙_, ap, ap₂, subst}
 use mathlib.Core.List.{List, [], _∷_, _++_, map, append-assoc, append-nil}
-use lib.Dec.{eqb, leb, ltb}
-use lib.ListN.{length, take, drop, length-append}
-use borrow.Author.Tests.{eqb-true, eqb-false, eq-eqb, ne-eqb, not-true}
-use Rattle.be.specs.Lists.{every, some-of, keep, tally}
+use lib.ListN.{length, take, length-append}
+use borrow.Author.Tests.{not-true}
 use Rattle.be.specs.Bytes.{bytes, to-be, written, Write, write}
 use Rattle.edition.specs.declared.Edition.{Edition}
-use Rattle.edition.specs.Edition.{entry-size, Sane}
-use Rattle.name.specs.Name.{hash-of, same-name, fixed-name}
-use Rattle.dir_rules.specs.Record.{Rec, rec, size, is-gap, is-entry, entries, gaps, apart, name, gap-writes, says}
+use Rattle.edition.specs.Edition.{Sane}
+use Rattle.name.specs.Name.{fixed-name}
+use Rattle.dir_rules.specs.Record.{Rec, size, is-gap, is-entry, entries, gaps, apart, name, gap-writes}
 use Rattle.dir_rules.specs.Block.{is-stale, Slot, slot, slot-bytes, records, slots, stale-of, data-end}
 use Rattle.dir_rules.specs.Verdict.{Accepted}
 use Rattle.dir_rules.specs.Change.{changed, gap-start-before, gap-end-after}
-use Rattle.be.proofs.Bools.{and-left, and-right, and-both, by-cases, clash}
-use Rattle.dir_rules.proofs.CutJoin.{join, Laid, Whole, join-append, laid-append, laid-front, laid-back}
-use Rattle.dir_rules.proofs.BlockParts.{build, Fit, SlotsFit, tail-bytes, build-end}
+use Rattle.be.proofs.Bools.{by-cases}
+use Rattle.dir_rules.proofs.CutJoin.{join, Laid, join-append, laid-append, laid-front, laid-back}
+use Rattle.dir_rules.proofs.BlockParts.{build, Fit, SlotsFit, tail-bytes}
 use Rattle.dir_rules.proofs.WritesLeave.{free, Gapful, length-free, free-laid}
 use Rattle.dir_rules.proofs.SlotCounts.{Apart}
-use Rattle.dir_rules.proofs.IndexedEntries.{Indexed, addr-of}
+use Rattle.dir_rules.proofs.IndexedEntries.{addr-of}
 use Rattle.dir_rules.proofs.OneMore.{keep-append}
 use Rattle.dir_rules.proofs.RecordPlaces.{Split, apart-front}
 use Rattle.dir_rules.proofs.GoodParts.{Good, tally-length}
 use Rattle.dir_rules.proofs.EntryLess.{good-remove}
-use Rattle.dir_rules.proofs.GapsApart.{Follows, follows, from-follows, weaken, last-gap?, follows-front, follows-back, follows-append}
+use Rattle.dir_rules.proofs.GapsApart.{Follows, follows, from-follows, last-gap?, follows-front, follows-back, follows-append, last-no}
 use Rattle.dir_rules.proofs.InsertGood.{gapful, free-entries, free-follows}
 use Rattle.dir_rules.proofs.RemoveWrites.{before-gap, before-entry, after-gap, after-entry, after-end, removed}
-use Rattle.dir_rules.proofs.AcceptedParts.{Found-in, keep-find, fit-of, build-of, good-of, block-around, index-bytes, place-of, apart-of}
-use Rattle.dir_rules.proofs.ChangeAccepted.{laid-mod, After, finish, short, total-long, three-long, long-index}
+use Rattle.dir_rules.proofs.AcceptedParts.{fit-of, good-of, block-around, index-bytes, place-of, apart-of, end-of-data}
+use Rattle.dir_rules.proofs.ChangeAccepted.{laid-mod, After, finish, short, total-long, three-long}
 
 -- the last record
 pub snoc : (x : Rec) (xs : List Rec) → (t : Split (x ∷ xs)) × (t .behind ≡ []) × ((g : Bool) → last-gap? g (x ∷ xs) ≡ is-gap (t .here))
@@ -79,11 +77,6 @@ front e o xs zs l f = by-cases (last-gap? false xs) (λ q. some-gap xs l f q) (�
               (ap (λ (m : List Rec). o + length (join m)) is ∙ rw (join-append (t .before) (g ∷ []), length-append, append-nil (g .raw), ← add-assoc))
               ∙ before-gap e o (t .before) g zs ld gp;
         }
-      where
-        last-no : (p q : Bool) → not (p && q) ≡ true → q ≡ true → p ≡ false
-        last-no true true h k = absurd (false≢true h)
-        last-no true false h k = absurd (false≢true k)
-        last-no false q h k = refl
 
 -- the records zs behind xs, with a gap at their start set apart
 pub record Back (e : Edition) (o : ℕ) (xs zs : List Rec) : Type 0 where
@@ -127,11 +120,47 @@ fits-mid : (us : List Slot) (s : Slot) (vs : List Slot) → SlotsFit (us ++ s �
 fits-mid [] s vs f = (f .0, omega arith, f .2)
 fits-mid (u ∷ us) s vs f = (f .0, f .1, fits-mid us s vs (f .2))
 
-module _ (e : Edition) (sane : Sane e) (b : List ℕ) (h : bytes b ≡ true) (a : Accepted e b)
-    (xs : List Rec) (r : Rec) (ys : List Rec) (q : records e b ≡ xs ++ (r ∷ ys)) (en : is-entry r ≡ true) (fx : fixed-name (name r) ≡ false)
-    (us : List Slot) (s : Slot) (vs : List Slot) (sq : slots b ≡ us ++ s ∷ vs) (sa : s .addr ≡ addr-of r) where
+-- an entry that may be removed, among the records, and its slot among the slots
+pub record Removable (e : Edition) (b : List ℕ) : Type 0 where
+  pub before : List Rec
+  pub entry : Rec
+  pub behind : List Rec
+  pub record-is : records e b ≡ before ++ (entry ∷ behind)
+  pub no-gap : is-entry entry ≡ true
+  pub not-fixed : fixed-name (name entry) ≡ false
+  pub slots-before : List Slot
+  pub own : Slot
+  pub slots-behind : List Slot
+  pub slot-is : slots b ≡ slots-before ++ own ∷ slots-behind
+  pub addr-is : own .addr ≡ addr-of entry
+
+module _ (e : Edition) (sane : Sane e) (b : List ℕ) (h : bytes b ≡ true) (a : Accepted e b) (p : Removable e b) where
+  abbrev xs : List Rec
+  xs = p .before
+
+  abbrev r : Rec
+  r = p .entry
+
+  abbrev ys : List Rec
+  ys = p .behind
+
+  abbrev us : List Slot
+  us = p .slots-before
+
+  abbrev s : Slot
+  s = p .own
+
+  abbrev vs : List Slot
+  vs = p .slots-behind
+
+  q : records e b ≡ xs ++ (r ∷ ys)
+  q = p .record-is
+
+  sq : slots b ≡ us ++ s ∷ vs
+  sq = p .slot-is
+
   no-gap-r : is-gap r ≡ false
-  no-gap-r = not-true (is-gap r) en
+  no-gap-r = not-true (is-gap r) (p .no-gap)
 
   laid-all : Laid e (e .header) (xs ++ (r ∷ ys))
   laid-all = rw q at (fit-of e sane b h a .laid)
@@ -215,7 +244,7 @@ module _ (e : Edition) (sane : Sane e) (b : List ℕ) (h : bytes b ≡ true) (a 
       }
 
   pub entries-before : entries (records e b) ≡ entries xs ++ r ∷ entries ys
-  entries-before = ap entries q ∙ keep-append is-entry xs (r ∷ ys) ∙ ap (λ (l : List Rec). entries xs ++ l) (rw en)
+  entries-before = ap entries q ∙ keep-append is-entry xs (r ∷ ys) ∙ ap (λ (l : List Rec). entries xs ++ l) (rw (p .no-gap))
 
   entries-xs : entries xs ≡ entries (fr .rest)
   entries-xs = ap entries (fr .is) ∙ keep-append is-entry (fr .rest) (fr .gap) ∙ ap (λ (l : List Rec). entries (fr .rest) ++ l) (fr .none) ∙ append-nil (entries (fr .rest))
@@ -239,17 +268,13 @@ module _ (e : Edition) (sane : Sane e) (b : List ℕ) (h : bytes b ≡ true) (a 
 
   apart-s : Apart (s .addr ∷ map addr-of (entries xs ++ entries ys))
   apart-s =
-      subst (λ (c : ℕ). Apart (c ∷ map addr-of (entries xs ++ entries ys))) (sym sa)
+      subst (λ (c : ℕ). Apart (c ∷ map addr-of (entries xs ++ entries ys))) (sym (p .addr-is))
       (apart-front (entries xs) r (entries ys) (subst (λ (l : List Rec). Apart (map addr-of l)) entries-before (apart-of e sane b h a)))
 
   good-left : Good e left stale-slots (stale-of b + 1)
   good-left =
       good-remove e (records e b) left (entries xs) r (entries ys) us s vs (stale-of b)
-      (subst (λ (l : List Slot). Good e (records e b) l (stale-of b)) sq (good-of e sane b h a)) apart-s apart-left entries-before entries-left fx
-
-  data-end-is : data-end b ≡ e .header + length (join (records e b))
-  data-end-is =
-      ap data-end (sym (build-of e sane b h a)) ∙ build-end e (take (e .header) b) (records e b) (slots b) (stale-of b) (fit-of e sane b h a)
+      (subst (λ (l : List Slot). Good e (records e b) l (stale-of b)) sq (good-of e sane b h a)) apart-s apart-left entries-before entries-left (p .not-fixed)
 
   around : b ≡ take (e .header) b ++ (join (fr .rest) ++ (freed ++ (join (bk .rest) ++ (slot-bytes (us ++ s ∷ vs) ++ tail-bytes (length (slots b)) (stale-of b)))))
   unfolding index-bytes
@@ -261,7 +286,7 @@ module _ (e : Edition) (sane : Sane e) (b : List ℕ) (h : bytes b ≡ true) (a 
   written-left =
       ap (λ (l : List ℕ). written l free-writes) around
       ∙ removed (take (e .header) b) (fr .rest) freed (bk .rest) us s vs (length (slots b)) (stale-of b) (stale-of b + 1) from (data-end b + 8 * length us + 4) (length b)
-      (rw (length-append, fit-of e sane b h a .head)) gapful-freed (ap length sq) (omega (arith, data-end-is, lengths)) inside
+      (rw (length-append, fit-of e sane b h a .head)) gapful-freed (ap length sq) (omega (arith, end-of-data e sane b h a, lengths)) inside
       ∙ ap (λ (n : ℕ). take (e .header) b ++ (join left ++ (slot-bytes stale-slots ++ tail-bytes n (stale-of b + 1)))) (sym same-count)
 
   pub remove-entry : After e b (changed e b free-writes) left stale-slots (stale-of b + 1)

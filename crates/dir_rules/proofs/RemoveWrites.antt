@@ -1,29 +1,26 @@
 -- A removal: the entry and the gaps beside it become one gap, and its slot goes stale.
 -- Assumes nothing.
-use Prim.Native.Nat.{ℕ, zero, suc, _+_, _-_, _*_, _/_, _%_, _^_, _≤_, _<_}
-use native.Mathlib.Nat.{add-zero, zero-add, add-assoc, le-refl}
+use Prim.Native.Nat.{ℕ, suc, _+_, _-_, _*_, _≤_, _<_}
+use native.Mathlib.Nat.{add-zero, add-assoc, le-refl}
 use native.Mathlib.Omega.{arith}
-use mathlib.Core.Bool.{Bool, true, false, not, _&&_, _||_, cond, true≢false, false≢true}
-use mathlib.Core.Path.{_≡_, refl, sym, _∙_, ap, ap₂, subst}
-use mathlib.Core.List.{List, [], _∷_, _++_, map, append-assoc, append-nil}
-use lib.Dec.{eqb, leb, ltb}
-use lib.ListN.{length, take, drop, length-append, length-take, length-drop, take-append-drop}
-use borrow.Author.Tests.{eqb-true, eqb-false, eq-eqb, ne-eqb, not-true}
-use Rattle.be.specs.Lists.{every, some-of, keep, tally}
-use Rattle.be.specs.Bytes.{bytes, to-be, put, written, Write, write}
+use mathlib.Core.Bool.{true, false}
+use mathlib.Core.Path.{_≡_, refl, sym, _∙_, ap, subst}
+use mathlib.Core.List.{List, [], _∷_, _++_, append-assoc, append-nil}
+use lib.ListN.{length, length-append}
+use borrow.Author.Tests.{eq-eqb, ne-eqb}
+use Rattle.be.specs.Bytes.{to-be, put, written, write}
 use Rattle.edition.specs.declared.Edition.{Edition}
-use Rattle.edition.specs.Edition.{entry-size}
-use Rattle.dir_rules.specs.Record.{Rec, rec, size, is-gap, is-entry, entries, gaps, apart, name, gap-writes}
-use Rattle.dir_rules.specs.Block.{Slot, slot, slot-bytes, records, slots, stale-of, data-end, is-stale}
+use Rattle.dir_rules.specs.Record.{Rec, size, is-gap, gaps, gap-writes}
+use Rattle.dir_rules.specs.Block.{Slot, slot, slot-bytes}
 use Rattle.dir_rules.specs.Change.{gap-start-before, gap-end-after}
-use Rattle.be.proofs.Bools.{and-left, and-right, and-both, by-cases}
+use Rattle.be.proofs.Bools.{by-cases}
 use Rattle.be.proofs.Numbers.{length-to-be}
-use Rattle.be.proofs.Writes.{put-at, length-put, length-written}
-use Rattle.dir_rules.proofs.CutJoin.{join, Laid, Whole, join-append, laid-append, laid-front, laid-back}
-use Rattle.dir_rules.proofs.BlockParts.{build, tail-bytes, length-slot-bytes}
-use Rattle.dir_rules.proofs.WritesLeave.{written-append, gap-written, free, Gapful, length-free, free-laid}
+use Rattle.be.proofs.Writes.{put-at}
+use Rattle.dir_rules.proofs.CutJoin.{join, Laid, laid-back}
+use Rattle.dir_rules.proofs.BlockParts.{tail-bytes, length-slot-bytes}
+use Rattle.dir_rules.proofs.WritesLeave.{written-append, gap-written, free, Gapful, length-free}
 use Rattle.dir_rules.proofs.GapsApart.{last-gap?}
-use Rattle.dir_rules.proofs.InsertWrites.{join-three}
+use Rattle.dir_rules.proofs.InsertWrites.{join-three, regroup}
 
 -- no gap of records from o on ends at p, where p ≤ o
 before-none : (e : Edition) (p o : ℕ) (zs : List Rec) → p ≤ o → Laid e o zs → gap-start-before p (gaps zs) ≡ p
@@ -96,9 +93,6 @@ after-entry e o xs z zs l q =
 pub after-end : (e : Edition) (o : ℕ) (xs : List Rec) → Laid e o xs → gap-end-after (o + length (join xs)) (gaps xs) ≡ o + length (join xs)
 unfolding gap-end-after
 after-end e o xs l = subst (λ (ys : List Rec). gap-end-after (o + length (join xs)) (gaps ys) ≡ o + length (join xs)) (append-nil xs) (after-skip e o xs [] (rw append-nil l))
-
-regroup : (hd a m y r : List ℕ) → hd ++ a ++ (m ++ (y ++ r)) ≡ hd ++ (a ++ (m ++ y)) ++ r
-regroup hd a m y r = simp append-assoc
 
 pub slot-bytes-append : (us vs : List Slot) → slot-bytes (us ++ vs) ≡ slot-bytes us ++ slot-bytes vs
 unfolding slot-bytes

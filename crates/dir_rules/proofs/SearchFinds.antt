@@ -1,31 +1,37 @@
 -- A search of the slots finds a name exactly if an entry has it.
 -- Assumes nothing.
-use Prim.Native.Nat.{ℕ, zero, suc, _+_, _-_, _*_, _/_, _%_, _≤_, _<_}
-use native.Mathlib.Nat.{add-zero, zero-add, add-assoc, le-refl, add-suc, suc-add}
+use Prim.Native.Nat.{ℕ, zero, suc, _+_, _*_, _≤_, _<_}
+use native.Mathlib.Nat.{add-zero}
 use native.Mathlib.Omega.{arith}
-use mathlib.Core.Bool.{Bool, true, false, not, _&&_, _||_, cond, true≢false, false≢true}
-use mathlib.Core.Path.{_≡_, refl, sym, _∙_, ap, ap₂, subst}
-use mathlib.Core.List.{List, [], _∷_, _++_, map, append-assoc}
+use mathlib.Core.Bool.{Bool, true, false, not, cond, false≢true}
+use mathlib.Core.Path.{_≡_, refl, sym, _∙_, ap, subst}
+use mathlib.Core.List.{List, [], _∷_, _++_, map}
 use lib.Dec.{eqb}
 use lib.ListN.{length}
-use borrow.Author.Tests.{eqb-true, eqb-false, eq-eqb, ne-eqb, not-true}
+use borrow.Author.Tests.{eqb-true, eqb-false, eq-eqb}
 use Rattle.name.proofs.Same.{same-name-hash}
-use Rattle.be.specs.Lists.{every, some-of, tally, keep, same}
+use Rattle.be.specs.Lists.{every, some-of, tally}
 use Rattle.edition.specs.declared.Edition.{Edition}
 use Rattle.name.specs.Name.{hash-of, same-name}
-use Rattle.dir_rules.specs.Record.{Rec, name, entries}
-use Rattle.dir_rules.specs.Block.{Slot, is-live, is-stale}
+use Rattle.dir_rules.specs.Record.{Rec, name}
+use Rattle.dir_rules.specs.Block.{Slot, is-live}
 use Rattle.dir_rules.specs.Verdict.{has-slot}
-use Rattle.dir_rules.specs.Lookup.{Sought, seek, sought, candidate, step-if, name-at}
-use Rattle.be.proofs.Bools.{and-left, and-right, and-both, by-cases, clash, every-head, every-tail, every-cons}
+use Rattle.dir_rules.specs.Lookup.{Sought, seek, candidate, match, step-if, name-at}
+use Rattle.be.proofs.Bools.{and-left, and-right, and-both, by-cases, clash}
 use Rattle.dir_rules.proofs.SlotCounts.{Apart, at-addr}
 use Rattle.dir_rules.proofs.IndexedEntries.{Indexed, Slotted, slotted, addr-of, at-both, no-stray, tally-le}
-use Rattle.dir_rules.proofs.OneMore.{every-mid, some-mid, tally-mid, some-none}
+use Rattle.dir_rules.proofs.OneMore.{tally-mid, some-none}
 use Rattle.dir_rules.proofs.RecordPlaces.{Split, some-split, some-at, every-at, tally-split, every-map, apart-pos}
 
--- the test that ends a search
-abbrev pub match : Edition → List ℕ → List ℕ → ℕ → Slot → Bool
-match e b n h s = candidate h s && same-name e n (name-at b (8 * s .addr))
+-- a name is compared at live slots only, and the search ends at that name only
+candidate-live : (h : ℕ) (s : Slot) → candidate h s ≡ true → is-live s ≡ true
+candidate-live h s q = and-left (is-live s) (eqb (s .hash) h) q
+
+match-candidate : (e : Edition) (b n : List ℕ) (h : ℕ) (s : Slot) → match e b n h s ≡ true → candidate h s ≡ true
+match-candidate e b n h s q = and-left (candidate h s) _ q
+
+match-name : (e : Edition) (b n : List ℕ) (h : ℕ) (s : Slot) → match e b n h s ≡ true → same-name e n (name-at b (8 * s .addr)) ≡ true
+match-name e b n h s q = and-right (candidate h s) (same-name e n (name-at b (8 * s .addr))) q
 
 -- it finds something exactly if some slot passes
 pub seek-hit : (e : Edition) (b n : List ℕ) (h k c : ℕ) (ss : List Slot) → seek e b n h k c ss .hit ≡ some-of (match e b n h) ss
@@ -105,17 +111,13 @@ owner e es us s vs n i a l = by-cases (some-of (λ r. eqb (s .addr) (addr-of r))
         absurd (omega (arith, both′, few, here (addr-of r) same-addr, o .by-addr, o .by-both))) in
         record { split = t; addr-is = sym same-addr; hash-is = sym (eqb-true (s .hash) g (and-right (eqb (s .addr) (addr-of r)) (eqb (s .hash) g) hit)) }
 
--- the same name has the same hash
-pub same-hash : (e : Edition) (n m : List ℕ) → same-name e n m ≡ true → hash-of e n ≡ hash-of e m
-same-hash e n m h = same-name-hash e n m h
-
 -- a block whose index is right, and that reads an entry's name at the entry's offset
 pub record Reads (e : Edition) (b : List ℕ) (es : List Rec) : Type 0 where
   pub eights : every (λ r. eqb (8 * addr-of r) (r .off)) es ≡ true
   pub named : (t : Split es) → name-at b (t .here .off) ≡ name (t .here)
 
 module _ (e : Edition) (b n : List ℕ) (es : List Rec) (ss : List Slot) (m : ℕ) (i : Indexed e es ss m) (a : Apart (map addr-of es)) (d : Reads e b es) where
-  read-at : (t : Split es) → name-at b (8 * addr-of (t .here)) ≡ name (t .here)
+  pub read-at : (t : Split es) → name-at b (8 * addr-of (t .here)) ≡ name (t .here)
   read-at t =
       ap (λ (o : ℕ). name-at b o) (eqb-true (8 * addr-of (t .here)) (t .here .off) (every-at (λ r. eqb (8 * addr-of r) (r .off)) (t .before) (t .here) (t .behind) (rw (t .is) at (d .eights))))
       ∙ d .named t
@@ -124,10 +126,9 @@ module _ (e : Edition) (b n : List ℕ) (es : List Rec) (ss : List Slot) (m : �
   pub match-owner : (t : Split ss) → match e b n (hash-of e n) (t .here) ≡ true → (o : Owner e es (t .here)) × (same-name e n (name (o .split .here)) ≡ true)
   match-owner t h =
       let s : Slot = t .here in
-      let c : candidate (hash-of e n) s ≡ true = and-left (candidate (hash-of e n) s) (same-name e n (name-at b (8 * s .addr))) h in
-      let l : is-live s ≡ true = and-left (is-live s) (eqb (s .hash) (hash-of e n)) c in
+      let l : is-live s ≡ true = candidate-live (hash-of e n) s (match-candidate e b n (hash-of e n) s h) in
       let o : Owner e es s = owner e es (t .before) s (t .behind) m (rw (t .is) at i) a l in
-      let q : same-name e n (name-at b (8 * s .addr)) ≡ true = and-right (candidate (hash-of e n) s) (same-name e n (name-at b (8 * s .addr))) h in
+      let q : same-name e n (name-at b (8 * s .addr)) ≡ true = match-name e b n (hash-of e n) s h in
       (o, subst (λ (l : List ℕ). same-name e n l ≡ true) (ap (λ (x : ℕ). name-at b (8 * x)) (sym (o .addr-is)) ∙ read-at (o .split)) q)
 
   -- an entry of that name has a slot that ends the search
@@ -146,7 +147,7 @@ module _ (e : Edition) (b n : List ℕ) (es : List Rec) (ss : List Slot) (m : �
       ap (same-name e n) (ap (λ (x : ℕ). name-at b (8 * x)) ad ∙ read-at t) ∙ h in
       let mt : match e b n (hash-of e n) s ≡ true =
       and-both (candidate (hash-of e n) s) (same-name e n (name-at b (8 * s .addr)))
-      (and-both (is-live s) (eqb (s .hash) (hash-of e n)) lv (eq-eqb (s .hash) (hash-of e n) (hs ∙ sym (same-hash e n (name r) h)))) sn in
+      (and-both (is-live s) (eqb (s .hash) (hash-of e n)) lv (eq-eqb (s .hash) (hash-of e n) (hs ∙ sym (same-name-hash e n (name r) h)))) sn in
       ap (some-of (match e b n (hash-of e n))) (u .0 .is) ∙ some-at (match e b n (hash-of e n)) (u .0 .before) s (u .0 .behind) mt
 
   -- found exactly if an entry has the name

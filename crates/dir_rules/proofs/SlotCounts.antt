@@ -1,17 +1,16 @@
--- The index: every live slot is an entry's, and what insert and removal do to the counts.
+-- Slots at addresses that are apart are no more than the live slots.
 -- Assumes nothing.
-use Prim.Native.Nat.{ℕ, zero, suc, _+_, _-_, _*_, _/_, _%_, _^_, _≤_, _<_}
-use native.Mathlib.Nat.{add-zero, zero-add, add-assoc, le-refl, le-trans, le-of-eq}
+use Prim.Native.Nat.{ℕ, _+_, _≤_, _<_}
+use native.Mathlib.Nat.{le-of-eq}
 use native.Mathlib.Omega.{arith}
-use mathlib.Core.Bool.{Bool, true, false, not, _&&_, _||_, cond}
-use mathlib.Core.Path.{_≡_, refl, sym, _∙_, ap, ap₂, subst}
-use mathlib.Core.List.{List, [], _∷_, _++_, map}
-use lib.Dec.{eqb, leb}
-use lib.ListN.{length}
-use borrow.Author.Tests.{not-true, eqb-true, eqb-false, leb-true, leb-false, eq-eqb, ne-eqb, le-leb}
-use Rattle.be.specs.Lists.{every, some-of, tally, total, keep, without-first}
-use Rattle.dir_rules.specs.Block.{Slot, is-stale, is-live}
-use Rattle.be.proofs.Bools.{and-left, and-right, and-both, by-cases, every-head, every-tail, every-cons}
+use mathlib.Core.Bool.{Bool, true, false, not, cond}
+use mathlib.Core.Path.{_≡_, refl, sym, subst}
+use mathlib.Core.List.{List, [], _∷_}
+use lib.Dec.{eqb}
+use borrow.Author.Tests.{not-true, eqb-true, ne-eqb}
+use Rattle.be.specs.Lists.{every, tally, total}
+use Rattle.dir_rules.specs.Block.{Slot, is-live}
+use Rattle.be.proofs.Bools.{by-cases, every-head, every-tail}
 
 -- 1 if the test passes, else 0
 abbrev pub one-if : Bool → ℕ

@@ -1,17 +1,17 @@
--- The index: hashes that never fall, and what an insert or a removal does to the slots.
+-- Hashes that never fall stay so, and the new slot stands after all slots with an equal or lower hash.
 -- Assumes nothing.
-use Prim.Native.Nat.{ℕ, zero, suc, _+_, _-_, _*_, _/_, _%_, _≤_, _<_}
+use Prim.Native.Nat.{ℕ, _+_, _≤_, _<_}
 use native.Mathlib.Omega.{arith}
-use mathlib.Core.Bool.{Bool, true, false, not, _&&_, cond}
-use mathlib.Core.Path.{_≡_, refl, sym, _∙_, ap, ap₂, subst}
+use mathlib.Core.Bool.{Bool, true, false, not, cond}
+use mathlib.Core.Path.{_≡_, refl, ap}
 use mathlib.Core.List.{List, [], _∷_, _++_}
-use lib.Dec.{eqb, leb}
-use lib.ListN.{length}
-use borrow.Author.Tests.{eqb-true, leb-true, leb-false, eq-eqb, le-leb}
-use Rattle.be.specs.Lists.{every, tally, keep, without-first}
-use Rattle.dir_rules.specs.Block.{Slot, slot, is-stale}
+use lib.Dec.{leb}
+use borrow.Author.Tests.{leb-true, leb-false, le-leb, lt-leb}
+use Rattle.be.specs.Lists.{tally, keep, without-first}
+use Rattle.dir_rules.specs.Block.{Slot}
 use Rattle.dir_rules.specs.Verdict.{rising}
-use Rattle.dir_rules.specs.Change.{insert-slot}
+use Rattle.dir_rules.specs.Change.{insert-slot, in-front}
+use Rattle.dir_rules.specs.Claims.{Slot-right}
 use Rattle.be.proofs.Bools.{and-left, and-right, and-both, by-cases}
 
 -- every hash is at least h: what may follow a slot of hash h
@@ -43,17 +43,14 @@ pub from-le : (g h : ℕ) (ss : List Slot) → g ≤ h → From h ss → From g 
 from-le g h [] l f = tt
 from-le g h (s ∷ ss) l f = (omega (arith, f .0), f .1)
 
--- (c) a slot put after all slots with an equal or lower hash keeps the hashes non-falling
+-- a slot put after all slots with an equal or lower hash keeps the hashes non-falling
 pub insert-from : (h : ℕ) (s : Slot) (ss : List Slot) → h ≤ s .hash → From h ss → From h (insert-slot s ss)
 unfolding insert-slot
 insert-from h s [] l f = (l, tt)
 insert-from h s (t ∷ ts) l f =
-    by-cases (leb (t .hash) (s .hash))
-    (λ q. rw q (f .0, insert-from (t .hash) s ts (leb-true _ _ q) (f .1)))
-    (λ q. rw q (l, (omega (arith, leb-false (t .hash) (s .hash) q), f .1)))
-
-pub insert-rising : (s : Slot) (ss : List Slot) → rising ss ≡ true → rising (insert-slot s ss) ≡ true
-insert-rising s ss h = from-rising 0 (insert-slot s ss) (insert-from 0 s ss (omega arith) (rising-from ss h))
+    by-cases (in-front s t)
+    (λ q. rw q (f .0, insert-from (t .hash) s ts (omega (arith, leb-true)) (f .1)))
+    (λ q. rw q (l, (omega (arith, leb-false), f .1)))
 
 -- slots taken out leave the rest non-falling
 pub drop-first-from : (p : Slot → Bool) (h : ℕ) (ss : List Slot) → From h ss → From h (without-first p ss)
@@ -75,6 +72,51 @@ pub tally-insert : (p : Slot → Bool) (s : Slot) (ss : List Slot) → tally p (
 unfolding insert-slot
 tally-insert p s [] = refl
 tally-insert p s (t ∷ ts) =
-    by-cases (leb (t .hash) (s .hash))
+    by-cases (in-front s t)
     (λ q. rw q (omega (arith, tally-insert p s ts)))
     (λ q. rw q refl)
+
+-- the new slot stands after all slots with an equal or lower hash
+none-lower : (h : ℕ) (s : Slot) (ss : List Slot) → s .hash < h → From h ss → keep (λ t. leb (t .hash) (s .hash)) ss ≡ []
+none-lower h s [] l f = refl
+none-lower h s (t ∷ ts) l f = rw (lt-leb (t .hash) (s .hash) (omega (arith, f .0))) (none-lower (t .hash) s ts (omega (arith, f .0)) (f .1))
+
+all-higher : (h : ℕ) (s : Slot) (ss : List Slot) → s .hash < h → From h ss → keep (λ t. not (leb (t .hash) (s .hash))) ss ≡ ss
+all-higher h s [] l f = refl
+all-higher h s (t ∷ ts) l f =
+    rw (lt-leb (t .hash) (s .hash) (omega (arith, f .0))) (ap (λ (l : List Slot). t ∷ l) (all-higher (t .hash) s ts (omega (arith, f .0)) (f .1)))
+
+-- a slot with an equal or lower hash stays in front, one with a higher hash does not
+front-yes : (s t : Slot) → t .hash ≤ s .hash → in-front s t ≡ true
+front-yes s t l = by-cases (in-front s t) (λ q. q) (λ q. absurd (omega (arith, leb-false)))
+
+front-no : (s t : Slot) → s .hash < t .hash → in-front s t ≡ false
+front-no s t l = by-cases (in-front s t) (λ q. absurd (omega (arith, leb-true))) (λ q. q)
+
+slot-stands : (h : ℕ) (s : Slot) (ss : List Slot) → From h ss
+    → insert-slot s ss ≡ keep (λ t. leb (t .hash) (s .hash)) ss ++ (s ∷ keep (λ t. not (leb (t .hash) (s .hash))) ss)
+unfolding insert-slot
+slot-stands h s [] f = refl
+slot-stands h s (t ∷ ts) f =
+    by-cases (leb (t .hash) (s .hash))
+    (λ q. stays (in-front s t) (leb (t .hash) (s .hash)) _ lower higher (front-yes s t (leb-true (t .hash) (s .hash) q)) q (slot-stands (t .hash) s ts (f .1)))
+    (λ q. let l : s .hash < t .hash = leb-false (t .hash) (s .hash) q in
+    goes (in-front s t) (leb (t .hash) (s .hash)) _ lower higher (front-no s t l) q (none-lower (t .hash) s ts l (f .1)) (all-higher (t .hash) s ts l (f .1)))
+  where
+    lower : List Slot
+    lower = keep (λ t. leb (t .hash) (s .hash)) ts
+
+    higher : List Slot
+    higher = keep (λ t. not (leb (t .hash) (s .hash))) ts
+
+    stays : (c d : Bool) (r k m : List Slot) → c ≡ true → d ≡ true → r ≡ k ++ (s ∷ m)
+        → cond c (t ∷ r) (s ∷ t ∷ ts) ≡ cond d (t ∷ k) k ++ (s ∷ cond (not d) (t ∷ m) m)
+    stays c d r k m p q w = rw (p, q) (ap (λ (l : List Slot). t ∷ l) w)
+
+    goes : (c d : Bool) (r k m : List Slot) → c ≡ false → d ≡ false → k ≡ [] → m ≡ ts
+        → cond c (t ∷ r) (s ∷ t ∷ ts) ≡ cond d (t ∷ k) k ++ (s ∷ cond (not d) (t ∷ m) m)
+    goes c d r k m p q v w = rw (p, q, v, w) refl
+
+pub slot-right : Slot-right
+unfolding Slot-right
+slot-right s ss h = slot-stands 0 s ss (rising-from ss h)

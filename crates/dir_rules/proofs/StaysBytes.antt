@@ -1,15 +1,14 @@
 -- A change leaves bytes.
 -- Assumes nothing.
-use Prim.Native.Nat.{ℕ, zero, suc, _+_, _-_, _*_, _/_, _%_, _^_, _≤_, _<_}
+use Prim.Native.Nat.{ℕ, zero, suc, _+_, _-_, _*_, _/_, _%_, _^_, _<_}
 use native.Mathlib.Nat.{mod-lt, zero-lt-suc}
-use native.Mathlib.Omega.{arith}
-use mathlib.Core.Bool.{Bool, true, false, not, _&&_, cond}
-use mathlib.Core.Path.{_≡_, refl, sym, _∙_, ap, subst}
+use mathlib.Core.Bool.{Bool, true}
+use mathlib.Core.Path.{_≡_, refl, _∙_}
 use mathlib.Core.List.{List, [], _∷_, _++_}
-use lib.Dec.{ltb, leb}
+use lib.Dec.{ltb}
 use lib.ListN.{length, replicate}
-use borrow.Author.Tests.{lt-ltb, leb-true, ltb-true}
-use Rattle.be.specs.Lists.{every, keep, without-first}
+use borrow.Author.Tests.{lt-ltb}
+use Rattle.be.specs.Lists.{keep, without-first}
 use Rattle.be.specs.Bytes.{bytes, to-be, put, written, Write, write}
 use Rattle.edition.specs.declared.Edition.{Edition}
 use Rattle.edition.specs.Edition.{entry-size}
@@ -19,8 +18,8 @@ use Rattle.name.specs.Name.{hash-of}
 use Rattle.dir_rules.specs.Lookup.{sought}
 use Rattle.dir_rules.specs.Verdict.{Pair}
 use Rattle.dir_rules.specs.Room.{Room, room, longest, other-gaps, case-a, case-b, case-c}
-use Rattle.dir_rules.specs.Change.{insert-slot, gap-start-before, gap-end-after, best-of, pair-bytes, with-best, changed, index-writes, entry-writes, writes-a, writes-b, writes-c, writes-d, insert-writes, remove-writes}
-use Rattle.be.proofs.Bools.{and-left, and-right, and-both, by-cases, every-append, every-head, every-tail, every-cons}
+use Rattle.dir_rules.specs.Change.{insert-slot, gap-start-before, gap-end-after, best-table, pair-bytes, with-best, changed, index-writes, entry-writes, writes-a, writes-b, writes-c, writes-d, insert-writes, remove-writes}
+use Rattle.be.proofs.Bools.{and-both, by-cases, every-append, every-head, every-tail, every-cons}
 
 isb : ℕ → Bool
 isb x = ltb x 256
@@ -93,8 +92,8 @@ all-index n ss s =
 pub bytes-changed : (e : Edition) (b : List ℕ) (ws : List Write) → bytes b ≡ true → All ws → bytes (changed e b ws) ≡ true
 unfolding changed with-best
 bytes-changed e b ws h a =
-    bytes-written (written b ws) (write (e .best) (pair-bytes (best-of 3 (gaps (records e (written b ws))))) ∷ []) (bytes-written b ws h a)
-    (bytes-pairs (best-of 3 (gaps (records e (written b ws)))), tt)
+    bytes-written (written b ws) (write (e .best) (pair-bytes (best-table (gaps (records e (written b ws))))) ∷ []) (bytes-written b ws h a)
+    (bytes-pairs (best-table (gaps (records e (written b ws)))), tt)
 
 all-entry : (e : Edition) (i : ℕ) (n : List ℕ) (o u : ℕ) → bytes n ≡ true → length n < 256 → All (entry-writes e i n o u)
 all-entry e i n o u h l = (bytes-entry e o i n h l, all-gap (o + entry-size e (length n)) (u - (o + entry-size e (length n))))

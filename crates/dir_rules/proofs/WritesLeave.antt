@@ -1,26 +1,22 @@
 -- What the writes of a change leave, on a block that is put together from parts.
 -- Assumes nothing.
-use Prim.Native.Nat.{ℕ, zero, suc, _+_, _-_, _*_, _/_, _%_, _^_, _≤_, _<_}
-use native.Mathlib.Nat.{add-zero, zero-add, add-assoc, add-comm, suc-add, add-suc, not-suc-le-zero, mod-lt}
+use Prim.Native.Nat.{ℕ, _+_, _-_, _*_, _%_, _^_, _≤_, _<_}
 use native.Mathlib.Omega.{arith}
-use mathlib.Core.Bool.{Bool, true, false, not, _&&_, cond}
+use mathlib.Core.Bool.{false}
 use mathlib.Core.Path.{_≡_, refl, sym, _∙_, ap, ap₂, subst}
 use mathlib.Core.List.{List, [], _∷_, _++_, append-assoc, append-nil}
-use lib.Dec.{eqb, leb, ltb}
-use lib.ListN.{length, take, drop, getD, replicate, length-replicate, length-append, length-take, length-drop, take-append-drop, List·getD-append}
-use lib.Seq.{take-append-le, drop-append-le, take-at, drop-at, getD-at, take-append-seam}
-use borrow.Author.Tests.{eqb-true, leb-true, eq-eqb, ne-eqb, le-leb}
-use Rattle.be.specs.Lists.{every}
-use Rattle.be.specs.Bytes.{bytes, be, be-from, to-be, part, field, put, written, Write, write}
+use lib.ListN.{length, take, drop, getD, replicate, length-replicate, length-append, length-take, length-drop, take-append-drop}
+use lib.Seq.{take-at, drop-at}
+use borrow.Author.Tests.{ne-eqb}
+use Rattle.be.specs.Bytes.{be, be-from, to-be, part, field, put, written, Write}
 use Rattle.edition.specs.declared.Edition.{Edition}
 use Rattle.edition.specs.Edition.{entry-size}
-use Rattle.dir_rules.specs.Record.{Rec, rec, says, whole, size, tag, gap-start, entry-bytes, gap-writes}
+use Rattle.dir_rules.specs.Record.{Rec, rec, says, tag, gap-start, entry-bytes, gap-writes}
 use Rattle.dir_rules.specs.Block.{Slot, slot-bytes}
 use Rattle.dir_rules.specs.Change.{entry-writes, index-writes}
-use Rattle.be.proofs.Bools.{and-left, and-right, and-both, by-cases}
-use Rattle.be.proofs.Numbers.{length-to-be, be-to-be, to-be-be, be-lt}
-use Rattle.be.proofs.Parts.{part-at, piece}
-use Rattle.be.proofs.Writes.{put-at, put-front, length-put}
+use Rattle.be.proofs.Numbers.{length-to-be, be-to-be}
+use Rattle.be.proofs.Parts.{piece}
+use Rattle.be.proofs.Writes.{put-at}
 use Rattle.edition.proofs.Sizes.{entry-size-least}
 use Rattle.dir_rules.proofs.CutJoin.{join, Laid, Whole}
 use Rattle.dir_rules.proofs.BlockParts.{tail-bytes, length-slot-bytes}

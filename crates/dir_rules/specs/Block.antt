@@ -1,30 +1,32 @@
 -- A block taken apart: header, records, slots, tail.
 -- Assumes nothing.
 use Prim.Native.Nat.{ℕ, zero, suc, _+_, _-_, _*_}
-use mathlib.Core.Bool.{Bool, true, false, not, cond, _&&_, _||_}
+use mathlib.Core.Bool.{Bool, not}
 use mathlib.Core.List.{List, [], _∷_, _++_}
-use lib.Dec.{eqb, leb, ltb}
-use lib.ListN.{length, take, drop, getD}
-use Rattle.be.specs.Lists.{keep, tally, total}
-use Rattle.be.specs.Bytes.{be, to-be, field, part}
+use lib.Dec.{eqb}
+use lib.ListN.{length, drop}
+use Rattle.be.specs.Lists.{total}
+use Rattle.be.specs.Bytes.{to-be, field, part}
 use Rattle.edition.specs.declared.Edition.{Edition}
 use Rattle.edition.specs.Edition.{entry-size}
-use Rattle.dir_rules.specs.Record.{Rec, cut, size, is-gap, entries, gaps, name, number}
+use Rattle.dir_rules.specs.Record.{Rec, cut, size, entries, gaps, name}
 
--- the tail: number of slots, and of stale ones
+-- at the end a tail: count, stale (4 bytes each)
 unfoldable pub count-of : List ℕ → ℕ
 count-of b = field (length b - 8) 4 b
 
 unfoldable pub stale-of : List ℕ → ℕ
 stale-of b = field (length b - 4) 4 b
 
--- where the data ends and the first slot stands
+-- before the tail, count slots of 8 bytes: where the data ends and the first slot stands
 unfoldable pub data-end : List ℕ → ℕ
 data-end b = length b - 8 - 8 * count-of b
 
+-- the data runs from the header's end to the first slot
 unfoldable pub records : Edition → List ℕ → List Rec
 records e b = cut e (length b) (e .header) (part (e .header) (data-end b - e .header) b)
 
+-- a slot: hash, address (4 bytes each)
 pub record Slot : Type 0 where
   pub hash : ℕ
   pub addr : ℕ
@@ -44,7 +46,7 @@ unfoldable pub slot-bytes : List Slot → List ℕ
 slot-bytes [] = []
 slot-bytes (s ∷ ss) = to-be 4 (s .hash) ++ (to-be 4 (s .addr) ++ slot-bytes ss)
 
--- address 0 marks a stale slot
+-- a stale slot has address 0
 abbrev pub is-stale : Slot → Bool
 is-stale s = eqb (s .addr) 0
 

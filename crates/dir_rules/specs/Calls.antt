@@ -1,8 +1,8 @@
 -- The calls on a block: what each answers, and what it leaves.
 -- Assumes nothing.
 use Prim.Native.Nat.{ℕ}
-use mathlib.Core.Bool.{Bool, cond}
-use mathlib.Core.List.{List, [], _∷_}
+use mathlib.Core.Bool.{cond}
+use mathlib.Core.List.{List}
 use lib.Dec.{eqb}
 use Rattle.edition.specs.declared.Edition.{Edition}
 use Rattle.dir_rules.specs.declared.Looked.{Looked}
@@ -36,6 +36,7 @@ reply e b (look-up n) = found-or (lookup e b n)
 reply e b (insert n i) = done-or (insert-code e b n i)
 reply e b (remove n) = done-or (remove-code e b n)
 
+-- a lookup leaves the block as it came
 unfoldable pub after : Edition → List ℕ → Call → List ℕ
 after e b (look-up n) = b
 after e b (insert n i) = insert-block e b n i

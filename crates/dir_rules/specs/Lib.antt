@@ -4,8 +4,9 @@ pub mod Verdict
 pub mod Lookup
 pub mod Room
 pub mod Change
-pub mod Walk
 pub mod Calls
 pub mod Book
 pub mod Demand
+pub mod Walk
+pub mod Claims
 pub mod Starred

@@ -1,7 +1,7 @@
 -- Lookup of a name in a block, with the names compared.
 -- Assumes nothing.
-use Prim.Native.Nat.{ℕ, zero, suc, _+_, _*_}
-use mathlib.Core.Bool.{Bool, true, false, not, cond, _&&_}
+use Prim.Native.Nat.{ℕ, suc, _+_, _*_}
+use mathlib.Core.Bool.{Bool, true, false, cond, _&&_}
 use mathlib.Core.List.{List, [], _∷_}
 use lib.Dec.{eqb}
 use Rattle.be.specs.Lists.{tally}
@@ -35,12 +35,16 @@ abbrev pub step-if : Bool → ℕ → ℕ
 step-if true c = suc c
 step-if false c = c
 
+-- the search ends at a candidate whose entry has the name n, not at the first equal hash
+abbrev pub match : Edition → List ℕ → List ℕ → ℕ → Slot → Bool
+match e b n h s = candidate h s && same-name e n (name-at b (8 * s .addr))
+
 -- the slots ss stand at place k and on; c names were compared before
 unfoldable pub seek : Edition → List ℕ → List ℕ → ℕ → ℕ → ℕ → List Slot → Sought
 seek e b n h k c [] = record { hit = false; place = k; at = 0; compared = c }
 seek e b n h k c (s ∷ ss) =
     let more = seek e b n h (suc k) (step-if (candidate h s) c) ss in
-    cond (candidate h s && same-name e n (name-at b (8 * s .addr)))
+    cond (match e b n h s)
     (record { hit = true; place = k; at = 8 * s .addr; compared = suc c })
     more
 

@@ -1,11 +1,11 @@
 -- The starred numbers as one table under one claim, which the checker computes from the definitions.
 -- Assumes nothing.
 use Prim.Native.Nat.{ℕ, _+_, _-_, _/_}
-use mathlib.Core.Bool.{Bool, true, cond}
+use mathlib.Core.Bool.{true, cond}
 use mathlib.Core.Path.{_≡_, refl}
 use mathlib.Core.List.{List, [], _∷_, _++_}
 use lib.ListN.{replicate}
-use Rattle.be.specs.Lists.{every, same}
+use Rattle.be.specs.Lists.{every}
 use Rattle.be.specs.Bytes.{be, be-from, to-be, put, written, write}
 use Rattle.edition.specs.declared.Edition.{Edition}
 use Rattle.edition.specs.Edition.{v4, block-size, entry-size}
@@ -83,16 +83,22 @@ c5 = remove-block v4 (remove-block v4 full a₁) (c′s 117)
 unfoldable pub by-case : List ℕ → List ℕ → ℕ
 by-case b n = cond (case-a (room v4 b n)) 1 (cond (case-b (room v4 b n)) 2 0)
 
+-- C1 to C5: what the definitions give, and what the paper states; a refused insert leaves the block as it was
 unfoldable pub block-rows : List Row
 block-rows =
+    -- C1: gap 48, length 440
     row (shape c1) (0 ∷ 2 ∷ 0 ∷ 48 ∷ 440 ∷ [])
+    -- C2: entry at 48, gap 64 length 416
     ∷ row (shape c2) (0 ∷ 3 ∷ 0 ∷ 64 ∷ 416 ∷ [])
     ∷ row (answer c2 a₁) (0 ∷ 131 ∷ 1 ∷ 48 ∷ [])
+    -- C3: gap 48 length 432, count 3, stale 1
     ∷ row (shape c3) (0 ∷ 3 ∷ 1 ∷ 48 ∷ 432 ∷ [])
     ∷ row (answer c3 a₁) (13 ∷ 0 ∷ 0 ∷ 0 ∷ [])
+    -- C4: a gap of 160; then 141 bytes goes in, 142 is refused
     ∷ row (shape c4) (0 ∷ 3 ∷ 0 ∷ 320 ∷ 160 ∷ [])
     ∷ row (inserted c4 (c′s 141)) (0 ∷ 0 ∷ 4 ∷ 0 ∷ [])
     ∷ row (inserted c4 (c′s 142)) (15 ∷ 0 ∷ 3 ∷ 0 ∷ 320 ∷ 160 ∷ [])
+    -- C5: full; then gap 144, stale 2; 141 bytes goes in by (b), 142 is refused
     ∷ row (shape full) (0 ∷ 5 ∷ 0 ∷ [])
     ∷ row (shape c5) (0 ∷ 5 ∷ 2 ∷ 320 ∷ 144 ∷ [])
     ∷ row (by-case c5 (c′s 141) ∷ inserted c5 (c′s 141)) (2 ∷ 0 ∷ 0 ∷ 4 ∷ 0 ∷ [])

@@ -17,11 +17,13 @@ use Rattle.dir_rules.specs.Lookup.{name-at}
 use Rattle.dir_rules.specs.Verdict.{once-ok, has-slot}
 use Rattle.be.proofs.Bools.{by-cases, and-left, and-right, and-both, clash}
 use Rattle.dir_rules.proofs.SlotOrder.{From}
-use Rattle.dir_rules.proofs.OneMore.{some-mid, tally-mid, once-mid, same-name-swap}
+use Rattle.dir_rules.proofs.OneMore.{some-mid, tally-mid, once-mid}
+use Rattle.name.proofs.Same.{same-name-swap}
 use Rattle.dir_rules.proofs.SlotCounts.{Apart, at-addr}
 use Rattle.dir_rules.proofs.IndexedEntries.{Indexed, addr-of, at-both, Slotted, slotted, tally-le}
 use Rattle.dir_rules.proofs.RecordPlaces.{Split, some-split, some-at, every-at, tally-split, apart-pos, split-cons, apart-front, every-map}
-use Rattle.dir_rules.proofs.SearchFinds.{Owner, owner, same-hash, Reads}
+use Rattle.dir_rules.proofs.SearchFinds.{Owner, owner, Reads}
+use Rattle.name.proofs.Same.{same-name-hash}
 use Rattle.dir_test.specs.Passes.{clash-from, once-in, name-of}
 
 pub eqb-swap : (x y : ℕ) → eqb x y ≡ eqb y x
@@ -154,7 +156,7 @@ module _ (e : Edition) (b : List ℕ) (es : List Rec) (ss : List Slot) (m : ℕ)
       let ua : u .addr ≡ addr-of (v .here) = eqb-true (u .addr) (addr-of (v .here)) (and-left (eqb (u .addr) (addr-of (v .here))) _ q) in
       let sh : s .hash ≡ hash-of e (name (t .here)) = eqb-true (s .hash) (hash-of e (name (t .here))) (and-right (eqb (s .addr) (addr-of (t .here))) (eqb (s .hash) (hash-of e (name (t .here)))) p) in
       let uh : u .hash ≡ hash-of e (name (v .here)) = eqb-true (u .hash) (hash-of e (name (v .here))) (and-right (eqb (u .addr) (addr-of (v .here))) (eqb (u .hash) (hash-of e (name (v .here)))) q) in
-      let hh : hash-of e (name (t .here)) ≡ hash-of e (name (v .here)) = same-hash e (name (t .here)) (name (v .here)) l in
+      let hh : hash-of e (name (t .here)) ≡ hash-of e (name (v .here)) = same-name-hash e (name (t .here)) (name (v .here)) l in
       let nm : same-name e (name-of b (8 * s .addr)) (name-of b (8 * u .addr)) ≡ true =
       ap₂ (λ (x y : List ℕ). same-name e x y) (ap (λ (k : ℕ). name-of b (8 * k)) sa ∙ read-at t) (ap (λ (k : ℕ). name-of b (8 * k)) ua ∙ read-at v) ∙ l in
       and-both (is-live s) _ (ap (λ (k : ℕ). not (eqb k 0)) sa ∙ live-of t)

@@ -2,13 +2,13 @@
 -- Assumes nothing.
 use Prim.Native.Nat.{ℕ}
 use mathlib.Core.Bool.{true, false≢true}
-use mathlib.Core.Path.{_≡_, refl, ap, ap₂}
+use mathlib.Core.Path.{_≡_, refl, ap, ap₂, sym, _∙_}
 use mathlib.Core.List.{List, [], _∷_}
 use lib.Dec.{eqb}
 use lib.ListN.{length}
 use borrow.Author.Tests.{eqb-true, eq-eqb}
 use Rattle.be.specs.Lists.{same}
-use Rattle.be.proofs.Bools.{and-left, and-right, and-both}
+use Rattle.be.proofs.Bools.{and-left, and-right, and-both, by-cases, clash}
 use Rattle.edition.specs.declared.Edition.{Edition}
 use Rattle.name.specs.Name.{same-name, hash-of, fixed-name}
 
@@ -31,6 +31,12 @@ module _ (e : Edition) where
   pub same-name-sym : (n m : List ℕ) → same-name e n m ≡ true → same-name e m n ≡ true
   unfolding same-name
   same-name-sym n m h = rw (same-eq n m h) (same-refl m)
+
+  pub same-name-swap : (n m : List ℕ) → same-name e n m ≡ same-name e m n
+  same-name-swap n m =
+      by-cases (same-name e n m)
+      (λ q. q ∙ sym (same-name-sym n m q))
+      (λ q. by-cases (same-name e m n) (λ y. absurd (clash (same-name-sym m n y) q)) (λ y. q ∙ sym y))
 
   pub same-name-trans : (n m k : List ℕ) → same-name e n m ≡ true → same-name e m k ≡ true → same-name e n k ≡ true
   unfolding same-name

@@ -6,8 +6,8 @@ use lib.ListN.{length, drop, take}
 use denote.Ref.{now}
 use borrow.Author.Needs.{needs}
 use Rattle.dir_rules.specs.Block.{slots, count-of}
-use Rattle.dir_laws.specs.Search.{all-below, all-from}
-use Rattle.dir_laws.proofs.Searches.{slots-room, search-start, turn-left, turn-right}
+use Rattle.dir_laws.specs.SlotPlaces.{all-below, all-from}
+use Rattle.dir_laws.proofs.SlotSearch.{slots-room, search-start, turn-left, turn-right}
 use Rattle.dir_block.proofs.first_slot.Statement.{statement}
 use Rattle.dir_block.proofs.first_slot.Tie as tie
 use Rattle.dir_block.proofs.first_slot.Reads as reads

@@ -7,7 +7,7 @@ use lib.ListN.{length, drop, take}
 use denote.Ref.{now}
 use borrow.Author.Needs.{needs}
 use Rattle.dir_rules.specs.Block.{slots, slot, Slot, count-of}
-use Rattle.dir_laws.proofs.Searches.{slots-room, Run, run-start, run-other, run-end, run-stale, run-differs, run-hit, slot-read, live-inside, ordered, length-slots}
+use Rattle.dir_laws.proofs.SlotSearch.{slots-room, Run, run-start, run-other, run-end, run-stale, run-differs, run-hit, slot-read, live-inside, ordered, length-slots}
 use Rattle.dir_block.proofs.seek.Statement.{statement}
 use Rattle.dir_block.proofs.seek.Tie as tie
 use Rattle.dir_block.proofs.seek.Reads as reads

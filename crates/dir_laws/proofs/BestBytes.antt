@@ -1,19 +1,15 @@
 -- The best-gap table, number by number.
 -- Assumes nothing.
-use Prim.Native.Nat.{ℕ, suc, _+_, _-_, _*_, _≤_, _<_}
-use native.Mathlib.Omega.{arith}
-use mathlib.Core.Path.{_≡_, refl, sym, _∙_, ap, ap₂}
+use Prim.Native.Nat.{ℕ, _+_, _-_}
+use mathlib.Core.Path.{_≡_, sym, _∙_, ap}
 use mathlib.Core.List.{List, [], _∷_, _++_, append-assoc, append-nil}
-use lib.ListN.{length, length-append}
+use lib.ListN.{length-append}
 use Rattle.be.specs.Bytes.{put, to-be, written}
-use Rattle.edition.specs.declared.Edition.{Edition}
 use Rattle.edition.specs.Edition.{v4}
-use Rattle.dir_rules.specs.Record.{gaps}
-use Rattle.dir_rules.specs.Block.{records}
 use Rattle.dir_rules.specs.Verdict.{Pair, pair}
-use Rattle.dir_rules.specs.Change.{pair-bytes, with-best, best-of}
+use Rattle.dir_rules.specs.Change.{pair-bytes, with-best}
 use Rattle.be.proofs.Numbers.{length-to-be}
-use Rattle.dir_laws.specs.Seen.{Scanned}
+use Rattle.dir_laws.specs.Pass.{Scanned}
 use Rattle.be.proofs.Writes.{put-next}
 
 pub table-written : (o₁ l₁ o₂ l₂ o₃ l₃ : ℕ) (b b₁ b₂ b₃ b₄ b₅ b₆ : List ℕ)

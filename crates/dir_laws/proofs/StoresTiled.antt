@@ -1,38 +1,33 @@
 -- What a change's stores leave, before its best-gap table is written: the definition's writes, and a tiled block.
 -- Assumes nothing.
-use Prim.Native.Nat.{ℕ, zero, suc, _+_, _-_, _*_, _≤_, _<_}
-use native.Mathlib.Nat.{add-zero, zero-add, add-assoc}
+use Prim.Native.Nat.{ℕ, zero, suc, _+_, _-_, _*_, _≤_}
 use native.Mathlib.Omega.{arith}
-use mathlib.Core.Bool.{Bool, true, false, not, cond, _&&_}
+use mathlib.Core.Bool.{true, false, _&&_}
 use mathlib.Core.Path.{_≡_, refl, sym, _∙_, ap, ap₂, subst}
-use mathlib.Core.List.{List, [], _∷_, _++_, append-assoc, append-nil}
-use lib.Dec.{eqb, leb, ltb}
-use lib.ListN.{length, take, drop, getD, length-append, length-drop}
-use lib.Seq.{drop-drop}
-use borrow.Author.Tests.{eqb-true, leb-true}
+use mathlib.Core.List.{List, [], _∷_, _++_}
+use lib.Dec.{leb}
+use lib.ListN.{length, take, drop, length-append}
+use borrow.Author.Tests.{leb-true}
 use Rattle.be.specs.Lists.{every}
 use Rattle.be.specs.Bytes.{bytes, be, part, field, put, to-be, write, Write, written}
 use Rattle.edition.specs.declared.Edition.{Edition}
-use Rattle.edition.specs.Edition.{v4, entry-size}
-use Rattle.dir_rules.specs.Record.{Rec, rec, size, cut, whole, gaps, gap-writes}
-use Rattle.dir_rules.specs.Block.{records, slots, data-end, count-of, stale-of}
+use Rattle.edition.specs.Edition.{entry-size, Sane}
+use Rattle.dir_rules.specs.Record.{size, cut, whole, gaps, gap-writes}
+use Rattle.dir_rules.specs.Block.{records, data-end, count-of, stale-of}
 use Rattle.name.specs.Name.{fixed-name}
 use Rattle.dir_rules.specs.Lookup.{sought}
 use Rattle.dir_rules.specs.Verdict.{Accepted, span-ok, size-ok, Pair}
 use Rattle.dir_rules.specs.Change.{gap-start-before, gap-end-after, with-best, changed, pair-bytes, best-of, remove-writes}
-use Rattle.be.proofs.Bools.{by-cases, and-left, and-right}
-use Rattle.be.proofs.Writes.{length-put}
+use Rattle.be.proofs.Bools.{and-left}
+use Rattle.be.proofs.Writes.{length-put, put-next, drop-put}
 use Rattle.be.proofs.Numbers.{length-to-be}
 use Rattle.dir_rules.proofs.WritesLeave.{written-append}
-use Rattle.edition.specs.Edition.{Sane}
 use Rattle.dir_rules.proofs.GoodParts.{block-bound}
 use Rattle.dir_rules.proofs.Acceptance.{Passed, passed, tile-whole}
 use Rattle.dir_rules.proofs.StaysBytes.{bytes-written, all-remove}
-use Rattle.dir_rules.proofs.LookupFinds.{Removed, removed-of}
+use Rattle.dir_rules.proofs.LookupFinds.{removed-of}
 use Rattle.dir_laws.specs.Tiled.{Tiled, Ready}
-use Rattle.dir_laws.specs.Seen.{Entry-at}
-use Rattle.be.proofs.Writes.{put-next, drop-put}
-use Rattle.dir_laws.proofs.Top.{length-best}
+use Rattle.dir_laws.proofs.BestGrows.{length-best}
 
 length-pairs : (ps : List Pair) → length (pair-bytes ps) ≡ 4 * length ps
 unfolding pair-bytes

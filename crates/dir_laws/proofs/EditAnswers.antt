@@ -1,18 +1,16 @@
 -- What a removal or an insert answers, once the block is accepted and the name is legal.
 -- Assumes nothing.
 use Prim.Native.Nat.{ℕ}
-use mathlib.Core.Bool.{Bool, true, false, not, cond, _&&_}
-use mathlib.Core.Path.{_≡_, refl, sym, _∙_, ap, ap₂}
+use mathlib.Core.Bool.{true, false}
+use mathlib.Core.Path.{_≡_, sym, _∙_}
 use mathlib.Core.List.{List}
-use lib.Dec.{eqb}
 use Rattle.edition.specs.declared.Edition.{Edition}
-use Rattle.name.specs.Name.{legal-name, legal-number, fixed-name}
+use Rattle.name.specs.Name.{legal-name, fixed-name}
 use Rattle.dir_rules.specs.Lookup.{sought}
 use Rattle.dir_rules.specs.Verdict.{otherwise}
-use Rattle.dir_rules.specs.Room.{has-room}
-use Rattle.dir_rules.specs.Change.{changed, remove-code, remove-block, remove-writes, insert-code, insert-block, insert-writes}
+use Rattle.dir_rules.specs.Change.{changed, remove-code, remove-block, remove-writes}
 use Rattle.edition.specs.Edition.{Sane}
-use Rattle.dir_rules.proofs.EachCall.{remove-code-is, insert-code-is}
+use Rattle.dir_rules.proofs.EachCall.{remove-code-is}
 use Rattle.dir_laws.specs.Tiled.{Ready}
 
 module _ (e : Edition) (sane : Sane e) (b n : List ℕ) (r : Ready e b) (l : legal-name e n ≡ true) (x : fixed-name n ≡ false) where

@@ -1,35 +1,34 @@
 -- The index rewritten: runs of slots that stay, that move, and the new slot; and the tail.
 -- Assumes nothing.
-use Prim.Native.Nat.{ℕ, zero, suc, _+_, _-_, _*_, _/_, _≤_, _<_}
-use native.Mathlib.Nat.{add-zero, zero-add, add-assoc, sub-zero}
+use Prim.Native.Nat.{ℕ, zero, suc, _+_, _-_, _*_, _≤_, _<_}
+use native.Mathlib.Nat.{zero-add}
 use native.Mathlib.Numerals.{add-one}
 use native.Mathlib.Omega.{arith}
-use mathlib.Core.Bool.{Bool, true, false, not, cond, _&&_}
-use mathlib.Core.Path.{_≡_, refl, sym, _∙_, ap, ap₂, subst}
+use mathlib.Core.Bool.{true, false, _&&_}
+use mathlib.Core.Path.{_≡_, refl, sym, _∙_, ap, ap₂}
 use mathlib.Core.List.{List, [], _∷_, _++_, append-assoc, append-nil}
-use lib.Dec.{eqb, leb, ltb}
-use lib.ListN.{length, take, drop, getD, length-append, length-drop, length-take, take-append-drop}
+use lib.Dec.{leb, ltb}
+use lib.ListN.{length, take, drop, length-append, length-drop, length-take, take-append-drop}
 use lib.Seq.{drop-drop, take-add, take-all}
-use borrow.Author.Tests.{eqb-true, eq-eqb, ne-eqb, leb-true, leb-false, ltb-true, le-leb, lt-leb, not-true}
+use borrow.Author.Tests.{eq-eqb, ne-eqb, leb-true, ltb-true, le-leb, lt-leb, not-true}
 use Rattle.be.specs.Lists.{every, keep, without-first, tally}
-use Rattle.be.specs.Bytes.{bytes, be, part, field, put, to-be, write, Write, written}
+use Rattle.be.specs.Bytes.{bytes, part, field, put, to-be, write, written}
 use Rattle.edition.specs.declared.Edition.{Edition}
 use Rattle.dir_rules.specs.Block.{Slot, slot, slots, slots-in, slot-bytes, data-end, count-of, stale-of, is-stale, is-live}
 use Rattle.dir_rules.specs.Change.{index-writes, insert-slot}
-use Rattle.be.proofs.Bools.{by-cases, every-head, every-tail, every-append, and-left, and-right, and-both}
+use Rattle.be.proofs.Bools.{every-head, every-tail, every-append, and-left, and-right, and-both}
 use Rattle.be.proofs.Numbers.{length-to-be}
 use Rattle.be.proofs.Parts.{bytes-drop}
-use Rattle.dir_rules.proofs.BlockParts.{slot-bytes-in, length-slot-bytes, length-slots-in}
-use Rattle.dir_rules.proofs.ChangeAccepted.{length-insert, length-without, length-live}
+use Rattle.dir_rules.proofs.BlockParts.{slot-bytes-in, length-slot-bytes}
+use Rattle.dir_rules.proofs.ChangeAccepted.{length-insert, length-without}
 use Rattle.edition.specs.Edition.{Sane}
 use Rattle.dir_rules.proofs.AcceptedParts.{good-of}
-use Rattle.dir_rules.proofs.IndexedEntries.{Indexed}
 use Rattle.dir_rules.proofs.RemoveWrites.{slot-bytes-append}
-use Rattle.dir_laws.specs.Tiled.{Tiled, Ready}
-use Rattle.dir_laws.specs.Search.{all-below, all-from, Spot, First-stale}
-use Rattle.be.proofs.Writes.{put-next, put-comm, put-same, part-behind, part-before}
-use Rattle.dir_laws.proofs.Steps.{end-fits}
-use Rattle.dir_laws.proofs.Searches.{slots-drop, slot-at, tiled, length-slots}
+use Rattle.dir_laws.specs.Tiled.{Ready}
+use Rattle.dir_laws.specs.SlotPlaces.{all-below, all-from, Spot, First-stale}
+use Rattle.be.proofs.Writes.{put-next, put-comm, put-same, part-behind}
+use Rattle.dir_laws.proofs.RecordSteps.{end-fits}
+use Rattle.dir_laws.proofs.SlotSearch.{slots-drop, slot-at, tiled, length-slots}
 
 -- ---- writes that keep what stands at one of their ends
 

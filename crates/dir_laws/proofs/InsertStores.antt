@@ -1,49 +1,43 @@
 -- An insert: the entry's stores, writes that may change places, and the room rule's case from what a pass found.
 -- Assumes nothing.
 use Prim.Native.Nat.{ℕ, zero, suc, _+_, _-_, _*_, _/_, _%_, _≤_, _<_}
-use native.Mathlib.Nat.{add-zero, zero-add, add-assoc}
 use native.Mathlib.Omega.{arith}
 use mathlib.Core.Bool.{Bool, true, false, not, cond, _&&_, _||_}
 use mathlib.Core.Path.{_≡_, refl, sym, _∙_, ap, ap₂, subst}
-use mathlib.Core.List.{List, [], _∷_, _++_, append-assoc, append-nil}
-use lib.Dec.{eqb, leb, ltb}
-use lib.ListN.{length, take, drop, replicate, length-append, length-replicate}
-use borrow.Author.Tests.{eqb-true, eqb-false, eq-eqb, ne-eqb, leb-true, leb-false, le-leb, lt-leb, not-true}
-use Rattle.be.specs.Lists.{every, keep, without-first}
+use mathlib.Core.List.{List, [], _∷_, _++_, append-assoc}
+use lib.Dec.{eqb, leb}
+use lib.ListN.{length, replicate, length-append, length-replicate}
+use borrow.Author.Tests.{eqb-false, eq-eqb, ne-eqb, leb-true, leb-false, le-leb, lt-leb, not-true}
+use Rattle.be.specs.Lists.{keep, without-first}
 use Rattle.be.specs.Bytes.{bytes, put, to-be, write, Write, written}
 use Rattle.edition.specs.declared.Edition.{Edition}
-use Rattle.edition.specs.Edition.{v4, entry-size}
-use Rattle.dir_rules.specs.Record.{Rec, rec, size, gaps, besides, is-gap, gap-writes, entry-bytes}
-use Rattle.dir_rules.specs.Block.{Slot, slot, slots, records, data-end, stale-of, is-stale, is-live, slot-bytes}
+use Rattle.edition.specs.Edition.{v4, entry-size, Sane}
+use Rattle.dir_rules.specs.Record.{Rec, size, gaps, besides, is-gap, gap-writes, entry-bytes}
+use Rattle.dir_rules.specs.Block.{Slot, slot, slots, records, data-end, stale-of, is-stale, is-live, slot-bytes, count-of}
 use Rattle.name.specs.Name.{hash-of, legal-name, legal-number, fixed-name}
 use Rattle.dir_rules.specs.Verdict.{Pair, pair}
-use Rattle.dir_rules.specs.Room.{Room, room, longest, touching, other-gaps, has-room, case-a, case-b, case-c, case-d}
-use Rattle.dir_rules.specs.Change.{best-of, index-writes, insert-slot, entry-writes, insert-writes, writes-a, writes-b, writes-c, writes-d}
-use Rattle.be.proofs.Bools.{by-cases, and-left, and-right, and-both}
+use Rattle.dir_rules.specs.Room.{room, longest, touching, other-gaps, has-room, case-a, case-b, case-c, case-d, last-of}
+use Rattle.dir_rules.specs.Change.{best-of, index-writes, insert-slot, entry-writes, insert-writes, writes-a, writes-b, writes-c, writes-d, changed, with-best}
+use Rattle.be.proofs.Bools.{by-cases}
 use Rattle.be.proofs.Numbers.{length-to-be}
 use Rattle.dir_rules.specs.Lookup.{sought}
-use Rattle.dir_rules.specs.Change.{changed, with-best}
 use Rattle.dir_rules.proofs.RecordPlaces.{Split}
 use Rattle.dir_rules.proofs.AcceptedParts.{keep-find, Found-in}
 use Rattle.dir_rules.proofs.ChangeAccepted.{longest-in, length-insert, length-without}
-use Rattle.edition.proofs.Sizes.{entry-size-eights}
-use Rattle.dir_rules.specs.Room.{last-of}
-use Rattle.dir_rules.specs.Block.{count-of}
-use Rattle.dir_laws.proofs.Searches.{tiled, length-slots}
-use Rattle.dir_laws.proofs.Indexes.{stale-some}
-use Rattle.edition.specs.Edition.{Sane}
+use Rattle.edition.proofs.Sizes.{entry-size-eights, entry-size-least}
+use Rattle.dir_laws.proofs.SlotSearch.{tiled, length-slots}
+use Rattle.dir_laws.proofs.IndexStores.{stale-some}
 use Rattle.dir_rules.proofs.LookupFinds.{hit-of}
-use Rattle.dir_rules.proofs.InsertCases.{Inserted, insert-any}
-use Rattle.dir_rules.proofs.EachCall.{number-lt, name-lt}
+use Rattle.dir_rules.proofs.InsertCases.{insert-any}
+use Rattle.dir_rules.proofs.EachCall.{name-lt}
 use Rattle.dir_rules.proofs.StaysBytes.{bytes-written, all-insert}
-use Rattle.dir_laws.proofs.Steps.{Here, here, laid-all, end-fits}
-use Rattle.dir_laws.proofs.Top.{elsewhere}
-use Rattle.dir_laws.proofs.Written.{tiled-written}
-use Rattle.edition.proofs.Sizes.{entry-size-least}
+use Rattle.dir_laws.proofs.RecordSteps.{Here, here, laid-all, end-fits}
+use Rattle.dir_laws.proofs.BestGrows.{elsewhere}
+use Rattle.dir_laws.proofs.StoresTiled.{tiled-written}
 use Rattle.dir_rules.proofs.CutJoin.{join, Laid, laid-back}
 use Rattle.dir_rules.proofs.WritesLeave.{written-append, length-entry-bytes}
 use Rattle.dir_laws.specs.Tiled.{Tiled, Ready}
-use Rattle.dir_laws.specs.Seen.{Scanned, Inside}
+use Rattle.dir_laws.specs.Pass.{Scanned, Inside}
 use Rattle.be.proofs.Writes.{put-next, put-comm}
 
 -- ---- the entry's bytes, field by field
@@ -335,7 +329,8 @@ pub insert-tiled : (e : Edition) (sane : Sane e) (b n : List ℕ) (i : ℕ) → 
 unfolding changed
 insert-tiled e sane b n i r nb ln li fx ht rm =
     tiled-written e sane (written b (insert-writes e b n i)) (bytes-written b (insert-writes e b n i) (r .are-bytes) (all-insert e b n i nb (name-lt e n ln)))
-    (insert-any e sane b (r .are-bytes) (r .ok) i n nb ln li (number-lt i li) fx (sym (hit-of e sane b (r .are-bytes) (r .ok) n) ∙ ht) rm .accepted)
+    (insert-any e sane b (r .are-bytes) (r .ok) i n
+    (record { name-bytes = nb; name-legal = ln; number-legal = li; not-fixed = fx; absent = sym (hit-of e sane b (r .are-bytes) (r .ok) n) ∙ ht }) rm .accepted)
 
 pub insert-changed : (e : Edition) (b n : List ℕ) (i : ℕ) (c d : List ℕ) → c ≡ written b (insert-writes e b n i) → d ≡ with-best e c → d ≡ changed e b (insert-writes e b n i)
 unfolding changed

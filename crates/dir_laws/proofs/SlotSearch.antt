@@ -1,27 +1,27 @@
 -- Search: slots whose hashes never fall, cut in two by a hash; the linear search over either part.
 -- Assumes nothing.
 use Prim.Native.Nat.{ℕ, zero, suc, _+_, _-_, _*_, _≤_, _<_}
-use native.Mathlib.Nat.{add-zero, zero-add, add-suc, suc-add, sub-zero}
+use native.Mathlib.Nat.{add-zero, add-suc, suc-add, sub-zero}
 use native.Mathlib.Numerals.{add-one}
 use native.Mathlib.Omega.{arith}
-use mathlib.Core.Bool.{Bool, true, false, not, cond, _&&_}
+use mathlib.Core.Bool.{true, false, not, cond, _&&_}
 use mathlib.Core.Path.{_≡_, refl, sym, _∙_, ap, ap₂, subst}
-use mathlib.Core.List.{List, [], _∷_, _++_, map}
+use mathlib.Core.List.{List, [], _∷_, _++_}
 use lib.Dec.{eqb, leb, ltb}
-use lib.ListN.{length, take, drop, getD, length-append, length-drop, length-take, take-append-drop, drop-of-length-le}
-use lib.Seq.{drop-drop, getD-drop}
-use borrow.Author.Tests.{ltb-true, ltb-false, leb-true, leb-false, lt-ltb, le-ltb, le-leb, lt-leb, eq-eqb, ne-eqb, eqb-true, not-true}
-use Rattle.be.specs.Lists.{every, keep}
-use Rattle.be.specs.Bytes.{bytes, be, part, field}
+use lib.ListN.{length, take, drop, getD, length-drop, length-take, take-append-drop, drop-of-length-le}
+use lib.Seq.{drop-drop}
+use borrow.Author.Tests.{ltb-true, ltb-false, leb-true, lt-ltb, le-leb, eq-eqb, ne-eqb, eqb-true, not-true}
+use Rattle.be.specs.Lists.{every}
+use Rattle.be.specs.Bytes.{be, part, field}
 use Rattle.edition.specs.declared.Edition.{Edition}
-use Rattle.edition.specs.Edition.{entry-size}
-use Rattle.dir_rules.specs.Record.{Rec, size, is-gap, is-entry, gap-start, says, entries}
+use Rattle.edition.specs.Edition.{entry-size, Sane}
+use Rattle.dir_rules.specs.Record.{Rec, size, is-gap, is-entry, says, entries}
 use Rattle.name.specs.Name.{hash-of, same-name}
-use Rattle.dir_rules.specs.Block.{Slot, slot, slots-in, slots, records, count-of, stale-of, data-end, is-live, is-stale}
-use Rattle.dir_rules.specs.Lookup.{Sought, candidate, step-if, seek, sought, name-at}
-use Rattle.dir_rules.specs.Verdict.{Accepted, size-ok}
-use Rattle.be.proofs.Bools.{by-cases, and-left, and-right, every-head, every-tail, every-cons, every-append}
-use Rattle.dir_rules.proofs.SlotOrder.{From, from-le}
+use Rattle.dir_rules.specs.Block.{Slot, slot, slots-in, slots, records, count-of, stale-of, data-end, is-live}
+use Rattle.dir_rules.specs.Lookup.{candidate, step-if, seek, sought, name-at}
+use Rattle.dir_rules.specs.Verdict.{size-ok}
+use Rattle.be.proofs.Bools.{by-cases, every-head, every-tail, every-cons}
+use Rattle.dir_rules.proofs.SlotOrder.{From}
 use Rattle.dir_rules.proofs.CutJoin.{join}
 use Rattle.edition.proofs.Sizes.{entry-size-least}
 use Rattle.dir_rules.proofs.BlockParts.{slots-count}
@@ -29,13 +29,12 @@ use Rattle.dir_rules.proofs.IndexedEntries.{Indexed, addr-of}
 use Rattle.dir_rules.proofs.RecordPlaces.{Split, every-at}
 use Rattle.dir_rules.proofs.SearchFinds.{Owner, owner}
 use Rattle.dir_rules.proofs.Acceptance.{Passed, passed, tile-whole}
-use Rattle.edition.specs.Edition.{Sane}
 use Rattle.dir_rules.proofs.GoodParts.{block-bound}
 use Rattle.dir_rules.proofs.AcceptedParts.{good-of, apart-of, reads-of, keep-find, Found-in}
 use Rattle.dir_laws.specs.Tiled.{Tiled, Ready}
-use Rattle.dir_laws.specs.Search.{all-below, all-from}
-use Rattle.dir_laws.proofs.Steps.{Here, here, laid-all, end-fits}
-use Rattle.dir_laws.proofs.Scans.{says-entry}
+use Rattle.dir_laws.specs.SlotPlaces.{all-below, all-from}
+use Rattle.dir_laws.proofs.RecordSteps.{Here, here, end-fits}
+use Rattle.dir_laws.proofs.RecordPass.{says-entry}
 
 -- ---- slots one by one
 

@@ -1,30 +1,27 @@
 -- The gaps beside an entry, read in the block: behind it at its end, and before it by the tag that ends the record before.
 -- Assumes nothing.
-use Prim.Native.Nat.{ℕ, zero, suc, _+_, _-_, _*_, _≤_, _<_}
-use native.Mathlib.Nat.{add-zero, zero-add, add-assoc}
+use Prim.Native.Nat.{ℕ, suc, _+_, _-_, _*_, _≤_, _<_}
 use native.Mathlib.Omega.{arith}
-use mathlib.Core.Bool.{Bool, true, false, not, cond, _&&_}
+use mathlib.Core.Bool.{true, false}
 use mathlib.Core.Path.{_≡_, refl, sym, _∙_, ap, ap₂, subst}
 use mathlib.Core.List.{List, [], _∷_, _++_, append-assoc, append-nil}
-use lib.Dec.{eqb, leb, ltb}
 use lib.ListN.{length, take, drop, getD, length-append, length-drop, length-take}
 use lib.Seq.{drop-drop, drop-append-le, take-at}
-use borrow.Author.Tests.{eqb-true, eq-eqb, ne-eqb, not-true}
+use borrow.Author.Tests.{eq-eqb, ne-eqb, not-true}
 use Rattle.be.specs.Lists.{same}
-use Rattle.be.specs.Bytes.{be, part, field}
+use Rattle.be.specs.Bytes.{be, field}
 use Rattle.edition.specs.declared.Edition.{Edition}
-use Rattle.edition.specs.Edition.{entry-size}
-use Rattle.dir_rules.specs.Record.{Rec, rec, size, is-gap, is-entry, gap-start, says, gaps, tag, entries}
+use Rattle.edition.specs.Edition.{entry-size, Sane}
+use Rattle.dir_rules.specs.Record.{Rec, size, is-gap, is-entry, gap-start, says, gaps, tag, entries}
 use Rattle.dir_rules.specs.Block.{records, slots, data-end, count-of}
 use Rattle.dir_rules.specs.Lookup.{sought, seek, name-at, candidate}
 use Rattle.name.specs.Name.{hash-of, same-name}
 use Rattle.dir_rules.specs.Change.{gap-start-before, gap-end-after}
-use Rattle.be.proofs.Bools.{by-cases, and-right}
-use Rattle.dir_rules.proofs.CutJoin.{Whole, Laid, join, join-append, laid-front}
+use Rattle.be.proofs.Bools.{and-right}
+use Rattle.dir_rules.proofs.CutJoin.{Laid, join, laid-front}
 use Rattle.edition.proofs.Sizes.{entry-size-least}
 use Rattle.dir_rules.proofs.GapsApart.{last-gap?}
 use Rattle.dir_rules.proofs.RecordPlaces.{Split}
-use Rattle.edition.specs.Edition.{Sane}
 use Rattle.dir_rules.proofs.SearchFinds.{First, seek-first, seek-hit}
 use Rattle.name.proofs.Same.{same-eq}
 use Rattle.dir_rules.proofs.AcceptedParts.{keep-find, Found-in, place-of}
@@ -32,10 +29,10 @@ use Rattle.dir_rules.proofs.LookupFinds.{spot, at-spot}
 use Rattle.dir_rules.proofs.RemoveWrites.{before-gap, before-entry, after-gap, after-entry, after-end}
 use Rattle.dir_rules.proofs.RemoveAccepted.{snoc}
 use Rattle.dir_laws.specs.Tiled.{Tiled, Ready}
-use Rattle.dir_laws.specs.Seen.{Entry-at}
-use Rattle.dir_laws.proofs.Steps.{Here, here, none-left, laid-all, end-is, end-fits}
-use Rattle.dir_laws.proofs.Scans.{says-gap, says-entry}
-use Rattle.dir_laws.proofs.Searches.{tiled, length-slots}
+use Rattle.dir_laws.specs.Pass.{Entry-at}
+use Rattle.dir_laws.proofs.RecordSteps.{Here, here, none-left, laid-all, end-fits}
+use Rattle.dir_laws.proofs.RecordPass.{says-gap, says-entry}
+use Rattle.dir_laws.proofs.SlotSearch.{tiled, length-slots}
 
 module _ (e : Edition) (b : List ℕ) (t : Tiled e b) where
   -- the tag of a record stands in its last two bytes

@@ -1,31 +1,25 @@
 -- The records of a block one by one: what stands at the offset where the next one starts.
 -- Assumes nothing.
-use Prim.Native.Nat.{ℕ, zero, suc, _+_, _-_, _*_, _≤_, _<_}
-use native.Mathlib.Nat.{add-zero, zero-add, add-assoc}
+use Prim.Native.Nat.{ℕ, _+_, _-_, _*_, _≤_}
 use native.Mathlib.Omega.{arith}
-use mathlib.Core.Bool.{Bool, true, false, not, cond, _&&_}
-use mathlib.Core.Path.{_≡_, refl, sym, _∙_, ap, ap₂, subst}
+use mathlib.Core.Bool.{Bool, true}
+use mathlib.Core.Path.{_≡_, refl, sym, _∙_, ap, subst}
 use mathlib.Core.List.{List, [], _∷_, _++_, append-assoc, append-nil}
-use lib.Dec.{eqb, leb, ltb}
-use lib.ListN.{length, take, drop, getD, length-append}
-use lib.Seq.{drop-at, drop-drop, getD-drop}
-use borrow.Author.Tests.{leb-true, ne-eqb, eqb-true, eq-eqb}
+use lib.ListN.{length, take, drop, length-append}
+use lib.Seq.{drop-at}
+use borrow.Author.Tests.{leb-true, ne-eqb}
 use Rattle.be.specs.Lists.{every, keep}
-use Rattle.be.specs.Bytes.{bytes, be, part, field}
+use Rattle.be.specs.Bytes.{field}
 use Rattle.edition.specs.declared.Edition.{Edition}
-use Rattle.edition.specs.Edition.{v4, entry-size}
-use Rattle.dir_rules.specs.Record.{Rec, rec, size, is-gap, gap-start, says, gaps}
+use Rattle.dir_rules.specs.Record.{Rec, size, is-gap, gap-start, says}
 use Rattle.dir_rules.specs.Block.{records, slots, slot-bytes, stale-of, count-of, data-end}
-use Rattle.dir_rules.specs.Verdict.{span-ok, Pair, pair}
-use Rattle.dir_rules.specs.Change.{best-of}
-use Rattle.dir_rules.specs.Room.{last-of, touching}
-use Rattle.be.proofs.Bools.{by-cases, and-left, and-right, every-cons}
+use Rattle.dir_rules.specs.Verdict.{span-ok}
+use Rattle.dir_rules.specs.Room.{last-of}
+use Rattle.be.proofs.Bools.{by-cases, and-left, every-cons}
 use Rattle.dir_rules.proofs.CutJoin.{Whole, Laid, join, join-append, laid-back, laid-front, says-append, gap-start-append}
 use Rattle.dir_rules.proofs.BlockParts.{tail-bytes, build-end, refit, rebuild}
-use Rattle.dir_rules.proofs.OneMore.{keep-append}
 use Rattle.dir_laws.specs.Tiled.{Tiled}
-use Rattle.dir_laws.specs.Top.{ins}
-use Rattle.dir_laws.proofs.Top.{best-more, elsewhere}
+use Rattle.dir_laws.proofs.BestGrows.{elsewhere}
 
 -- offsets rise, so a record behind stands elsewhere than those before it
 pub laid-elsewhere : (e : Edition) (o p : ℕ) (q : Rec → Bool) (xs : List Rec) → Laid e o xs → o + length (join xs) ≤ p → every (elsewhere p) (keep q xs) ≡ true

@@ -1,8 +1,8 @@
 -- The best-gap table grows gap by gap: the table of gs and one gap more is the table of gs with that gap put in.
 -- Assumes nothing.
-use Prim.Native.Nat.{ℕ, zero, suc, _+_, _-_, _*_, _≤_, _<_}
+use Prim.Native.Nat.{ℕ, zero, suc, _+_, _-_, _<_}
 use native.Mathlib.Omega.{arith}
-use mathlib.Core.Bool.{Bool, true, false, not, cond, _&&_}
+use mathlib.Core.Bool.{Bool, true, not, cond}
 use mathlib.Core.Path.{_≡_, refl, sym, _∙_, ap, ap₂}
 use mathlib.Core.List.{List, [], _∷_, _++_, append-nil}
 use lib.Dec.{eqb, leb, ltb}
@@ -10,14 +10,14 @@ use lib.ListN.{length, take, length-append}
 use native.Mathlib.Nat.{not-suc-le-zero}
 use borrow.Author.Tests.{ltb-true, ltb-false, leb-true, leb-false, lt-ltb, le-ltb, le-leb, lt-leb, eq-eqb, ne-eqb, not-true, eqb-false}
 use Rattle.be.specs.Lists.{every, keep}
-use Rattle.dir_rules.specs.Record.{Rec, rec, size, besides}
+use Rattle.dir_rules.specs.Record.{Rec, size, besides}
 use Rattle.dir_rules.specs.Room.{longest}
 use Rattle.dir_rules.specs.Verdict.{Pair, pair}
 use Rattle.dir_rules.specs.Change.{best-of}
 use Rattle.be.proofs.Bools.{by-cases, every-head, every-tail, every-cons}
 use Rattle.dir_rules.proofs.OneMore.{keep-append}
 use Rattle.dir_rules.proofs.GoodParts.{every-longest}
-use Rattle.dir_laws.specs.Top.{ins}
+use Rattle.dir_laws.specs.BestSoFar.{ins}
 
 -- the longest with one record more at the end
 pub longest-more : (gs : List Rec) (g : Rec) → 0 < size g → longest (gs ++ (g ∷ [])) ≡ cond (ltb (size (longest gs)) (size g)) g (longest gs)
