@@ -1,13 +1,15 @@
 -- Parts of bytes and the numbers in them: how parts join, and what is known of a field.
 -- Assumes nothing.
-use Prim.Native.Nat.{ℕ, zero, suc, _+_, _*_, _^_, _≤_, _<_}
+use Prim.Native.Nat.{ℕ, zero, suc, _+_, _-_, _*_, _^_, _≤_, _<_}
+use native.Mathlib.Nat.{suc-add, zero-add}
 use native.Mathlib.Omega.{arith}
 use mathlib.Core.Bool.{true}
 use mathlib.Core.Path.{_≡_, refl, sym, _∙_, ap, subst}
 use mathlib.Core.List.{List, [], _∷_, _++_}
 use lib.Dec.{ltb}
-use lib.ListN.{length, take, drop, length-take, length-drop, take-append-drop}
-use lib.Seq.{take-at, drop-at, drop-drop, take-all, take-add, drop-cons}
+use lib.ListN.{length, take, drop, getD, length-take, length-drop, take-append-drop}
+use lib.Seq.{take-at, drop-at, drop-drop, take-all, take-add, take-take, take-nil, drop-cons, getD-take, getD-drop}
+use borrow.Author.Tests.{lt-ltb}
 use Rattle.be.specs.Bytes.{bytes, be, be-from, to-be, byte, part, field}
 use Rattle.be.proofs.Bools.{and-right, every-head, every-tail, every-cons}
 use Rattle.be.proofs.Numbers.{be-halves, be-lt, to-be-be}
@@ -18,6 +20,36 @@ part-length o n b h = simp (length-take, length-drop) (omega arith)
 -- two parts that touch
 pub part-add : (o n m : ℕ) (b : List ℕ) → part o (n + m) b ≡ part o n b ++ part (o + n) m b
 part-add o n m b = take-add n m (drop o b) ∙ ap (λ (l : List ℕ). take n (drop o b) ++ take m l) (drop-drop n o b)
+
+-- a part of a part, and what is left of one
+pub drop-take : (i m : ℕ) (l : List ℕ) → drop i (take (i + m) l) ≡ take m (drop i l)
+drop-take zero m l = ap (λ (k : ℕ). take k l) (zero-add m)
+drop-take (suc i) m [] = rw (take-nil {A = ℕ} (suc i + m), take-nil {A = ℕ} m)
+drop-take (suc i) m (x ∷ l) = rw suc-add (drop-take i m l)
+
+pub part-part : (b : List ℕ) (o m i n : ℕ) → i + n ≤ m → part i n (part o m b) ≡ part (o + i) n b
+part-part b o m i n h =
+    let split : i + (m - i) ≡ m = omega arith in
+    ap (λ (k : ℕ). take n (drop i (take k (drop o b)))) (sym split)
+    ∙ ap (take n) (drop-take i (m - i) (drop o b))
+    ∙ take-take n (m - i) (drop i (drop o b)) (omega arith)
+    ∙ ap (take n) (drop-drop i o b)
+
+pub field-part : (b : List ℕ) (o m i n : ℕ) → i + n ≤ m → field i n (part o m b) ≡ field (o + i) n b
+field-part b o m i n h = ap be (part-part b o m i n h)
+
+pub drop-part : (b : List ℕ) (o m n : ℕ) → n ≤ m → drop n (part o m b) ≡ part (o + n) (m - n) b
+drop-part b o m n h =
+    let split : n + (m - n) ≡ m = omega arith in
+    ap (λ (k : ℕ). drop n (take k (drop o b))) (sym split)
+    ∙ drop-take n (m - n) (drop o b)
+    ∙ ap (take (m - n)) (drop-drop n o b)
+
+pub take-part : (b : List ℕ) (o m n : ℕ) → n ≤ m → take n (part o m b) ≡ part o n b
+take-part b o m n h = take-take n m (drop o b) h
+
+pub getD-part : (b : List ℕ) (o m i : ℕ) → i < m → getD (part o m b) i 0 ≡ getD b (o + i) 0
+getD-part b o m i h = getD-take m (drop o b) i 0 h ∙ getD-drop o b i 0
 
 -- one byte of a part
 pub part-cons : (o n : ℕ) (b : List ℕ) → o < length b → part o (suc n) b ≡ byte o b ∷ part (suc o) n b
@@ -34,6 +66,11 @@ piece i n j b h = rw (← h, ← drop-drop n i b) (take-append-drop n (drop i b)
 -- the last n bytes
 pub last-piece : (i n : ℕ) (b : List ℕ) → i + n ≡ length b → part i n b ≡ drop i b
 last-piece i n b h = take-all n (drop i b) (simp length-drop (omega arith))
+
+-- what is known of a slice of bytes, element by element
+pub bytes-all : (b : List ℕ) → ((i : ℕ) → byte i b < 256) → bytes b ≡ true
+bytes-all [] h = refl
+bytes-all (x ∷ xs) h = every-cons (λ y. ltb y 256) x xs (lt-ltb x 256 (h 0)) (bytes-all xs (λ i. h (suc i)))
 
 pub bytes-take : (n : ℕ) (b : List ℕ) → bytes b ≡ true → bytes (take n b) ≡ true
 bytes-take zero b h = refl

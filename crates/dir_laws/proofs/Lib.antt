@@ -8,3 +8,4 @@ pub mod StoresTiled
 pub mod EditAnswers
 pub mod IndexStores
 pub mod InsertStores
+pub mod WalkSteps

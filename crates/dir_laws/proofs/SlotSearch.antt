@@ -12,14 +12,15 @@ use lib.ListN.{length, take, drop, getD, length-drop, length-take, take-append-d
 use lib.Seq.{drop-drop}
 use borrow.Author.Tests.{ltb-true, ltb-false, leb-true, lt-ltb, le-leb, eq-eqb, ne-eqb, eqb-true, not-true}
 use Rattle.be.specs.Lists.{every}
-use Rattle.be.specs.Bytes.{be, part, field}
+use Rattle.be.proofs.Parts.{bytes-all}
+use Rattle.be.specs.Bytes.{byte, be, part, field}
 use Rattle.edition.specs.declared.Edition.{Edition}
 use Rattle.edition.specs.Edition.{entry-size, Sane}
 use Rattle.dir_rules.specs.Record.{Rec, size, is-gap, is-entry, says, entries}
 use Rattle.name.specs.Name.{hash-of, same-name}
 use Rattle.dir_rules.specs.Block.{Slot, slot, slots-in, slots, records, count-of, stale-of, data-end, is-live}
 use Rattle.dir_rules.specs.Lookup.{candidate, step-if, seek, sought, name-at}
-use Rattle.dir_rules.specs.Verdict.{size-ok}
+use Rattle.dir_rules.specs.Verdict.{verdict, size-ok}
 use Rattle.be.proofs.Bools.{by-cases, every-head, every-tail, every-cons}
 use Rattle.dir_rules.proofs.SlotOrder.{From}
 use Rattle.dir_rules.proofs.CutJoin.{join}
@@ -137,6 +138,10 @@ seek-above e b n h k c (s ∷ vs) p =
     rw (y, add-suc, ← suc-add) (seek-above e b n h (suc k) c vs (every-tail (λ s. leb (suc h) (s .hash)) s vs p))
 
 -- ---- an accepted block
+
+-- a slice of bytes that the test has passed
+pub ready-of : (e : Edition) (b : List ℕ) (n : ℕ) → ((i : ℕ) → byte i b < 256) → n ≡ verdict e b → n ≡ 0 → Ready e b
+ready-of e b n h v z = record { are-bytes = bytes-all b h; ok = sym v ∙ z }
 
 pub tiled : (e : Edition) (b : List ℕ) → Ready e b → Tiled e b
 unfolding size-ok

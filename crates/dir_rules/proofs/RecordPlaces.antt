@@ -14,7 +14,7 @@ use Rattle.be.specs.Bytes.{be, part}
 use Rattle.edition.specs.declared.Edition.{Edition}
 use Rattle.dir_rules.specs.Record.{Rec, says, size, name, number, is-gap}
 use Rattle.dir_rules.specs.Lookup.{name-at, number-at}
-use Rattle.be.proofs.Bools.{and-left, and-right, by-cases, every-cons}
+use Rattle.be.proofs.Bools.{and-left, and-right, by-cases, every-cons, every-head, every-tail}
 use Rattle.edition.proofs.Sizes.{entry-size-least}
 use Rattle.dir_rules.proofs.CutJoin.{Laid, Whole}
 use Rattle.dir_rules.proofs.SlotCounts.{Apart}
@@ -128,3 +128,18 @@ pub apart-pos : (es : List Rec) → Apart (map addr-of es) → every (λ r. not 
 apart-pos [] a = refl
 apart-pos (r ∷ es) a =
     every-cons (λ r. not (eqb (addr-of r) 0)) r es (rw (ne-eqb (addr-of r) 0 (λ (z : addr-of r ≡ 0). omega (arith, a .0)))) (apart-pos es (a .2))
+
+-- records laid from o on stand at o or behind
+pub off-above : (e : Edition) (p : Rec → Bool) (c o : ℕ) (rs : List Rec) → c < o → Laid e o rs → every (λ h. not (eqb (h .off) c)) (keep p rs) ≡ true
+off-above e p c o [] h l = refl
+off-above e p c o (r ∷ rs) h l =
+    let more : every (λ h. not (eqb (h .off) c)) (keep p rs) ≡ true = off-above e p c (o + size r) rs (omega arith) (l .2) in
+    by-cases (p r)
+    (λ q. rw q (every-cons (λ h. not (eqb (h .off) c)) r (keep p rs) (rw (ne-eqb (r .off) c (λ (z : r .off ≡ c). omega (arith, l .0)))) more))
+    (λ q. rw q more)
+
+-- no record starts at c
+pub none-at : (c : ℕ) (rs : List Rec) → every (λ h. not (eqb (h .off) c)) rs ≡ true → some-of (λ r. eqb (r .off) c) rs ≡ false
+none-at c [] h = refl
+none-at c (r ∷ rs) h =
+    rw (not-true (eqb (r .off) c) (every-head (λ h. not (eqb (h .off) c)) r rs h)) (none-at c rs (every-tail (λ h. not (eqb (h .off) c)) r rs h))

@@ -45,7 +45,7 @@ climbs-laid e o (r ∷ s ∷ rs) l =
     (climbs-laid e (o + size r) (s ∷ rs) (l .2))
 
 module _ (e : Edition) (sane : Sane e) (b : List ℕ) (h : bytes b ≡ true) (a : Accepted e b) where
-  step-at : (xs : List Rec) (y : Rec) (ys : List Rec) → records e b ≡ xs ++ y ∷ ys → walk-step e b (e .header + length (join xs)) ≡ Stepped (step-over y)
+  pub step-at : (xs : List Rec) (y : Rec) (ys : List Rec) → records e b ≡ xs ++ y ∷ ys → walk-step e b (e .header + length (join xs)) ≡ Stepped (step-over y)
   unfolding walk-step walk-refusal
   step-at xs y ys q =
       let p : ℕ = e .header + length (join xs) in

@@ -1,16 +1,15 @@
 -- BEST's pass: one gap at a time.
 -- Assumes nothing.
-use Prim.Native.Nat.{ℕ, zero, suc, _+_, _-_, _*_, _/_, _%_, _≤_, _<_}
+use Prim.Native.Nat.{ℕ, _-_, _≤_, _<_}
 use native.Mathlib.Omega.{arith}
-use mathlib.Core.Bool.{Bool, true, false, not, cond, _&&_, _||_}
-use mathlib.Core.Path.{_≡_, refl, sym, _∙_, ap, ap₂, subst}
-use mathlib.Core.List.{List, [], _∷_, _++_}
-use lib.Dec.{eqb, leb, ltb}
-use lib.ListN.{length}
+use mathlib.Core.Bool.{Bool, true, false, cond, _&&_, _||_}
+use mathlib.Core.Path.{_≡_, refl, sym, _∙_, ap, ap₂}
+use mathlib.Core.List.{List, [], _∷_}
+use lib.Dec.{eqb, leb}
 use borrow.Author.Tests.{le-leb, lt-leb, eq-eqb, ne-eqb}
-use Rattle.be.specs.Lists.{every, some-of, keep}
+use Rattle.be.specs.Lists.{some-of}
 use Rattle.dir_rules.specs.Record.{Rec, is-gap, size, gaps}
-use Rattle.dir_rules.specs.Verdict.{Pair, pair, is-gap-of}
+use Rattle.dir_rules.specs.Verdict.{Pair, is-gap-of}
 use Rattle.be.proofs.Bools.{by-cases}
 use Rattle.dir_test.specs.Passes.{best-left, which, unnamed}
 

@@ -4,7 +4,7 @@ use Prim.Native.Nat.{ℕ, zero, suc, _+_, _-_, _*_, _/_, _%_, _≤_, _<_, min}
 use mathlib.Core.Bool.{Bool, true, false, not, cond, _&&_, _||_, Bool·beq}
 use mathlib.Core.Path.{_≡_}
 use mathlib.Core.List.{List, [], _∷_}
-use lib.Dec.{eqb, leb, ltb}
+use lib.Dec.{eqb, leb}
 use lib.ListN.{length, take, drop, getD, set}
 use Rattle.be.specs.Lists.{every, some-of, tally, same, keep}
 use Rattle.be.specs.Bytes.{byte, field, part}
@@ -12,7 +12,7 @@ use Rattle.edition.specs.declared.Edition.{Edition}
 use Rattle.edition.specs.Edition.{largest-block}
 use Rattle.name.specs.Name.{legal-number, legal-name, hash-of, same-name, dot, dotdot}
 use Rattle.dir_rules.specs.Record.{Rec, rec, cut, says, whole, is-gap, entries, gaps, name, number, size}
-use Rattle.dir_rules.specs.Block.{Slot, slots-in, is-live, is-stale}
+use Rattle.dir_rules.specs.Block.{Slot, slots-in, is-stale}
 use Rattle.dir_rules.specs.Verdict.{name-ok, otherwise, Pair, is-gap-of, best-ok, best-pairs, once-ok, names-ok, numbers-ok, index-ok, tile-ok}
 
 -- the records from o to the data's end t, with fuel k

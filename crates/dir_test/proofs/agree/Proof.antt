@@ -1,9 +1,5 @@
--- `dirtest::agree` meets its contract.
--- Assumes nothing.
-use native.Mathlib.Omega.{arith}
-use borrow.Author.Needs.{needs}
 use mathlib.Core.Bool.{Bool, true, false, Bool·beq, not, true≢false, false≢true}
-use mathlib.Core.Path.{_≡_, refl, sym}
+use mathlib.Core.Path.{_≡_, refl}
 use Rattle.dir_test.proofs.agree.Statement.{statement}
 use Rattle.dir_test.proofs.agree.Tie as tie
 

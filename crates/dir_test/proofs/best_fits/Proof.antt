@@ -1,6 +1,6 @@
 use native.Mathlib.Omega.{arith}
 use borrow.Author.Needs.{needs}
-use Rattle.dir_test.proofs.Conclusions.{wholes, best-falls, best-falls-2, best-last}
+use Rattle.dir_test.proofs.LaterTests.{wholes, best-falls, best-falls-2, best-last}
 use Rattle.dir_test.proofs.best_fits.Statement.{statement}
 use Rattle.dir_test.proofs.best_fits.Tie as tie
 

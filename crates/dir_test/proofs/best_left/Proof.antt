@@ -7,9 +7,9 @@ use Rattle.be.specs.Bytes.{part}
 use Rattle.dir_rules.specs.Record.{gaps, rec}
 use Rattle.dir_rules.specs.Verdict.{pair}
 use Rattle.dir_test.specs.Passes.{rest, best-left}
-use Rattle.dir_test.proofs.Fields.{length-part}
-use Rattle.dir_test.proofs.Tile.{head-gap}
-use Rattle.dir_test.proofs.Entries.{Walk, walk-start, walk-end, walk-on, walk-head, walk-room, walk-out}
+use Rattle.be.proofs.Parts.{part-length}
+use Rattle.dir_test.proofs.TileWalk.{head-gap}
+use Rattle.dir_test.proofs.EntryWalk.{Walk, walk-start, walk-end, walk-on, walk-head, walk-room, walk-out}
 use Rattle.dir_test.proofs.BestPass.{Besting, best-stop, best-on, best-end}
 use Rattle.dir_test.proofs.best_left.Statement.{statement}
 use Rattle.dir_test.proofs.best_left.Tie as tie
@@ -41,7 +41,7 @@ returns c =
     let l = c .before .before .before .before .loop-test .taken in
     let n = c .before .before .before .rec-len .ensures .0 in
     let hd = walk-head _ _ _ (p .0) (p .1) _ _ k l _ n in
-    walk-out _ _ _ (p .0) (p .1) _ _ k l _ n (best-stop _ _ _ _ _ _ _ _ _ _ _ (c .before .which .ensures) (rec (c .before .before .before .before .before .loop .o) (part (c .before .before .before .before .before .loop .o) (c .before .before .before .rec-len .result) (a .b .now))) (head-gap _ _ _ _ l (p .0) _ hd ∙ sym (c .before .before .is-gap .ensures)) refl (length-part (a .b .now) (c .before .before .before .before .before .loop .o) (c .before .before .before .rec-len .result) (omega (arith, hd .fits, p .0))) (c .if1 .taken))
+    walk-out _ _ _ (p .0) (p .1) _ _ k l _ n (best-stop _ _ _ _ _ _ _ _ _ _ _ (c .before .which .ensures) (rec (c .before .before .before .before .before .loop .o) (part (c .before .before .before .before .before .loop .o) (c .before .before .before .rec-len .result) (a .b .now))) (head-gap _ _ _ _ l (p .0) _ hd ∙ sym (c .before .before .is-gap .ensures)) refl (part-length (c .before .before .before .before .before .loop .o) (c .before .before .before .rec-len .result) (a .b .now) (omega (arith, hd .fits, p .0))) (c .if1 .taken))
 
 add-o : tie.Need-add-o Inv-loop μ-loop
 add-o c =
@@ -61,7 +61,7 @@ loop-again c =
     let l = c .before .before .before .before .loop-test .taken in
     let n = c .before .before .before .rec-len .ensures .0 in
     let hd = walk-head _ _ _ (p .0) (p .1) _ _ k l _ n in
-    walk-on _ _ _ (p .0) (p .1) _ _ k l _ n _ (best-on _ _ _ _ _ _ _ _ _ _ _ (c .before .which .ensures) (rec (c .before .before .before .before .before .loop .o) (part (c .before .before .before .before .before .loop .o) (c .before .before .before .rec-len .result) (a .b .now))) (head-gap _ _ _ _ l (p .0) _ hd ∙ sym (c .before .before .is-gap .ensures)) refl (length-part (a .b .now) (c .before .before .before .before .before .loop .o) (c .before .before .before .rec-len .result) (omega (arith, hd .fits, p .0))) (c .if1 .left) _ _ _ refl refl refl)
+    walk-on _ _ _ (p .0) (p .1) _ _ k l _ n _ (best-on _ _ _ _ _ _ _ _ _ _ _ (c .before .which .ensures) (rec (c .before .before .before .before .before .loop .o) (part (c .before .before .before .before .before .loop .o) (c .before .before .before .rec-len .result) (a .b .now))) (head-gap _ _ _ _ l (p .0) _ hd ∙ sym (c .before .before .is-gap .ensures)) refl (part-length (c .before .before .before .before .before .loop .o) (c .before .before .before .rec-len .result) (a .b .now) (omega (arith, hd .fits, p .0))) (c .if1 .left) _ _ _ refl refl refl)
 
 returns-2 : tie.Need-returns-2 Inv-loop μ-loop
 returns-2 c =

@@ -1,12 +1,9 @@
--- `dirtest::clash` meets its contract.
--- Assumes nothing.
-use native.Mathlib.Omega.{arith}
 use borrow.Author.Needs.{needs}
 use Prim.Native.Nat.{_-_}
-use mathlib.Core.Path.{refl, sym, _∙_, ap, subst}
+use mathlib.Core.Path.{sym, _∙_}
 use mathlib.Core.Logic.{⊎-elim}
-use Rattle.dir_test.specs.Passes.{Reach, hash-at, addr-at}
-use Rattle.dir_test.proofs.TwicePass.{Clashing, clash-start, clash-end, clash-past, clash-stale, clash-hit, clash-on, reach-at, same-at}
+use Rattle.dir_test.specs.Passes.{hash-at, addr-at}
+use Rattle.dir_test.proofs.TwinWalk.{Clashing, clash-start, clash-end, clash-past, clash-stale, clash-hit, clash-on, reach-at, same-at}
 use Rattle.dir_test.proofs.clash.Statement.{statement}
 use Rattle.dir_test.proofs.clash.Tie as tie
 

@@ -1,9 +1,3 @@
--- `dirtest::entry_at` meets its contract.
--- Assumes nothing.
-use native.Mathlib.Omega.{arith}
-use borrow.Author.Needs.{needs}
-use mathlib.Core.Path.{ap}
-use mathlib.Core.Bool.{Bool, not}
 use borrow.Author.Tests.{lt-ltb, le-ltb}
 use Rattle.dir_test.proofs.entry_at.Statement.{statement}
 use Rattle.dir_test.proofs.entry_at.Tie as tie

@@ -5,7 +5,7 @@ use denote.Ref.{now}
 use borrow.Author.Needs.{needs}
 use borrow.Author.Tests.{not-true, not-false}
 use Rattle.be.specs.Bytes.{byte}
-use Rattle.dir_test.proofs.Entries.{fault-6, fault-7, fault-8, fault-9}
+use Rattle.dir_test.proofs.EntryWalk.{fault-6, fault-7, fault-8, fault-9}
 use Rattle.dir_test.proofs.entry_fault.Statement.{statement}
 use Rattle.dir_test.proofs.entry_fault.Tie as tie
 

@@ -1,12 +1,9 @@
--- `dirtest::faults` meets its contract.
--- Assumes nothing.
 use native.Mathlib.Omega.{arith}
-use borrow.Author.Needs.{needs}
 use Prim.Native.Nat.{_-_, _≤_}
-use mathlib.Core.Path.{refl, sym, _∙_}
+use mathlib.Core.Path.{refl}
 use Rattle.dir_test.specs.Passes.{hint, rest}
 use lib.ListN.{length}
-use Rattle.dir_test.proofs.Entries.{Walk, Faulting, walk-start, walk-end, walk-on, walk-head, walk-room, worst-start, worst-end, worst-on, fault-here, entry-fits}
+use Rattle.dir_test.proofs.EntryWalk.{Walk, Faulting, walk-start, walk-end, walk-on, walk-head, walk-room, worst-start, worst-end, worst-on, fault-here, entry-fits}
 use Rattle.dir_test.proofs.faults.Statement.{statement}
 use Rattle.dir_test.proofs.faults.Tie as tie
 

@@ -1,8 +1,5 @@
--- `dirtest::has_slot` meets its contract.
--- Assumes nothing.
-use native.Mathlib.Omega.{arith}
 use borrow.Author.Needs.{needs}
-use Rattle.dir_test.proofs.Search.{hint-none, hint-out, hint-else, hint-last}
+use Rattle.dir_test.proofs.SlotWalk.{hint-none, hint-out, hint-else, hint-last}
 use Rattle.dir_test.proofs.has_slot.Statement.{statement}
 use Rattle.dir_test.proofs.has_slot.Tie as tie
 

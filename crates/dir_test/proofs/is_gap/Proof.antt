@@ -1,6 +1,3 @@
--- `dirtest::is_gap` meets its contract.
--- Assumes nothing.
-use native.Mathlib.Omega.{arith}
 use borrow.Author.Needs.{needs}
 use Rattle.dir_test.proofs.is_gap.Statement.{statement}
 use Rattle.dir_test.proofs.is_gap.Tie as tie

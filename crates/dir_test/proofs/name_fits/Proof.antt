@@ -1,11 +1,8 @@
 use borrow.Author.Needs.{needs}
 use borrow.Author.Tests.{not-true, not-false}
-use Rattle.dir_test.proofs.Fits.{fits-illegal, fits-dot, fits-dotdot}
+use Rattle.dir_test.proofs.NamePlaces.{fits-illegal, fits-dot, fits-dotdot}
 use Rattle.dir_test.proofs.name_fits.Statement.{statement}
 use Rattle.dir_test.proofs.name_fits.Tie as tie
-
-returns : tie.Need-returns
-returns c = fits-illegal _ _ _ _ (c .before .before .pre .1) (not-true _ (c .if1 .taken))
 
 returns-2 : tie.Need-returns-2
 returns-2 c =
@@ -19,7 +16,7 @@ pub name-fits-spec : {M : Type 1} → statement M
 name-fits-spec =
     tie.close
     (tie.spec
-    returns
+    (λ c. fits-illegal _ _ _ _ (c .before .before .pre .1) (not-true _ (c .if1 .taken)))
     (λ c. search needs)
     (λ c κs. search needs)
     (λ c κs. search needs)

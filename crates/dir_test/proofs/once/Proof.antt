@@ -1,11 +1,8 @@
--- `dirtest::once` meets its contract.
--- Assumes nothing.
-use native.Mathlib.Omega.{arith}
 use borrow.Author.Needs.{needs}
 use Prim.Native.Nat.{_-_}
-use mathlib.Core.Path.{sym, _∙_}
+use mathlib.Core.Path.{_∙_}
 use mathlib.Core.Logic.{⊎-elim}
-use Rattle.dir_test.proofs.TwicePass.{Oncing, once-start, once-end, once-stale, once-hit, once-on}
+use Rattle.dir_test.proofs.TwinWalk.{Oncing, once-start, once-end, once-stale, once-hit, once-on}
 use Rattle.dir_test.proofs.once.Statement.{statement}
 use Rattle.dir_test.proofs.once.Tie as tie
 

@@ -1,10 +1,7 @@
--- `dirtest::ordered` meets its contract.
--- Assumes nothing.
-use native.Mathlib.Omega.{arith}
 use borrow.Author.Needs.{needs}
 use Prim.Native.Nat.{_-_}
 use mathlib.Core.Logic.{⊎-elim}
-use Rattle.dir_test.proofs.Search.{Ordering, ordering-start, ordering-end, ordering-falls, ordering-stale, ordering-live}
+use Rattle.dir_test.proofs.SlotWalk.{Ordering, ordering-start, ordering-end, ordering-falls, ordering-stale, ordering-live}
 use Rattle.dir_test.proofs.ordered.Statement.{statement}
 use Rattle.dir_test.proofs.ordered.Tie as tie
 

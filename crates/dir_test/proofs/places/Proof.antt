@@ -1,12 +1,10 @@
--- `dirtest::places` meets its contract.
--- Assumes nothing.
 use native.Mathlib.Omega.{arith}
 use borrow.Author.Needs.{needs}
 use lib.ListN.{length}
 use Prim.Native.Nat.{_-_, _≤_}
-use mathlib.Core.Path.{_≡_, refl, sym, _∙_, ap}
+use mathlib.Core.Path.{_≡_, refl, _∙_, ap}
 use Rattle.dir_test.specs.Passes.{filled}
-use Rattle.dir_test.proofs.Table.{filled-on, filled-none, filled-end, length-filled}
+use Rattle.dir_test.proofs.SlotTable.{filled-on, filled-none, filled-end, length-filled}
 use Rattle.dir_test.proofs.places.Statement.{statement}
 use Rattle.dir_test.proofs.places.Tie as tie
 

@@ -1,6 +1,6 @@
 use native.Mathlib.Omega.{arith}
 use borrow.Author.Needs.{needs}
-use Rattle.dir_test.proofs.Whole.{rec-gap, rec-short, rec-entry}
+use Rattle.dir_test.proofs.WholeRecord.{rec-gap, rec-short, rec-entry}
 use Rattle.dir_test.proofs.rec_len.Statement.{statement}
 use Rattle.dir_test.proofs.rec_len.Tie as tie
 

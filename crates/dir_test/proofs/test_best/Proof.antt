@@ -1,6 +1,6 @@
 use borrow.Author.Needs.{needs}
 use borrow.Author.Tests.{not-true, not-false}
-use Rattle.dir_test.proofs.Conclusions.{reach, end-9, end-10, end-0}
+use Rattle.dir_test.proofs.LaterTests.{reach, end-9, end-10, end-0}
 use Rattle.dir_test.proofs.test_best.Statement.{statement}
 use Rattle.dir_test.proofs.test_best.Tie as tie
 

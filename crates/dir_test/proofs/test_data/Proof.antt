@@ -1,6 +1,6 @@
 use native.Mathlib.Omega.{arith}
 use borrow.Author.Needs.{needs}
-use Rattle.dir_test.proofs.Whence.{end-5, tiled-parts, tiled-count, end-tile}
+use Rattle.dir_test.proofs.EarlyTests.{end-5, tiled-parts, tiled-count, end-tile}
 use Rattle.dir_test.proofs.test_data.Statement.{statement}
 use Rattle.dir_test.proofs.test_data.Tie as tie
 

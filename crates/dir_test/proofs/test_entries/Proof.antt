@@ -4,15 +4,12 @@ use mathlib.Core.Path.{refl, _≡_}
 use borrow.Author.Needs.{needs}
 use borrow.Author.Tests.{not-true, not-false}
 use lib.ListN.{length, length-replicate, replicate}
-use Rattle.dir_test.proofs.Conclusions.{wholes, few, end-6, end-6′, end-7, end-8, end-8′, end-index, indexed-ok, room-2, both-there, low-end}
+use Rattle.dir_test.proofs.LaterTests.{wholes, few, end-6, end-6′, end-7, end-8, end-8′, end-index, indexed-ok, room-2, both-there, low-end}
 use Rattle.dir_test.proofs.test_entries.Statement.{statement}
 use Rattle.dir_test.proofs.test_entries.Tie as tie
 
 len0 : length (replicate {A = ℕ} 2048 0) ≡ 2048
 len0 = length-replicate {A = ℕ} 2048 0
-
-counts-fit-requires : tie.Need-counts-fit-requires
-counts-fit-requires c κs = (c .before .pre .1 .0 .parts .room, c .before .pre .1 .1)
 
 places-requires : tie.Need-places-requires
 places-requires c κs =
@@ -78,7 +75,7 @@ pub test-entries-spec : {M : Type 1} → statement M
 test-entries-spec =
     tie.close
     (tie.spec
-    counts-fit-requires
+    (λ c κs. (c .before .pre .1 .0 .parts .room, c .before .pre .1 .1))
     places-requires
     (λ c κs. search needs)
     faults-requires

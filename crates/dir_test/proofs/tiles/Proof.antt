@@ -1,11 +1,7 @@
--- `dirtest::tiles` meets its contract.
--- Assumes nothing.
 use native.Mathlib.Omega.{arith}
-use borrow.Author.Needs.{needs}
 use Prim.Native.Nat.{_-_}
 use mathlib.Core.Logic.{⊎-elim}
-use mathlib.Core.Path.{refl}
-use Rattle.dir_test.proofs.Tile.{Tiling, tiling-start, tiling-end, tiling-broken, tiling-touch, tiling-gap, tiling-entry, room, fits-here, least-here}
+use Rattle.dir_test.proofs.TileWalk.{Tiling, tiling-start, tiling-end, tiling-broken, tiling-touch, tiling-gap, tiling-entry, room, fits-here, least-here}
 use Rattle.dir_test.proofs.tiles.Statement.{statement}
 use Rattle.dir_test.proofs.tiles.Tie as tie
 

@@ -1,6 +1,3 @@
--- `dirtest::which` meets its contract.
--- Assumes nothing.
-use native.Mathlib.Omega.{arith}
 use borrow.Author.Needs.{needs}
 use borrow.Author.Tests.{not-true, not-false}
 use Rattle.dir_test.proofs.BestPass.{which-entry, which-first, which-second, which-third, which-longer, which-other}

@@ -1,9 +1,7 @@
--- `dirtest::whole_len` meets its contract.
--- Assumes nothing.
 use native.Mathlib.Omega.{arith}
 use borrow.Author.Needs.{needs}
 use mathlib.Core.Path.{sym, _∙_}
-use Rattle.dir_test.proofs.Whole.{len-short, len-long, len-uneven, len-untagged, len-good}
+use Rattle.dir_test.proofs.WholeRecord.{len-short, len-long, len-uneven, len-untagged, len-good}
 use Rattle.dir_test.proofs.whole_len.Statement.{statement}
 use Rattle.dir_test.proofs.whole_len.Tie as tie
 

@@ -1,9 +1,6 @@
--- `dirtest::worse` meets its contract.
--- Assumes nothing.
-use native.Mathlib.Omega.{arith}
 use borrow.Author.Needs.{needs}
 use mathlib.Core.Path.{sym, _∙_}
-use Rattle.dir_test.proofs.Entries.{worse-gap, worse-gap-kept, worse-entry, worse-entry-kept}
+use Rattle.dir_test.proofs.EntryWalk.{worse-gap, worse-gap-kept, worse-entry, worse-entry-kept}
 use Rattle.dir_test.proofs.worse.Statement.{statement}
 use Rattle.dir_test.proofs.worse.Tie as tie
 

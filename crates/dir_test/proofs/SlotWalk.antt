@@ -1,21 +1,19 @@
 -- The slots, by their places: order, and the search for a hash.
 -- Assumes nothing.
-use Prim.Native.Nat.{ℕ, zero, suc, _+_, _-_, _*_, _/_, _%_, _≤_, _<_}
-use native.Mathlib.Nat.{add-assoc, add-comm, add-zero, le-trans}
-use native.Mathlib.Numerals.{add-one}
+use Prim.Native.Nat.{ℕ, suc, _+_, _-_, _*_, _≤_, _<_}
+use native.Mathlib.Nat.{add-zero}
 use native.Mathlib.Omega.{arith}
-use mathlib.Core.Bool.{Bool, true, false, not, cond, _&&_, _||_}
+use mathlib.Core.Bool.{true, false}
 use mathlib.Core.Path.{_≡_, refl, sym, _∙_, ap, ap₂, subst}
-use mathlib.Core.List.{List, [], _∷_, _++_}
+use mathlib.Core.List.{List, [], _∷_}
 use lib.Dec.{eqb, leb}
-use lib.ListN.{length, take, drop, getD}
+use lib.ListN.{take, drop, getD}
 use lib.Seq.{drop-drop}
-use borrow.Author.Tests.{eqb-true, eqb-false, leb-true, eq-eqb, ne-eqb, le-leb, lt-leb}
-use Rattle.be.specs.Lists.{some-of, tally}
-use Rattle.be.specs.Bytes.{be, part, field}
+use borrow.Author.Tests.{eq-eqb, ne-eqb, le-leb, lt-leb}
+use Rattle.be.specs.Lists.{tally}
+use Rattle.be.specs.Bytes.{be}
 use Rattle.dir_rules.specs.Block.{Slot, slot, slots-in, is-stale}
-use Rattle.be.proofs.Bools.{and-left, and-right, and-both, by-cases}
-use Rattle.dir_test.specs.Passes.{slots-from, climbs, in-order, hash-at, addr-at, hint, filled}
+use Rattle.dir_test.specs.Passes.{slots-from, climbs, in-order, hash-at, addr-at, hint}
 
 abbrev pub slot-at : List ℕ → ℕ → ℕ → Slot
 slot-at b t i = slot (hash-at b t i) (addr-at b t i)

@@ -1,23 +1,22 @@
 -- A record at an offset: what it says, and when it is whole.
 -- Assumes nothing.
-use Prim.Native.Nat.{ℕ, zero, suc, _+_, _-_, _*_, _/_, _%_, _≤_, _<_}
+use Prim.Native.Nat.{ℕ, _+_, _-_, _%_, _≤_, _<_}
 use native.Mathlib.Omega.{arith}
-use mathlib.Core.Bool.{Bool, true, false, not, cond, _&&_}
-use mathlib.Core.Path.{_≡_, refl, sym, _∙_, ap, ap₂}
-use mathlib.Core.List.{List, [], _∷_, _++_}
+use mathlib.Core.Bool.{Bool, true, false}
+use mathlib.Core.Path.{_≡_, sym, _∙_, ap}
+use mathlib.Core.List.{List}
 use lib.Dec.{eqb, leb}
-use lib.ListN.{length, take, drop, getD, length-take, length-drop, List·getD-eq-default}
+use lib.ListN.{length, take, drop, getD, length-take, List·getD-eq-default}
 use lib.Seq.{length-take-le, take-all, take-take, getD-take}
-use borrow.Author.Tests.{eqb-true, eqb-false, leb-true, eq-eqb, ne-eqb, le-leb, lt-leb}
+use borrow.Author.Tests.{eq-eqb, ne-eqb, le-leb, lt-leb}
 use Rattle.be.specs.Bytes.{byte, be, part, field}
 use Rattle.edition.specs.declared.Edition.{Edition}
 use Rattle.edition.specs.Edition.{entry-size}
-use Rattle.dir_rules.specs.Record.{Rec, rec, cut, says, whole, size, tag, gap-start}
-use Rattle.be.proofs.Bools.{and-left, and-right, and-both, by-cases}
-use Rattle.dir_rules.proofs.CutJoin.{Whole, whole→, →whole}
+use Rattle.dir_rules.specs.Record.{rec, says, whole, size, tag, gap-start}
+use Rattle.be.proofs.Bools.{by-cases}
 use Rattle.edition.proofs.Sizes.{entry-size-least}
 use Rattle.dir_test.specs.Passes.{whole-len}
-use Rattle.dir_test.proofs.Fields.{field-part, getD-part, length-part, drop-take}
+use Rattle.be.proofs.Parts.{field-part, getD-part, part-length, drop-take}
 
 -- what a record says, read in the block
 module _ (e : Edition) (b : List ℕ) (o m : ℕ) (least : 8 ≤ m) where
@@ -109,7 +108,7 @@ module _ (e : Edition) (b : List ℕ) (o t : ℕ) (pre : (o + 8 ≤ t) × (t ≤
   pub rec-short : (g : Bool) (x : ℕ) → g ≡ eqb (field o 2 b) 0xffff → g ≡ false → t - o < 9 → x ≡ entry-size e 0 → x < 280
       → (x ≡ says e (part o (t - o) b)) × (x < 65536)
   rec-short g x p q h s l =
-      (s ∙ sym (says-short e b o (t - o) (omega arith) (sym p ∙ q) (omega (arith, length-part b o (t - o) (omega arith)))), omega arith)
+      (s ∙ sym (says-short e b o (t - o) (omega arith) (sym p ∙ q) (omega (arith, part-length o (t - o) b (omega arith)))), omega arith)
 
   pub rec-entry : (g : Bool) (y x : ℕ) → g ≡ eqb (field o 2 b) 0xffff → g ≡ false → 9 ≤ t - o → y ≡ byte (o + 8) b → x ≡ entry-size e y → x < 280
       → (x ≡ says e (part o (t - o) b)) × (x < 65536)
@@ -121,7 +120,7 @@ module _ (e : Edition) (b : List ℕ) (o t : ℕ) (pre : (o + 8 ≤ t) × (t ≤
     d = part o (t - o) b
 
     long : length d ≡ t - o
-    long = length-part b o (t - o) (omega arith)
+    long = part-length o (t - o) b (omega arith)
 
     pub len-short : n < 8 → 0 ≡ whole-len e d o
     len-short h = sym (whole-short e d o (omega arith))

@@ -1,21 +1,20 @@
 -- What the passes over the records answer, in the definitions' terms.
 -- Assumes nothing.
-use Prim.Native.Nat.{ℕ, zero, suc, _+_, _-_, _*_, _/_, _%_, _≤_, _<_, min}
+use Prim.Native.Nat.{ℕ, _+_, _-_, _/_, _≤_, _<_, min}
 use native.Mathlib.Omega.{arith}
-use mathlib.Core.Bool.{Bool, true, false, not, cond, _&&_, _||_}
-use mathlib.Core.Path.{_≡_, refl, sym, _∙_, ap, ap₂, subst}
-use mathlib.Core.List.{List, [], _∷_, _++_}
-use lib.Dec.{eqb, leb, ltb}
+use mathlib.Core.Bool.{Bool, true, false, not, _&&_, _||_}
+use mathlib.Core.Path.{_≡_, refl, sym, _∙_, ap}
+use mathlib.Core.List.{List, [], _∷_}
+use lib.Dec.{leb}
 use lib.ListN.{length}
-use borrow.Author.Tests.{le-leb, lt-leb, leb-true, leb-false, eq-eqb, ne-eqb}
-use Rattle.be.specs.Lists.{every, some-of, keep}
+use borrow.Author.Tests.{le-leb, lt-leb, leb-true, leb-false}
+use Rattle.be.specs.Lists.{every, keep}
 use Rattle.edition.specs.declared.Edition.{Edition}
 use Rattle.name.specs.Name.{legal-number, hash-of}
-use Rattle.dir_rules.specs.Record.{Rec, whole, apart, is-gap, is-entry, entries, name, number}
-use Rattle.dir_rules.specs.Block.{Slot}
+use Rattle.dir_rules.specs.Record.{Rec, whole, apart, is-gap, entries, name, number}
 use Rattle.dir_rules.specs.Verdict.{tile-ok, name-ok}
-use Rattle.be.proofs.Bools.{by-cases, and-left, and-right}
-use Rattle.dir_test.specs.Passes.{tile-from, tiled, fault, worst, slot-is}
+use Rattle.be.proofs.Bools.{by-cases}
+use Rattle.dir_test.specs.Passes.{tile-from, tiled, fault, worst}
 
 -- TILE
 apart-from : Bool → List Rec → Bool

@@ -1,21 +1,21 @@
 -- INDEX: where the hashes rise and the counts agree, one slot found for each entry is all there is to show.
 -- Assumes nothing.
-use Prim.Native.Nat.{ℕ, zero, suc, _+_, _-_, _*_, _/_, _%_, _≤_, _<_}
-use native.Mathlib.Nat.{zero-add, add-zero}
+use Prim.Native.Nat.{ℕ, _+_, _-_, _/_, _≤_}
+use native.Mathlib.Nat.{zero-add}
 use native.Mathlib.Omega.{arith}
-use mathlib.Core.Bool.{Bool, true, false, not, cond, _&&_, _||_, false≢true}
-use mathlib.Core.Path.{_≡_, refl, sym, _∙_, ap, ap₂, subst}
-use mathlib.Core.List.{List, [], _∷_, _++_, map}
-use lib.Dec.{eqb, leb, ltb}
+use mathlib.Core.Bool.{Bool, true, _&&_, false≢true}
+use mathlib.Core.Path.{_≡_, refl, sym, _∙_, ap, ap₂}
+use mathlib.Core.List.{List, [], _∷_, map}
+use lib.Dec.{eqb, leb}
 use lib.ListN.{length}
-use borrow.Author.Tests.{eqb-true, eqb-false, le-leb, lt-leb, leb-true, leb-false, eq-eqb, ne-eqb}
-use Rattle.be.specs.Lists.{every, some-of, keep, tally, total}
+use borrow.Author.Tests.{le-leb}
+use Rattle.be.specs.Lists.{every, some-of, tally, total}
 use Rattle.edition.specs.declared.Edition.{Edition}
 use Rattle.name.specs.Name.{hash-of}
 use Rattle.dir_rules.specs.Record.{Rec, entries, name}
 use Rattle.dir_rules.specs.Block.{Slot, is-stale, is-live}
-use Rattle.dir_rules.specs.Verdict.{has-slot, index-ok, rising}
-use Rattle.be.proofs.Bools.{by-cases, and-left, and-right, and-both, every-head, every-tail, every-cons, clash}
+use Rattle.dir_rules.specs.Verdict.{has-slot, rising}
+use Rattle.be.proofs.Bools.{by-cases, and-left, every-head, every-tail, every-cons, clash}
 use Rattle.dir_rules.proofs.SlotCounts.{Apart, pigeon, at-addr}
 use Rattle.dir_rules.proofs.IndexedEntries.{addr-of, at-both, tally-le, Slotted, slotted, →slotted}
 use Rattle.dir_test.specs.Passes.{climbs, in-order, slot-is}

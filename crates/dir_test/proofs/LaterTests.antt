@@ -1,44 +1,43 @@
 -- What the passes' answers make of the verdict.
 -- Assumes nothing.
-use Prim.Native.Nat.{ℕ, zero, suc, _+_, _-_, _*_, _/_, _%_, _^_, _≤_, _<_}
-use native.Mathlib.Nat.{add-zero, zero-add, sub-zero}
-use native.Mathlib.Numerals.{add-one}
+use Prim.Native.Nat.{ℕ, zero, suc, _+_, _-_, _*_, _%_, _≤_, _<_}
+use native.Mathlib.Nat.{sub-zero}
 use native.Mathlib.Omega.{arith}
-use mathlib.Core.Bool.{Bool, true, false, not, cond, _&&_, _||_, false≢true, true≢false, Bool·beq}
+use mathlib.Core.Bool.{Bool, true, false, not, cond, _&&_, Bool·beq}
 use mathlib.Core.Path.{_≡_, refl, sym, _∙_, ap, ap₂, subst}
 use mathlib.Core.List.{List, [], _∷_, _++_, map}
 use lib.Dec.{eqb, leb, ltb}
-use lib.ListN.{length, take, drop, getD}
+use lib.ListN.{length, drop, getD}
 use lib.Seq.{drop-drop}
-use borrow.Author.Tests.{eqb-true, eqb-false, le-leb, lt-leb, leb-true, leb-false, eq-eqb, ne-eqb, not-true, not-false, ltb-true, ltb-false, lt-ltb, le-ltb}
-use Rattle.be.specs.Lists.{every, some-of, keep, tally, same}
-use Rattle.be.specs.Bytes.{be, part, field}
+use borrow.Author.Tests.{eqb-true, le-leb, lt-leb, leb-true, eq-eqb, ne-eqb, not-true, ltb-true, lt-ltb}
+use Rattle.be.specs.Lists.{every, tally, same}
+use Rattle.be.specs.Bytes.{part, field}
 use Rattle.edition.specs.declared.Edition.{Edition}
 use Rattle.edition.specs.Edition.{Sane, entry-size, largest-block}
-use Rattle.name.specs.Name.{dot, dotdot, legal-name}
-use Rattle.dir_rules.specs.Record.{Rec, rec, whole, size, is-gap, is-entry, entries, gaps, name, number, cut}
+use Rattle.name.specs.Name.{dot, legal-name}
+use Rattle.dir_rules.specs.Record.{Rec, rec, whole, is-gap, is-entry, entries, gaps, name}
 use Rattle.dir_rules.specs.Block.{Slot, slots-in, is-live, is-stale}
-use Rattle.dir_rules.specs.Verdict.{tile-ok, entry-at, name-ok, names-ok, numbers-ok, index-ok, has-slot, rising, best-ok, best-pairs, pairs-in, pair, Pair, zero-pair, once-ok}
-use Rattle.be.proofs.Bools.{by-cases, and-left, and-right, and-both, every-head, every-tail, every-cons, clash}
-use Rattle.dir_rules.proofs.CutJoin.{Laid, laid-cut, join, join-cut, Whole}
+use Rattle.dir_rules.specs.Verdict.{tile-ok, entry-at, name-ok, names-ok, numbers-ok, index-ok, rising, best-ok, best-pairs, pairs-in, pair, Pair, zero-pair, once-ok}
+use Rattle.be.proofs.Bools.{by-cases, and-left, and-right, every-head, every-tail, every-cons}
+use Rattle.dir_rules.proofs.CutJoin.{Laid, join, join-cut}
 use Rattle.dir_rules.proofs.SlotCounts.{Apart}
 use Rattle.dir_rules.proofs.IndexedEntries.{addr-of, Indexed, indexed}
 use Rattle.dir_rules.proofs.RecordPlaces.{Split, apart-keep, laid-eights, every-at}
 use Rattle.dir_rules.proofs.SearchFinds.{Reads, Owner, owner}
 use Rattle.name.proofs.Same.{same-eq}
-use Rattle.dir_rules.proofs.GoodParts.{small, laid-small}
-use Rattle.dir_test.specs.Passes.{filled, hint, rest, name-of, Parts, Tiled, slots-from, Reach, addr-at, hash-at, once-in, best-left, in-order, worst, after-tile, after-index, after-span, tiled, climbs}
-use Rattle.dir_test.proofs.Fields.{length-part}
-use Rattle.dir_test.proofs.Tile.{Head, rest-head, rest-end, head-gap}
-use Rattle.dir_test.proofs.Whole.{says-entry}
-use Rattle.dir_test.proofs.Entries.{Walk, walk-start, walk-head, entry-fits, name-here}
-use Rattle.dir_test.proofs.Search.{slot-at, slots-next}
-use Rattle.dir_test.proofs.Table.{slots-split, table-law, hinted}
-use Rattle.dir_test.proofs.Answers.{worst-7, worst-8, worst-9, number-ok, slot-ok}
-use Rattle.dir_test.proofs.IndexLaw.{in-order-is, climbs-is, index-law}
-use Rattle.dir_test.proofs.BestLaw.{Sep, at-most, best-law}
-use Rattle.dir_test.proofs.TwiceLaw.{twice-law, once-free, free, twin}
-use Rattle.dir_test.proofs.Assembly.{sep-laid, small-most, placed, rest-placed, laid-rest, at-head, head-of}
+use Rattle.dir_rules.proofs.GoodParts.{laid-small}
+use Rattle.dir_test.specs.Passes.{filled, hint, rest, name-of, Tiled, slots-from, Reach, addr-at, once-in, best-left, in-order, worst, after-tile, after-index}
+use Rattle.be.proofs.Parts.{part-length}
+use Rattle.dir_test.proofs.TileWalk.{Head, rest-head, head-gap}
+use Rattle.dir_test.proofs.WholeRecord.{says-entry}
+use Rattle.dir_test.proofs.EntryWalk.{entry-fits, name-here}
+use Rattle.dir_test.proofs.SlotWalk.{slot-at}
+use Rattle.dir_test.proofs.SlotTable.{slots-split, table-law, hinted}
+use Rattle.dir_test.proofs.FaultsAnswer.{worst-7, worst-8, worst-9}
+use Rattle.dir_test.proofs.OneSlotEach.{in-order-is}
+use Rattle.dir_test.proofs.BestNamed.{at-most, best-law}
+use Rattle.dir_test.proofs.TwinSlots.{twice-law, once-free}
+use Rattle.dir_test.proofs.TiledParts.{sep-laid, small-most, placed, rest-placed, laid-rest, at-head, head-of}
 
 and-false : (w : Bool) → (w && false) ≡ false
 and-false true = refl
@@ -120,9 +119,6 @@ module _ (e : Edition) (sane : Sane e) (b : List ℕ) (t n : ℕ) where
           let f′ : 8 * addr-at b t i + 9 + getD b (8 * addr-at b t i + 8) 0 ≤ t = subst (λ (k : ℕ). k + 9 + getD b (k + 8) 0 ≤ t) (sym a) f in
           omega (arith, hi, f′)
 
-    pub long-enough : (e .header) ≤ length b
-    long-enough = omega (arith, hi, T .parts .least)
-
     -- BEST
     pairs-are : best-pairs e b
         ≡ pair (field (e .best) 2 b) (field (e .best + 2) 2 b) ∷ pair (field (e .best + 4) 2 b) (field (e .best + 4 + 2) 2 b)
@@ -135,7 +131,7 @@ module _ (e : Edition) (sane : Sane e) (b : List ℕ) (t n : ℕ) where
     data-long : length (join RS) ≡ t - (e .header)
     unfolding rest
     data-long =
-        let l : length (part (e .header) (t - (e .header)) b) ≡ t - (e .header) = length-part b (e .header) (t - (e .header)) (omega (arith, hi, T .parts .least)) in
+        let l : length (part (e .header) (t - (e .header)) b) ≡ t - (e .header) = part-length (e .header) (t - (e .header)) b (omega (arith, hi, T .parts .least)) in
         ap length (join-cut e (length b) (e .header) (part (e .header) (t - (e .header)) b) (omega (arith, hi)) wholes) ∙ l
 
     most : at-most 65535 (gaps RS) ≡ true
@@ -214,7 +210,7 @@ module _ (e : Edition) (sane : Sane e) (b : List ℕ) (t n : ℕ) where
         let len : ℕ = getD b (e .header + 8) 0 in
         let ef : (e .header) + 9 + getD b (e .header + 8) 0 ≤ t = entry-fits e b t (e .header) (x .0) lo hi (x .1) g in
         let one : getD b (e .header + 8) 0 ≡ 1 =
-        sym (length-part b (e .header + 9) (getD b (e .header + 8) 0) (omega (arith, hi))) ∙ ap length (sym (name-here e b t (e .header) (x .0) lo hi (x .1) g) ∙ same-eq (name (rec (e .header) (part (e .header) (x .0) b))) dot d) in
+        sym (part-length (e .header + 9) (getD b (e .header + 8) 0) b (omega (arith, hi))) ∙ ap length (sym (name-here e b t (e .header) (x .0) lo hi (x .1) g) ∙ same-eq (name (rec (e .header) (part (e .header) (x .0) b))) dot d) in
         let sz : x .0 ≡ 16 =
         sym (x .1 .is) ∙ says-entry e b (e .header) (t - (e .header)) (omega arith) g (omega arith) ∙ ap (entry-size e) one ∙ one-size in
         let nx′ : RS ≡ rec (e .header) (part (e .header) (x .0) b) ∷ rest e b t (length b - 1) (e .header + 16) = nx ∙ ap (λ (j : ℕ). rec (e .header) (part (e .header) (x .0) b) ∷ rest e b t (length b - 1) ((e .header) + j)) sz in

@@ -1,24 +1,21 @@
 -- TILE's pass: one record at a time.
 -- Assumes nothing.
-use Prim.Native.Nat.{ℕ, zero, suc, _+_, _-_, _*_, _/_, _%_, _≤_, _<_}
-use native.Mathlib.Nat.{add-assoc, add-comm, add-zero}
+use Prim.Native.Nat.{ℕ, zero, suc, _+_, _-_, _%_, _≤_, _<_}
+use native.Mathlib.Nat.{add-zero}
 use native.Mathlib.Omega.{arith}
-use mathlib.Core.Bool.{Bool, true, false, not, cond, _&&_, true≢false}
+use mathlib.Core.Bool.{Bool, true, false, not}
 use mathlib.Core.Path.{_≡_, refl, sym, _∙_, ap, ap₂}
-use mathlib.Core.List.{List, [], _∷_, _++_}
-use lib.Dec.{eqb, leb}
-use lib.ListN.{length, take, drop, getD, length-take, length-drop}
-use lib.Seq.{length-take-le, take-all, take-take}
-use Rattle.be.specs.Lists.{keep, every}
+use mathlib.Core.List.{List, [], _∷_}
+use lib.Dec.{eqb}
+use lib.ListN.{length, take, drop, length-take}
+use lib.Seq.{take-take}
 use Rattle.be.specs.Bytes.{be, part, field}
 use Rattle.edition.specs.declared.Edition.{Edition}
-use Rattle.edition.specs.Edition.{entry-size}
-use Rattle.dir_rules.specs.Record.{Rec, rec, cut, says, whole, size, tag, gap-start, is-gap, is-entry, entries, apart}
-use Rattle.dir_rules.specs.Verdict.{tile-ok}
-use Rattle.be.proofs.Bools.{and-left, and-right, and-both, by-cases, clash}
+use Rattle.dir_rules.specs.Record.{rec, cut, says, whole, is-gap, entries}
+use Rattle.be.proofs.Bools.{by-cases}
 use Rattle.dir_rules.proofs.CutJoin.{Whole, whole→, cut-step, head-size}
 use Rattle.dir_test.specs.Passes.{rest, tile-from, whole-len, tiled}
-use Rattle.dir_test.proofs.Fields.{length-part, drop-part, take-part}
+use Rattle.be.proofs.Parts.{part-length, drop-part, take-part}
 
 -- a record at the head that is whole, and its length
 pub record Head (e : Edition) (b : List ℕ) (t o n : ℕ) : Type 0 where
@@ -33,7 +30,7 @@ module _ (e : Edition) (b : List ℕ) (t o : ℕ) (lo : o < t) (hi : t ≤ lengt
   here = part o (t - o) b
 
   long : length here ≡ t - o
-  long = length-part b o (t - o) (omega arith)
+  long = part-length o (t - o) b (omega arith)
 
   step : (k : ℕ) → rest e b t (suc k) o ≡ rec o (take (says e here) here) ∷ cut e k (o + says e here) (drop (says e here) here)
   unfolding rest

@@ -1,17 +1,16 @@
 -- BEST: naming gaps in one pass is naming the longest, longest first.
 -- Assumes nothing.
-use Prim.Native.Nat.{ℕ, zero, suc, _+_, _-_, _*_, _/_, _%_, _≤_, _<_}
+use Prim.Native.Nat.{ℕ, _-_, _≤_, _<_}
 use native.Mathlib.Omega.{arith}
-use mathlib.Core.Bool.{Bool, true, false, not, cond, _&&_, _||_, false≢true}
+use mathlib.Core.Bool.{Bool, true, false, not, _&&_, _||_, false≢true}
 use mathlib.Core.Path.{_≡_, refl, sym, _∙_, ap, ap₂, subst}
-use mathlib.Core.List.{List, [], _∷_, _++_}
-use lib.Dec.{eqb, leb, ltb}
-use lib.ListN.{length}
-use borrow.Author.Tests.{eqb-true, eqb-false, le-leb, lt-leb, leb-true, leb-false, eq-eqb, ne-eqb, not-true}
+use mathlib.Core.List.{List, [], _∷_}
+use lib.Dec.{eqb, leb}
+use borrow.Author.Tests.{eqb-true, le-leb, lt-leb, leb-true, eq-eqb, not-true}
 use Rattle.be.specs.Lists.{every, some-of, keep}
 use Rattle.dir_rules.specs.Record.{Rec, size, besides}
 use Rattle.dir_rules.specs.Verdict.{Pair, is-gap-of, zero-pair, best-ok}
-use Rattle.be.proofs.Bools.{by-cases, and-left, and-right, and-both, every-head, every-tail, every-cons}
+use Rattle.be.proofs.Bools.{by-cases, and-left, and-right, every-head, every-tail, every-cons}
 use Rattle.dir_test.specs.Passes.{best-left, unnamed}
 
 -- gaps at places apart, none empty

@@ -1,28 +1,26 @@
 -- The pass over the entries: names, numbers and slots.
 -- Assumes nothing.
-use Prim.Native.Nat.{ℕ, zero, suc, _+_, _-_, _*_, _/_, _%_, _^_, _≤_, _<_, min}
-use native.Mathlib.Nat.{add-assoc, add-zero}
+use Prim.Native.Nat.{ℕ, suc, _+_, _-_, _/_, _%_, _≤_, _<_, min}
+use native.Mathlib.Nat.{add-zero}
 use native.Mathlib.Omega.{arith}
-use mathlib.Core.Bool.{Bool, true, false, not, cond, _&&_, _||_, Bool·beq}
-use mathlib.Core.Path.{_≡_, refl, sym, _∙_, ap, ap₂, subst}
-use mathlib.Core.List.{List, [], _∷_, _++_}
-use lib.Dec.{eqb, leb, ltb}
-use lib.ListN.{length, take, drop, getD}
-use Rattle.be.specs.Lists.{every, some-of}
+use mathlib.Core.Bool.{Bool, true, false, cond}
+use mathlib.Core.Path.{_≡_, refl, sym, _∙_, ap, subst}
+use mathlib.Core.List.{List, [], _∷_}
+use lib.Dec.{eqb}
+use lib.ListN.{length, take, getD}
+use Rattle.be.specs.Lists.{every}
 use Rattle.be.specs.Bytes.{be, part, field}
 use Rattle.edition.specs.declared.Edition.{Edition}
 use Rattle.edition.specs.Edition.{entry-size}
 use Rattle.name.specs.Name.{hash-of, legal-number}
 use Rattle.dir_rules.specs.Record.{Rec, rec, cut, says, whole, is-gap, name, number}
-use Rattle.dir_rules.specs.Block.{Slot}
-use Rattle.dir_rules.specs.Verdict.{name-ok}
 use Rattle.be.proofs.Bools.{and-left, and-right, by-cases}
 use Rattle.dir_rules.proofs.CutJoin.{Whole, whole→, head-size}
 use Rattle.edition.proofs.Sizes.{entry-size-least}
-use Rattle.dir_test.specs.Passes.{rest, whole-len, name-fits, name-of, fault-at, fault, worst, slot-is}
-use Rattle.dir_test.proofs.Fields.{part-part, field-part, getD-part, length-part, take-part}
-use Rattle.dir_test.proofs.Whole.{says-entry, gap-is}
-use Rattle.dir_test.proofs.Tile.{Head, head, rest-head, rest-end, head-gap}
+use Rattle.dir_test.specs.Passes.{rest, whole-len, name-fits, name-of, fault-at, fault, worst}
+use Rattle.be.proofs.Parts.{part-part, getD-part, part-length}
+use Rattle.dir_test.proofs.WholeRecord.{says-entry, gap-is}
+use Rattle.dir_test.proofs.TileWalk.{Head, head, rest-head, rest-end, head-gap}
 
 -- one entry
 module _ (e : Edition) (ss : ℕ → ℕ → Bool) (b : List ℕ) (o len : ℕ) (is : len ≡ getD b (o + 8) 0) (x : Bool) (xs : x ≡ name-fits e o (part (o + 9) len b)) where
@@ -98,7 +96,7 @@ module _ (e : Edition) (b : List ℕ) (t : ℕ) (hi : t ≤ length b) (te : t % 
       unfolding rest cut
       head-whole =
           let w : every (whole e) (rest e b t (suc (k .fuel - 1)) o) ≡ true = subst (λ (j : ℕ). every (whole e) (rest e b t j o) ≡ true) more (k .wholes) in
-          go here (k .fuel - 1) (omega (arith, length-part b o (t - o) (omega arith))) w
+          go here (k .fuel - 1) (omega (arith, part-length o (t - o) b (omega arith))) w
         where
           go : (d : List ℕ) (j : ℕ) → 0 < length d → every (whole e) (cut e (suc j) o d) ≡ true → whole e (rec o (take (says e d) d)) ≡ true
           go [] j l h = absurd (omega arith)

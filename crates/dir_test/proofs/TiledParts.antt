@@ -1,43 +1,27 @@
 -- The parts of a tiled block: what the tests that come later rely on.
 -- Assumes nothing.
-use Prim.Native.Nat.{ℕ, zero, suc, _+_, _-_, _*_, _/_, _%_, _^_, _≤_, _<_}
-use native.Mathlib.Nat.{add-zero, zero-add, sub-zero, le-of-suc-le-suc}
+use Prim.Native.Nat.{ℕ, zero, suc, _+_, _-_, _%_, _^_, _≤_, _<_}
 use native.Mathlib.Omega.{arith}
-use mathlib.Core.Bool.{Bool, true, false, not, cond, _&&_, _||_, false≢true, Bool·beq}
-use mathlib.Core.Path.{_≡_, refl, sym, _∙_, ap, ap₂, subst}
-use mathlib.Core.List.{List, [], _∷_, _++_, map}
+use mathlib.Core.Bool.{Bool, true, false, not, _&&_}
+use mathlib.Core.Path.{_≡_, refl, sym, _∙_, ap}
+use mathlib.Core.List.{List, [], _∷_}
 use lib.Dec.{eqb, leb, ltb}
-use lib.ListN.{length, take, drop, getD}
-use borrow.Author.Tests.{eqb-true, eqb-false, le-leb, lt-leb, leb-true, leb-false, eq-eqb, ne-eqb, not-true, not-false, ltb-true, ltb-false, lt-ltb, le-ltb}
-use Rattle.be.specs.Lists.{every, some-of, keep, tally, same}
-use Rattle.be.specs.Bytes.{be, part, field}
+use lib.ListN.{length, getD}
+use borrow.Author.Tests.{le-leb, eq-eqb, ne-eqb, not-true, ltb-true, ltb-false, le-ltb}
+use Rattle.be.specs.Lists.{every, some-of, keep, same}
+use Rattle.be.specs.Bytes.{part, field}
 use Rattle.edition.specs.declared.Edition.{Edition}
-use Rattle.edition.specs.Edition.{entry-size}
-use Rattle.dir_rules.specs.Record.{Rec, rec, whole, size, is-gap, is-entry, entries, gaps, name, cut}
-use Rattle.dir_rules.specs.Block.{Slot, slots-in, is-live, is-stale}
-use Rattle.dir_rules.specs.Verdict.{tile-ok, entry-at, name-ok}
-use Rattle.be.proofs.Bools.{by-cases, and-left, and-right, and-both, every-head, every-tail, every-cons, clash}
-use Rattle.dir_rules.proofs.CutJoin.{Laid, laid-cut, join, join-cut, Whole}
-use Rattle.dir_rules.proofs.SlotCounts.{Apart}
-use Rattle.dir_rules.proofs.IndexedEntries.{addr-of}
-use Rattle.dir_rules.proofs.RecordPlaces.{Split, apart-keep, laid-eights, every-at}
-use Rattle.dir_rules.proofs.SearchFinds.{Reads}
+use Rattle.dir_rules.specs.Record.{Rec, rec, whole, size, is-gap, is-entry, entries, name}
+use Rattle.dir_rules.specs.Verdict.{entry-at}
+use Rattle.be.proofs.Bools.{by-cases, and-right, and-both, every-head, every-tail, every-cons}
+use Rattle.dir_rules.proofs.CutJoin.{Laid, laid-cut}
 use Rattle.name.proofs.Same.{same-refl}
-use Rattle.dir_rules.proofs.GoodParts.{small, laid-small}
-use Rattle.dir_test.specs.Passes.{rest, name-of, Parts, Tiled, slots-from}
-use Rattle.dir_test.proofs.Fields.{length-part}
-use Rattle.dir_test.proofs.Tile.{Head, rest-head, rest-end, head-gap}
-use Rattle.dir_test.proofs.Entries.{Walk, walk-start, walk-head, entry-fits, name-here}
-use Rattle.dir_test.proofs.BestLaw.{Sep, at-most}
-
--- records laid from o on stand at o or behind
-off-above : (e : Edition) (p : Rec → Bool) (c o : ℕ) (rs : List Rec) → c < o → Laid e o rs → every (λ h. not (eqb (h .off) c)) (keep p rs) ≡ true
-off-above e p c o [] h l = refl
-off-above e p c o (r ∷ rs) h l =
-    let more : every (λ h. not (eqb (h .off) c)) (keep p rs) ≡ true = off-above e p c (o + size r) rs (omega arith) (l .2) in
-    by-cases (p r)
-    (λ q. rw q (every-cons (λ h. not (eqb (h .off) c)) r (keep p rs) (rw (ne-eqb (r .off) c (λ (z : r .off ≡ c). omega (arith, l .0)))) more))
-    (λ q. rw q more)
+use Rattle.dir_rules.proofs.RecordPlaces.{off-above, none-at}
+use Rattle.dir_rules.proofs.GoodParts.{small}
+use Rattle.dir_test.specs.Passes.{rest, name-of}
+use Rattle.dir_test.proofs.TileWalk.{Head, rest-head, rest-end, head-gap}
+use Rattle.dir_test.proofs.EntryWalk.{Walk, walk-head, entry-fits, name-here}
+use Rattle.dir_test.proofs.BestNamed.{Sep, at-most}
 
 pub sep-laid : (e : Edition) (p : Rec → Bool) (o : ℕ) (rs : List Rec) → Laid e o rs → Sep (keep p rs)
 sep-laid e p o [] l = tt
@@ -53,11 +37,6 @@ small-most [] h = refl
 small-most (g ∷ gs) h =
     let s : size g < 256 ^ 2 = ltb-true (size g) (256 ^ 2) (and-right (ltb (g .off) (256 ^ 2)) (ltb (size g) (256 ^ 2)) (every-head small g gs h)) in
     every-cons (λ g. leb (size g) 65535) g gs (le-leb (size g) 65535 (omega arith)) (small-most gs (every-tail small g gs h))
-
-none-at : (c : ℕ) (rs : List Rec) → every (λ h. not (eqb (h .off) c)) rs ≡ true → some-of (λ r. eqb (r .off) c) rs ≡ false
-none-at c [] h = refl
-none-at c (r ∷ rs) h =
-    rw (not-true (eqb (r .off) c) (every-head (λ h. not (eqb (h .off) c)) r rs h)) (none-at c rs (every-tail (λ h. not (eqb (h .off) c)) r rs h))
 
 module _ (e : Edition) (b : List ℕ) (t : ℕ) (hi : t ≤ length b) (te : t % 8 ≡ 0) where
   -- an entry's name is where the block has it

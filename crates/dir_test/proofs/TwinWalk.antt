@@ -1,23 +1,17 @@
 -- TWICE's pass: names compared within runs of one hash.
 -- Assumes nothing.
-use Prim.Native.Nat.{ℕ, zero, suc, _+_, _-_, _*_, _/_, _%_, _≤_, _<_}
-use native.Mathlib.Nat.{add-assoc, add-zero, sub-zero}
+use Prim.Native.Nat.{ℕ, _+_, _-_, _*_, _≤_, _<_}
 use native.Mathlib.Omega.{arith}
-use mathlib.Core.Bool.{Bool, true, false, not, cond, _&&_, _||_}
-use mathlib.Core.Path.{_≡_, refl, sym, _∙_, ap, ap₂, subst}
-use mathlib.Core.List.{List, [], _∷_, _++_}
-use lib.Dec.{eqb, leb, ltb}
+use mathlib.Core.Bool.{Bool, true, false}
+use mathlib.Core.Path.{_≡_, refl, sym, _∙_, ap, subst}
+use mathlib.Core.List.{List}
+use lib.Dec.{eqb}
 use lib.ListN.{length, getD}
-use borrow.Author.Tests.{le-leb, lt-leb, eq-eqb, ne-eqb}
-use Rattle.be.specs.Lists.{same}
-use Rattle.be.specs.Bytes.{part}
-use Rattle.dir_rules.specs.Block.{Slot}
-use Rattle.be.proofs.Bools.{by-cases}
+use borrow.Author.Tests.{eq-eqb, ne-eqb}
 use Rattle.edition.specs.declared.Edition.{Edition}
 use Rattle.name.specs.Name.{same-name}
 use Rattle.dir_test.specs.Passes.{name-of, clash-from, once-in, slots-from, hash-at, addr-at, Reach}
-use Rattle.dir_test.proofs.Fields.{length-part}
-use Rattle.dir_test.proofs.Search.{slots-next, slots-end}
+use Rattle.dir_test.proofs.SlotWalk.{slots-next, slots-end}
 
 -- a run so far
 pub record Clashing (e : Edition) (b : List ℕ) (t n h c i j : ℕ) : Type 0 where

@@ -1,23 +1,22 @@
 -- From the block to its parts: SIZE, MAGIC, SPAN, TILE.
 -- Assumes nothing.
-use Prim.Native.Nat.{ℕ, zero, suc, _+_, _-_, _*_, _/_, _%_, _≤_, _<_}
+use Prim.Native.Nat.{ℕ, _+_, _-_, _*_, _%_, _≤_, _<_}
 use native.Mathlib.Nat.{add-zero, sub-zero}
 use native.Mathlib.Omega.{arith}
-use mathlib.Core.Bool.{Bool, true, false, not, cond, _&&_, _||_, false≢true}
-use mathlib.Core.Path.{_≡_, refl, sym, _∙_, ap, ap₂, subst}
-use mathlib.Core.List.{List, [], _∷_}
-use lib.Dec.{eqb, leb}
+use mathlib.Core.Bool.{Bool, true, false}
+use mathlib.Core.Path.{_≡_, sym, _∙_, ap, ap₂}
+use mathlib.Core.List.{List}
+use lib.Dec.{leb}
 use lib.ListN.{length, drop}
-use borrow.Author.Tests.{eqb-true, eqb-false, le-leb, lt-leb, eq-eqb, ne-eqb}
+use borrow.Author.Tests.{le-leb, lt-leb, eq-eqb, ne-eqb}
 use Rattle.be.specs.Bytes.{field}
 use Rattle.edition.specs.declared.Edition.{Edition}
 use Rattle.edition.specs.Edition.{Sane, block-size, largest-block}
 use Rattle.dir_rules.specs.Record.{Rec, entries}
 use Rattle.dir_rules.specs.Block.{Slot, records, slots, slots-in, count-of, stale-of, data-end}
 use Rattle.dir_rules.specs.Verdict.{verdict, size-ok, magic-ok, span-ok, tile-ok}
-use Rattle.be.proofs.Bools.{by-cases}
 use Rattle.dir_test.specs.Passes.{rest, slots-from, Parts, Tiled, after-span, after-tile, after-index, tiled}
-use Rattle.dir_test.proofs.Answers.{tiled-not, tiled-done}
+use Rattle.dir_test.proofs.FaultsAnswer.{tiled-not, tiled-done}
 
 -- TILE
 use Rattle.edition.proofs.Sizes.{block-size-bounds}

@@ -1,29 +1,29 @@
 -- INDEX by a table: where the counts agree, the table's slot for each entry is all there is to test.
 -- Assumes nothing.
-use Prim.Native.Nat.{ℕ, zero, suc, _+_, _-_, _*_, _/_, _%_, _≤_, _<_}
-use native.Mathlib.Nat.{zero-add, add-zero}
+use Prim.Native.Nat.{ℕ, zero, suc, _+_, _-_, _/_, _≤_, _<_}
+use native.Mathlib.Nat.{zero-add}
 use native.Mathlib.Numerals.{add-one}
 use native.Mathlib.Omega.{arith}
-use mathlib.Core.Bool.{Bool, true, false, not, cond, _&&_, _||_, false≢true}
-use mathlib.Core.Path.{_≡_, refl, sym, _∙_, ap, ap₂, subst}
+use mathlib.Core.Bool.{Bool, true, cond, _&&_}
+use mathlib.Core.Path.{_≡_, refl, sym, _∙_, ap}
 use mathlib.Core.List.{List, [], _∷_, _++_, map}
 use lib.Dec.{eqb, leb, ltb}
 use lib.ListN.{length, getD, set, length-set}
 use lib.Seq.{getD-set-same, getD-set-other}
-use borrow.Author.Tests.{eqb-true, eqb-false, le-leb, lt-leb, leb-true, leb-false, eq-eqb, ne-eqb, ltb-true}
-use Rattle.be.specs.Lists.{every, some-of, keep, tally}
+use borrow.Author.Tests.{eqb-true, eqb-false, le-leb, leb-true, eq-eqb, ltb-true}
+use Rattle.be.specs.Lists.{every, some-of, tally}
 use Rattle.edition.specs.declared.Edition.{Edition}
 use Rattle.name.specs.Name.{hash-of}
 use Rattle.dir_rules.specs.Record.{Rec, name}
 use Rattle.dir_rules.specs.Block.{Slot, is-live}
 use Rattle.dir_rules.specs.Verdict.{has-slot}
-use Rattle.be.proofs.Bools.{by-cases, and-left, and-right, and-both, every-head, every-tail, every-cons, clash}
+use Rattle.be.proofs.Bools.{by-cases, and-left, and-right, every-head, every-tail, every-cons, clash}
 use Rattle.dir_rules.proofs.SlotCounts.{Apart, at-addr}
 use Rattle.dir_rules.proofs.IndexedEntries.{addr-of, at-both, tally-le, Slotted, slotted}
 use Rattle.dir_rules.proofs.RecordPlaces.{some-at}
 use Rattle.dir_test.specs.Passes.{slots-from, hash-at, addr-at, filled, hint, slot-is}
-use Rattle.dir_test.proofs.Search.{slot-at, slots-next, slots-end}
-use Rattle.dir_test.proofs.IndexLaw.{index-law}
+use Rattle.dir_test.proofs.SlotWalk.{slot-at, slots-next, slots-end}
+use Rattle.dir_test.proofs.OneSlotEach.{index-law}
 
 pub length-filled : (b : List ℕ) (t : ℕ) (M : List ℕ) (n : ℕ) → length (filled b t M n) ≡ length M
 unfolding filled

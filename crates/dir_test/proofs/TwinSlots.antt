@@ -1,29 +1,27 @@
 -- TWICE: two entries of one name are two live slots of one hash whose entries have one name.
 -- Assumes nothing.
-use Prim.Native.Nat.{ℕ, zero, suc, _+_, _-_, _*_, _/_, _%_, _≤_, _<_}
+use Prim.Native.Nat.{ℕ, _+_, _-_, _*_, _≤_, _<_}
 use native.Mathlib.Omega.{arith}
 use mathlib.Core.Bool.{Bool, true, false, not, cond, _&&_, _||_, false≢true}
 use mathlib.Core.Path.{_≡_, refl, sym, _∙_, ap, ap₂, subst}
 use mathlib.Core.List.{List, [], _∷_, _++_, map, append-assoc}
-use lib.Dec.{eqb, leb, ltb}
-use lib.ListN.{length}
-use borrow.Author.Tests.{eqb-true, eqb-false, le-leb, lt-leb, leb-true, leb-false, eq-eqb, ne-eqb, not-true, not-false}
-use Rattle.be.specs.Lists.{every, some-of, keep, tally, same}
+use lib.Dec.{eqb}
+use borrow.Author.Tests.{eqb-true, eqb-false, eq-eqb, ne-eqb, not-true}
+use Rattle.be.specs.Lists.{every, some-of, tally}
 use Rattle.edition.specs.declared.Edition.{Edition}
 use Rattle.name.specs.Name.{hash-of, same-name}
 use Rattle.dir_rules.specs.Record.{Rec, name}
-use Rattle.dir_rules.specs.Block.{Slot, is-live, is-stale}
+use Rattle.dir_rules.specs.Block.{Slot, is-live}
 use Rattle.dir_rules.specs.Lookup.{name-at}
 use Rattle.dir_rules.specs.Verdict.{once-ok, has-slot}
 use Rattle.be.proofs.Bools.{by-cases, and-left, and-right, and-both, clash}
 use Rattle.dir_rules.proofs.SlotOrder.{From}
 use Rattle.dir_rules.proofs.OneMore.{some-mid, tally-mid, once-mid}
-use Rattle.name.proofs.Same.{same-name-swap}
+use Rattle.name.proofs.Same.{same-name-swap, same-name-hash}
 use Rattle.dir_rules.proofs.SlotCounts.{Apart, at-addr}
-use Rattle.dir_rules.proofs.IndexedEntries.{Indexed, addr-of, at-both, Slotted, slotted, tally-le}
+use Rattle.dir_rules.proofs.IndexedEntries.{Indexed, addr-of, at-both, Slotted, slotted}
 use Rattle.dir_rules.proofs.RecordPlaces.{Split, some-split, some-at, every-at, tally-split, apart-pos, split-cons, apart-front, every-map}
 use Rattle.dir_rules.proofs.SearchFinds.{Owner, owner, Reads}
-use Rattle.name.proofs.Same.{same-name-hash}
 use Rattle.dir_test.specs.Passes.{clash-from, once-in, name-of}
 
 pub eqb-swap : (x y : ℕ) → eqb x y ≡ eqb y x
