@@ -28,17 +28,17 @@ longest-more (x ∷ xs) g h =
     let ih : longest (xs ++ (g ∷ [])) ≡ cond (ltb (size (longest xs)) (size g)) g (longest xs) = longest-more xs g h in
     by-cases (ltb (size (longest xs)) (size g))
     (λ p.
-      let e : longest (xs ++ (g ∷ [])) ≡ g = ih ∙ rw p in
-      by-cases (leb (size (longest xs)) (size x))
-      (λ q. rw (e, q) (by-cases (ltb (size x) (size g))
-        (λ r. rw (r, lt-leb (size g) (size x) (ltb-true (size x) (size g) r)))
-        (λ r. rw (r, le-leb (size g) (size x) (ltb-false (size x) (size g) r)))))
-      (λ q. rw (e, q) (rw (p, lt-leb (size g) (size x) (omega (arith, leb-false (size (longest xs)) (size x) q, ltb-true (size (longest xs)) (size g) p))))))
+    let e : longest (xs ++ (g ∷ [])) ≡ g = ih ∙ rw p in
+    by-cases (leb (size (longest xs)) (size x))
+    (λ q. rw (e, q) (by-cases (ltb (size x) (size g))
+    (λ r. rw (r, lt-leb (size g) (size x) (ltb-true (size x) (size g) r)))
+    (λ r. rw (r, le-leb (size g) (size x) (ltb-false (size x) (size g) r)))))
+    (λ q. rw (e, q) (rw (p, lt-leb (size g) (size x) (omega (arith, leb-false (size (longest xs)) (size x) q, ltb-true (size (longest xs)) (size g) p))))))
     (λ p.
-      let e : longest (xs ++ (g ∷ [])) ≡ longest xs = ih ∙ rw p in
-      by-cases (leb (size (longest xs)) (size x))
-      (λ q. rw (e, q) (rw (le-ltb (size x) (size g) (omega (arith, leb-true (size (longest xs)) (size x) q, ltb-false (size (longest xs)) (size g) p)))))
-      (λ q. rw (e, q) (rw p)))
+    let e : longest (xs ++ (g ∷ [])) ≡ longest xs = ih ∙ rw p in
+    by-cases (leb (size (longest xs)) (size x))
+    (λ q. rw (e, q) (rw (le-ltb (size x) (size g) (omega (arith, leb-true (size (longest xs)) (size x) q, ltb-false (size (longest xs)) (size g) p)))))
+    (λ q. rw (e, q) (rw p)))
 
 pub length-best : (k : ℕ) (gs : List Rec) → length (best-of k gs) ≡ k
 unfolding best-of
@@ -102,21 +102,21 @@ best-on k gs g h e n mo ih =
     ap (ins P) (best-step k gs n) ∙ ins-step P q qs in
     by-cases (ltb (size (longest gs)) (size g))
     (λ t.
-      let lg : longest (gs ++ (g ∷ [])) ≡ g = ll ∙ rw t in
-      let bs : besides (g .off) (gs ++ (g ∷ [])) ≡ gs =
-      keep-append (elsewhere (g .off)) gs (g ∷ []) ∙ ap₂ (λ (l k : List Rec). l ++ k) (keep-all (elsewhere (g .off)) gs e) (besides-none g) ∙ append-nil gs in
-      let tk : take (length qs) (q ∷ qs) ≡ best-of k gs =
-      ap₂ (λ (j : ℕ) (l : List Pair). take j l) (length-best k (besides (longest gs .off) gs)) (sym (best-step k gs n)) ∙ take-best k gs in
-      s ∙ ap (λ (x : Rec). pair (x .off) (size x) ∷ best-of k (besides (x .off) (gs ++ (g ∷ [])))) lg
-      ∙ ap (λ (l : List Rec). P ∷ best-of k l) bs ∙ ap (λ (l : List Pair). P ∷ l) (sym tk) ∙ sym (r ∙ rw t))
+    let lg : longest (gs ++ (g ∷ [])) ≡ g = ll ∙ rw t in
+    let bs : besides (g .off) (gs ++ (g ∷ [])) ≡ gs =
+    keep-append (elsewhere (g .off)) gs (g ∷ []) ∙ ap₂ (λ (l k : List Rec). l ++ k) (keep-all (elsewhere (g .off)) gs e) (besides-none g) ∙ append-nil gs in
+    let tk : take (length qs) (q ∷ qs) ≡ best-of k gs =
+    ap₂ (λ (j : ℕ) (l : List Pair). take j l) (length-best k (besides (longest gs .off) gs)) (sym (best-step k gs n)) ∙ take-best k gs in
+    s ∙ ap (λ (x : Rec). pair (x .off) (size x) ∷ best-of k (besides (x .off) (gs ++ (g ∷ [])))) lg
+    ∙ ap (λ (l : List Rec). P ∷ best-of k l) bs ∙ ap (λ (l : List Pair). P ∷ l) (sym tk) ∙ sym (r ∙ rw t))
     (λ t.
-      let lm : longest (gs ++ (g ∷ [])) ≡ longest gs = ll ∙ rw t in
-      let ne : g .off ≡ longest gs .off → ⊥ = λ z. eqb-false (longest gs .off) (g .off) (not-true _ mo) (sym z) in
-      let bs : besides (longest gs .off) (gs ++ (g ∷ [])) ≡ besides (longest gs .off) gs ++ (g ∷ []) =
-      keep-append (elsewhere (longest gs .off)) gs (g ∷ []) ∙ ap (λ (l : List Rec). besides (longest gs .off) gs ++ l) (besides-one (longest gs .off) g ne) in
-      s ∙ ap (λ (x : Rec). pair (x .off) (size x) ∷ best-of k (besides (x .off) (gs ++ (g ∷ [])))) lm
-      ∙ ap (λ (l : List Rec). q ∷ best-of k l) bs
-      ∙ ap (λ (l : List Pair). q ∷ l) (ih (besides (longest gs .off) gs) (every-keep (elsewhere (g .off)) (elsewhere (longest gs .off)) gs e)) ∙ sym (r ∙ rw t))
+    let lm : longest (gs ++ (g ∷ [])) ≡ longest gs = ll ∙ rw t in
+    let ne : g .off ≡ longest gs .off → ⊥ = λ z. eqb-false (longest gs .off) (g .off) (not-true _ mo) (sym z) in
+    let bs : besides (longest gs .off) (gs ++ (g ∷ [])) ≡ besides (longest gs .off) gs ++ (g ∷ []) =
+    keep-append (elsewhere (longest gs .off)) gs (g ∷ []) ∙ ap (λ (l : List Rec). besides (longest gs .off) gs ++ l) (besides-one (longest gs .off) g ne) in
+    s ∙ ap (λ (x : Rec). pair (x .off) (size x) ∷ best-of k (besides (x .off) (gs ++ (g ∷ [])))) lm
+    ∙ ap (λ (l : List Rec). q ∷ best-of k l) bs
+    ∙ ap (λ (l : List Pair). q ∷ l) (ih (besides (longest gs .off) gs) (every-keep (elsewhere (g .off)) (elsewhere (longest gs .off)) gs e)) ∙ sym (r ∙ rw t))
 
 pub best-more : (k : ℕ) (gs : List Rec) (g : Rec) → 0 < size g → every (elsewhere (g .off)) gs ≡ true
     → best-of k (gs ++ (g ∷ [])) ≡ ins (pair (g .off) (size g)) (best-of k gs)
@@ -129,8 +129,10 @@ best-more (suc k) [] g h e = first k
   where
     P : Pair
     P = pair (g .off) (size g)
+
     lg : longest (g ∷ []) ≡ g
     lg = rw (le-leb 0 (size g) (omega arith))
+
     first : (k : ℕ) → best-of (suc k) (g ∷ []) ≡ ins (pair (g .off) (size g)) (best-of (suc k) [])
     first k =
         best-step k (g ∷ []) (omega arith) ∙ ap (λ (x : Rec). pair (x .off) (size x) ∷ best-of k (besides (x .off) (g ∷ []))) lg

@@ -97,11 +97,12 @@ module _ (e : Edition) (b : List ℕ) (t : Tiled e b) where
           let v : Here e b t (w .before ++ (w .entry ∷ [])) (r .0) (r .1) u = r .3 in
           let gs : gap-start (drop u b) ≡ true = eq-eqb (field u 2 b) 65535 g in
           let l : (w .before ++ (w .entry ∷ [])) ++ w .behind ≡ (w .before ++ (w .entry ∷ [])) ++ (r .0 ∷ r .1) = ap (λ (m : List Rec). (w .before ++ (w .entry ∷ [])) ++ m) (r .2) in
-          let s : size (r .0) ≡ field (u + 2) 2 b = v .says-is ∙ says-gap e b u gs in
-          (as-read ∙ ap (λ (m : List Rec). gap-end-after (e .header + length (join (w .before ++ (w .entry ∷ [])))) (gaps m)) l
-          ∙ after-gap e (e .header) (w .before ++ (w .entry ∷ [])) (r .0) (r .1) (subst (λ (m : List Rec). Laid e (e .header) m) l laid-two) (v .gap-is ∙ gs)
-          ∙ ap₂ (λ (x y : ℕ). x + y) place-u s,
-          omega (arith, v .fits, s))
+          let s : size (r .0) ≡ field (u + 2) 2 b = v .says-is ∙ says-gap e b u gs in (
+            as-read ∙ ap (λ (m : List Rec). gap-end-after (e .header + length (join (w .before ++ (w .entry ∷ [])))) (gaps m)) l
+                ∙ after-gap e (e .header) (w .before ++ (w .entry ∷ [])) (r .0) (r .1) (subst (λ (m : List Rec). Laid e (e .header) m) l laid-two) (v .gap-is ∙ gs)
+                ∙ ap₂ (λ (x y : ℕ). x + y) place-u s,
+            omega (arith, v .fits, s),
+          )
 
       pub behind-entry : u < data-end b → (field u 2 b ≡ 65535 → ⊥) → gap-end-after u (gaps (records e b)) ≡ u
       behind-entry h g =
@@ -231,8 +232,13 @@ pub found-room : (e : Edition) (sane : Sane e) (b n : List ℕ) (end place at : 
 found-room e sane b n end place at r h p q x =
     let t : Tiled e b = tiled e b r in
     let w : Entry-at e b at = entry-found e sane b n at r h q in
-    let l : length (slots b) ≡ count-of b = length-slots e b r in
-    (entry-least e b (tiled e b r) at w,
-    (omega (arith, entry-long e b (tiled e b r) at w, entry-inside e b (tiled e b r) at w, entry-size-least e (getD b (at + 8) 0)),
-    (omega (arith, entry-long e b (tiled e b r) at w, entry-inside e b (tiled e b r) at w),
-    (omega (arith, found-place e b n h, l, end-fits e b (tiled e b r), p), tiled e b r .short))))
+    let l : length (slots b) ≡ count-of b = length-slots e b r in (
+      entry-least e b (tiled e b r) at w,
+      (
+        omega (arith, entry-long e b (tiled e b r) at w, entry-inside e b (tiled e b r) at w, entry-size-least e (getD b (at + 8) 0)),
+        (
+          omega (arith, entry-long e b (tiled e b r) at w, entry-inside e b (tiled e b r) at w),
+          (omega (arith, found-place e b n h, l, end-fits e b (tiled e b r), p), tiled e b r .short),
+        ),
+      ),
+    )

@@ -237,9 +237,9 @@ module _ (e : Edition) (b : List ℕ) (r : Ready e b) (h a p j : ℕ) (s : Slot)
         ap slot-bytes down-slots
         ∙ slot-bytes-append (run-of b 0 j) (run-of b (j + 1) (p - (j + 1)) ++ slot h a ∷ run-of b p (count-of b - p))
         ∙ ap₂ (λ (x y : List ℕ). x ++ y) (run-bytes e b r 0 j (omega arith) ∙ ap (λ (k : ℕ). part k (8 * j) b) z0)
-          (slot-bytes-append (run-of b (j + 1) (p - (j + 1))) (slot h a ∷ run-of b p (count-of b - p))
-          ∙ ap₂ (λ (x y : List ℕ). x ++ y) (run-bytes e b r (j + 1) (p - (j + 1)) (omega arith)) (slot-front h a (run-of b p (count-of b - p)) ∙ ap (λ (y : List ℕ). S ++ y) (run-bytes e b r p (count-of b - p) (omega arith)))
-          ∙ sym (append-assoc M S D)) in
+        (slot-bytes-append (run-of b (j + 1) (p - (j + 1))) (slot h a ∷ run-of b p (count-of b - p))
+        ∙ ap₂ (λ (x y : List ℕ). x ++ y) (run-bytes e b r (j + 1) (p - (j + 1)) (omega arith)) (slot-front h a (run-of b p (count-of b - p)) ∙ ap (λ (y : List ℕ). S ++ y) (run-bytes e b r p (count-of b - p) (omega arith)))
+        ∙ sym (append-assoc M S D)) in
         e₂ ∙ ap (λ (x : List ℕ). put x (data-end b + 8 * (p - 1)) S) e₁
         ∙ put-next b (data-end b + 8 * (p - 1)) (data-end b + 8 * j) M S (omega (arith, lm))
         ∙ sym (put-keep b (data-end b + 8 * j) (data-end b + 8 * p) (8 * (count-of b - p)) (M ++ S) (omega (arith, lms)))
@@ -285,10 +285,10 @@ module _ (e : Edition) (b : List ℕ) (r : Ready e b) (h a p j : ℕ) (s : Slot)
         ap slot-bytes up-slots
         ∙ slot-bytes-append (run-of b 0 p) (slot h a ∷ (run-of b p (j - p) ++ run-of b (j + 1) (count-of b - (j + 1))))
         ∙ ap₂ (λ (x y : List ℕ). x ++ y) (run-bytes e b r 0 p (omega arith) ∙ ap (λ (k : ℕ). part k (8 * p) b) z0)
-          (slot-front h a (run-of b p (j - p) ++ run-of b (j + 1) (count-of b - (j + 1)))
-          ∙ ap (λ (y : List ℕ). S ++ y) (slot-bytes-append (run-of b p (j - p)) (run-of b (j + 1) (count-of b - (j + 1)))
-            ∙ ap₂ (λ (x y : List ℕ). x ++ y) (run-bytes e b r p (j - p) (omega arith)) (run-bytes e b r (j + 1) (count-of b - (j + 1)) (omega arith)))
-          ∙ sym (append-assoc S M D)) in
+        (slot-front h a (run-of b p (j - p) ++ run-of b (j + 1) (count-of b - (j + 1)))
+        ∙ ap (λ (y : List ℕ). S ++ y) (slot-bytes-append (run-of b p (j - p)) (run-of b (j + 1) (count-of b - (j + 1)))
+        ∙ ap₂ (λ (x y : List ℕ). x ++ y) (run-bytes e b r p (j - p) (omega arith)) (run-bytes e b r (j + 1) (count-of b - (j + 1)) (omega arith)))
+        ∙ sym (append-assoc S M D)) in
         e₂ ∙ ap (λ (x : List ℕ). put x (data-end b + 8 * p) S) e₁
         ∙ put-front b (data-end b + 8 * p) (data-end b + 8 * p + 8) S M (ap (λ (k : ℕ). data-end b + 8 * p + k) ls)
         ∙ sym (put-keep b (data-end b + 8 * p) (data-end b + 8 * (j + 1)) (8 * (count-of b - (j + 1))) (S ++ M) (omega (arith, lsm)))

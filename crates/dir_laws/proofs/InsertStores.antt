@@ -151,18 +151,18 @@ longest-besides o [] h = refl
 longest-besides o (x ∷ xs) h =
     by-cases (leb (size (longest xs)) (size x))
     (λ q.
-      let z : longest (x ∷ xs) ≡ x = longest-step x xs ∙ rw q in
-      let nx : eqb (x .off) o ≡ false = ne-eqb (x .off) o (λ w. h (ap (λ (r : Rec). r .off) z ∙ w)) in
-      let sh : leb (size (longest (besides o xs))) (size x) ≡ true = le-leb (size (longest (besides o xs))) (size x) (omega (arith, kept-shorter (λ r. not (eqb (r .off) o)) xs, leb-true (size (longest xs)) (size x) q)) in
-      let be : besides o (x ∷ xs) ≡ x ∷ besides o xs = rw nx in
-      ap longest be ∙ longest-step x (besides o xs) ∙ rw sh (sym z))
+    let z : longest (x ∷ xs) ≡ x = longest-step x xs ∙ rw q in
+    let nx : eqb (x .off) o ≡ false = ne-eqb (x .off) o (λ w. h (ap (λ (r : Rec). r .off) z ∙ w)) in
+    let sh : leb (size (longest (besides o xs))) (size x) ≡ true = le-leb (size (longest (besides o xs))) (size x) (omega (arith, kept-shorter (λ r. not (eqb (r .off) o)) xs, leb-true (size (longest xs)) (size x) q)) in
+    let be : besides o (x ∷ xs) ≡ x ∷ besides o xs = rw nx in
+    ap longest be ∙ longest-step x (besides o xs) ∙ rw sh (sym z))
     (λ q.
-      let z : longest (x ∷ xs) ≡ longest xs = longest-step x xs ∙ rw q in
-      let ih : longest (besides o xs) ≡ longest xs = longest-besides o xs (λ w. h (ap (λ (r : Rec). r .off) z ∙ w)) in
-      by-cases (eqb (x .off) o)
-      (λ w. let be : besides o (x ∷ xs) ≡ besides o xs = rw w in ap longest be ∙ ih ∙ sym z)
-      (λ w. let be : besides o (x ∷ xs) ≡ x ∷ besides o xs = rw w in
-        ap longest be ∙ longest-step x (besides o xs) ∙ ap (λ (m : Rec). cond (leb (size m) (size x)) x m) ih ∙ rw q (sym z)))
+    let z : longest (x ∷ xs) ≡ longest xs = longest-step x xs ∙ rw q in
+    let ih : longest (besides o xs) ≡ longest xs = longest-besides o xs (λ w. h (ap (λ (r : Rec). r .off) z ∙ w)) in
+    by-cases (eqb (x .off) o)
+    (λ w. let be : besides o (x ∷ xs) ≡ besides o xs = rw w in ap longest be ∙ ih ∙ sym z)
+    (λ w. let be : besides o (x ∷ xs) ≡ x ∷ besides o xs = rw w in
+    ap longest be ∙ longest-step x (besides o xs) ∙ ap (λ (m : Rec). cond (leb (size m) (size x)) x m) ih ∙ rw q (sym z)))
 
 second-best : (k : ℕ) (gs : List Rec) (p : Pair) (o l : ℕ) (ps : List Pair) → best-of (suc (suc k)) gs ≡ p ∷ pair o l ∷ ps
     → (longest (besides (longest gs .off) gs) .off ≡ o) × (size (longest (besides (longest gs .off) gs)) ≡ l)
@@ -220,10 +220,11 @@ module _ (e : Edition) (b n : List ℕ) (i o₁ l₁ o₂ l₂ o₃ l₃ u k s E
       × (insert-writes e b n i ≡ entry-writes e i n o₁ (o₁ + l₁) ++ index-writes (length b) (insert-slot (slot (hash-of e n) (o₁ / 8)) (without-first is-stale (slots b))) (s - 1))
   unfolding has-room insert-writes writes-a room
   is-a h k =
-      let t : case-a (room e b n) ≡ true = need-a ∙ rw (le-leb 1 s h, le-leb E l₁ k) in
-      (rw t refl,
-      rw t (ap₂ (λ (x y : ℕ). entry-writes e i n x (x + y) ++ index-writes (length b) (insert-slot (slot (hash-of e n) (x / 8)) (without-first is-stale (slots b))) (stale-of b - 1)) (one .0) (one .1)
-      ∙ ap (λ (x : ℕ). entry-writes e i n o₁ (o₁ + l₁) ++ index-writes (length b) (insert-slot (slot (hash-of e n) (o₁ / 8)) (without-first is-stale (slots b))) (x - 1)) (sym se)))
+      let t : case-a (room e b n) ≡ true = need-a ∙ rw (le-leb 1 s h, le-leb E l₁ k) in (
+        rw t refl,
+        rw t (ap₂ (λ (x y : ℕ). entry-writes e i n x (x + y) ++ index-writes (length b) (insert-slot (slot (hash-of e n) (x / 8)) (without-first is-stale (slots b))) (stale-of b - 1)) (one .0) (one .1)
+            ∙ ap (λ (x : ℕ). entry-writes e i n o₁ (o₁ + l₁) ++ index-writes (length b) (insert-slot (slot (hash-of e n) (o₁ / 8)) (without-first is-stale (slots b))) (x - 1)) (sym se)),
+      )
 
   -- (b)
   pub is-b : 1 ≤ s → l₁ < E → E ≤ k + 8 * (s - 1) → (has-room e b n ≡ true)
@@ -231,10 +232,11 @@ module _ (e : Edition) (b n : List ℕ) (i o₁ l₁ o₂ l₂ o₃ l₃ u k s E
   unfolding has-room insert-writes writes-b room
   is-b h l m =
       let t : case-a (room e b n) ≡ false = need-a ∙ rw (le-leb 1 s h, lt-leb E l₁ l) in
-      let v : case-b (room e b n) ≡ true = need-b ∙ rw (le-leb 1 s h, le-leb E (k + 8 * (s - 1)) m) in
-      (rw (t, v) refl,
-      rw (t, v) (ap₂ (λ (x y : ℕ). entry-writes e i n x (x + y + 8 * (stale-of b - 1)) ++ index-writes (length b) (insert-slot (slot (hash-of e n) (x / 8)) (keep is-live (slots b))) 0) (sc .touch-off) (sc .touch-size)
-      ∙ ap (λ (x : ℕ). entry-writes e i n u (u + k + 8 * (x - 1)) ++ index-writes (length b) (insert-slot (slot (hash-of e n) (u / 8)) (keep is-live (slots b))) 0) (sym se)))
+      let v : case-b (room e b n) ≡ true = need-b ∙ rw (le-leb 1 s h, le-leb E (k + 8 * (s - 1)) m) in (
+        rw (t, v) refl,
+        rw (t, v) (ap₂ (λ (x y : ℕ). entry-writes e i n x (x + y + 8 * (stale-of b - 1)) ++ index-writes (length b) (insert-slot (slot (hash-of e n) (x / 8)) (keep is-live (slots b))) 0) (sc .touch-off) (sc .touch-size)
+            ∙ ap (λ (x : ℕ). entry-writes e i n u (u + k + 8 * (x - 1)) ++ index-writes (length b) (insert-slot (slot (hash-of e n) (u / 8)) (keep is-live (slots b))) 0) (sym se)),
+      )
 
   pub no-ab : 1 ≤ s → l₁ < E → k + 8 * (s - 1) < E → has-room e b n ≡ false
   unfolding has-room
@@ -266,12 +268,13 @@ module _ (e : Edition) (b n : List ℕ) (i o₁ l₁ o₂ l₂ o₃ l₃ u k s E
         × (insert-writes e b n i ≡ entry-writes e i n o (o + l) ++ (gap-writes u (k - 8) ++ index-writes (length b) (insert-slot (slot (hash-of e n) (o / 8)) (slots b)) 0))
     unfolding has-room insert-writes writes-c
     is-c h m =
-        let v : case-c (room e b n) ≡ true = need-c l ol ∙ rw (eq-eqb s 0 z, le-leb 8 k h, le-leb E l m) in
-        (ap₂ (λ (p q : Bool). p || q || case-c (room e b n) || case-d (room e b n)) not-a not-b ∙ ap (λ (p : Bool). p || case-d (room e b n)) v,
-        ap₂ (λ (p q : Bool). cond p (writes-a e b n i (room e b n)) (cond q (writes-b e b n i (room e b n)) (cond (case-c (room e b n)) (writes-c e b n i (room e b n)) (writes-d e b n i (room e b n))))) not-a not-b
-        ∙ ap (λ (p : Bool). cond p (writes-c e b n i (room e b n)) (writes-d e b n i (room e b n))) v
-        ∙ ap₂ (λ (x y : ℕ). entry-writes e i n x (x + y) ++ (gap-writes (room e b n .last-gap .off) (size (room e b n .last-gap) - 8) ++ index-writes (length b) (insert-slot (slot (hash-of e n) (x / 8)) (slots b)) 0)) oo ol
-        ∙ ap₂ (λ (x y : ℕ). entry-writes e i n o (o + l) ++ (gap-writes x (y - 8) ++ index-writes (length b) (insert-slot (slot (hash-of e n) (o / 8)) (slots b)) 0)) t-off t-size)
+        let v : case-c (room e b n) ≡ true = need-c l ol ∙ rw (eq-eqb s 0 z, le-leb 8 k h, le-leb E l m) in (
+          ap₂ (λ (p q : Bool). p || q || case-c (room e b n) || case-d (room e b n)) not-a not-b ∙ ap (λ (p : Bool). p || case-d (room e b n)) v,
+          ap₂ (λ (p q : Bool). cond p (writes-a e b n i (room e b n)) (cond q (writes-b e b n i (room e b n)) (cond (case-c (room e b n)) (writes-c e b n i (room e b n)) (writes-d e b n i (room e b n))))) not-a not-b
+              ∙ ap (λ (p : Bool). cond p (writes-c e b n i (room e b n)) (writes-d e b n i (room e b n))) v
+              ∙ ap₂ (λ (x y : ℕ). entry-writes e i n x (x + y) ++ (gap-writes (room e b n .last-gap .off) (size (room e b n .last-gap) - 8) ++ index-writes (length b) (insert-slot (slot (hash-of e n) (x / 8)) (slots b)) 0)) oo ol
+              ∙ ap₂ (λ (x y : ℕ). entry-writes e i n o (o + l) ++ (gap-writes x (y - 8) ++ index-writes (length b) (insert-slot (slot (hash-of e n) (o / 8)) (slots b)) 0)) t-off t-size,
+        )
 
     -- (d)
     pub is-d : l < E → E + 8 ≤ k → (has-room e b n ≡ true)
@@ -279,11 +282,12 @@ module _ (e : Edition) (b n : List ℕ) (i o₁ l₁ o₂ l₂ o₃ l₃ u k s E
     unfolding has-room insert-writes writes-d
     is-d h m =
         let v : case-c (room e b n) ≡ false = need-c l ol ∙ rw (eq-eqb s 0 z, le-leb 8 k (omega arith), lt-leb E l h) in
-        let w : case-d (room e b n) ≡ true = need-d ∙ rw (eq-eqb s 0 z, le-leb (E + 8) k m) in
-        (ap₂ (λ (p q : Bool). p || q || case-c (room e b n) || case-d (room e b n)) not-a not-b ∙ ap₂ (λ (p q : Bool). p || q) v w,
-        ap₂ (λ (p q : Bool). cond p (writes-a e b n i (room e b n)) (cond q (writes-b e b n i (room e b n)) (cond (case-c (room e b n)) (writes-c e b n i (room e b n)) (writes-d e b n i (room e b n))))) not-a not-b
-        ∙ ap (λ (p : Bool). cond p (writes-c e b n i (room e b n)) (writes-d e b n i (room e b n))) v
-        ∙ ap₂ (λ (x y : ℕ). entry-writes e i n x (x + y - 8) ++ index-writes (length b) (insert-slot (slot (hash-of e n) (x / 8)) (slots b)) 0) t-off t-size)
+        let w : case-d (room e b n) ≡ true = need-d ∙ rw (eq-eqb s 0 z, le-leb (E + 8) k m) in (
+          ap₂ (λ (p q : Bool). p || q || case-c (room e b n) || case-d (room e b n)) not-a not-b ∙ ap₂ (λ (p q : Bool). p || q) v w,
+          ap₂ (λ (p q : Bool). cond p (writes-a e b n i (room e b n)) (cond q (writes-b e b n i (room e b n)) (cond (case-c (room e b n)) (writes-c e b n i (room e b n)) (writes-d e b n i (room e b n))))) not-a not-b
+              ∙ ap (λ (p : Bool). cond p (writes-c e b n i (room e b n)) (writes-d e b n i (room e b n))) v
+              ∙ ap₂ (λ (x y : ℕ). entry-writes e i n x (x + y - 8) ++ index-writes (length b) (insert-slot (slot (hash-of e n) (x / 8)) (slots b)) 0) t-off t-size,
+        )
 
     pub no-t : k < 8 → has-room e b n ≡ false
     unfolding has-room
@@ -412,8 +416,8 @@ module _ (e : Edition) (b n : List ℕ) (r : Ready e b) (i h a : ℕ) where
       let G : List Write = gap-writes u (k - 8) in
       index-first b c f (length b) (insert-slot (slot h a) (slots b)) 0 (entry-writes e i n o (o + l) ++ gap-writes u (k - 8))
       (below-append _ (entry-writes e i n o (o + l)) (gap-writes u (k - 8))
-        (below-entry e i n o (o + l) _ (omega arith) (omega (arith, long-grow, fits)) (omega (arith, g .eights, entry-size-eights e (length n))))
-        (below-gap _ u (k - 8) (omega arith) (omega (arith, long-grow, fits))))
+      (below-entry e i n o (o + l) _ (omega arith) (omega (arith, long-grow, fits)) (omega (arith, g .eights, entry-size-eights e (length n))))
+      (below-gap _ u (k - 8) (omega arith) (omega (arith, long-grow, fits))))
       p (x ∙ ap (λ (y : List ℕ). written y (gap-writes u (k - 8))) q ∙ sym (written-append c (entry-writes e i n o (o + l)) (gap-writes u (k - 8))))
       ∙ ap (written b) (append-assoc (entry-writes e i n o (o + l)) (gap-writes u (k - 8)) (index-writes (length b) (insert-slot (slot h a) (slots b)) 0))
 

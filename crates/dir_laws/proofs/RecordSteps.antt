@@ -5,6 +5,7 @@ use native.Mathlib.Omega.{arith}
 use mathlib.Core.Bool.{Bool, true}
 use mathlib.Core.Path.{_≡_, refl, sym, _∙_, ap, subst}
 use mathlib.Core.List.{List, [], _∷_, _++_, append-assoc, append-nil}
+use lib.Dec.{leb}
 use lib.ListN.{length, take, drop, length-append}
 use lib.Seq.{drop-at}
 use borrow.Author.Tests.{leb-true, ne-eqb}
@@ -15,7 +16,7 @@ use Rattle.dir_rules.specs.Record.{Rec, size, is-gap, gap-start, says}
 use Rattle.dir_rules.specs.Block.{records, slots, slot-bytes, stale-of, count-of, data-end}
 use Rattle.dir_rules.specs.Verdict.{span-ok}
 use Rattle.dir_rules.specs.Room.{last-of}
-use Rattle.be.proofs.Bools.{by-cases, and-left, every-cons}
+use Rattle.be.proofs.Bools.{by-cases, and-left, every-cons, and-right}
 use Rattle.dir_rules.proofs.CutJoin.{Whole, Laid, join, join-append, laid-back, laid-front, says-append, gap-start-append}
 use Rattle.dir_rules.proofs.BlockParts.{tail-bytes, build-end, refit, rebuild}
 use Rattle.dir_laws.specs.Tiled.{Tiled}
@@ -54,6 +55,10 @@ module _ (e : Edition) (b : List ℕ) (t : Tiled e b) where
   pub room-for : e .header + 8 * count-of b + 8 ≤ length b
   unfolding span-ok
   room-for = leb-true (e .header + 8 * count-of b + 8) (length b) (and-left _ _ (t .span))
+
+  pub stale-most : stale-of b ≤ count-of b
+  unfolding span-ok
+  stale-most = leb-true (stale-of b) (count-of b) (and-right (leb (e .header + 8 * count-of b + 8) (length b)) _ (t .span))
 
   pub end-fits : data-end b + 8 * count-of b + 8 ≡ length b
   unfolding data-end

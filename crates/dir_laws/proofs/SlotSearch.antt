@@ -34,7 +34,7 @@ use Rattle.dir_rules.proofs.GoodParts.{block-bound}
 use Rattle.dir_rules.proofs.AcceptedParts.{good-of, apart-of, reads-of, keep-find, Found-in}
 use Rattle.dir_laws.specs.Tiled.{Tiled, Ready}
 use Rattle.dir_laws.specs.SlotPlaces.{all-below, all-from}
-use Rattle.dir_laws.proofs.RecordSteps.{Here, here, end-fits}
+use Rattle.dir_laws.proofs.RecordSteps.{Here, here, end-fits, stale-most}
 use Rattle.dir_laws.proofs.RecordPass.{says-entry}
 
 -- ---- slots one by one
@@ -63,8 +63,8 @@ slot-at b i h =
     let f : drop 4 (drop (8 * i) d) ≡ drop (data-end b + 8 * i + 4) b = ap (drop 4) e ∙ drop-drop 4 (data-end b + 8 * i) b in
     s ∙ slots-cons (count-of b - i) (drop (8 * i) d) (omega arith)
     ∙ ap₂ (λ (x : Slot) (l : List Slot). x ∷ l)
-      (ap₂ (λ (x y : List ℕ). slot (be (take 4 x)) (be (take 4 y))) e f)
-      (ap (drop 1) (sym s) ∙ drop-drop 1 i (slots-in (count-of b) d))
+    (ap₂ (λ (x y : List ℕ). slot (be (take 4 x)) (be (take 4 y))) e f)
+    (ap (drop 1) (sym s) ∙ drop-drop 1 i (slots-in (count-of b) d))
 
 -- ---- hashes that never fall
 
@@ -148,6 +148,9 @@ unfolding size-ok
 tiled e b r =
     let p : Passed e b = passed e b (r .ok) in
     record { are-bytes = r .are-bytes; short = block-bound (length b) (p .size); span = p .span; wholes = tile-whole e (records e b) (p .tile) }
+
+pub stale-within : (e : Edition) (b : List ℕ) → Ready e b → stale-of b ≤ count-of b
+stale-within e b r = stale-most e b (tiled e b r)
 
 pub length-slots : (e : Edition) (b : List ℕ) → Ready e b → length (slots b) ≡ count-of b
 length-slots e b r = let t : Tiled e b = tiled e b r in slots-count e b (t .are-bytes) (t .span) (t .wholes)

@@ -1,27 +1,26 @@
 -- The walk's step, read in the block: a gap, a live entry, the end; and which places a walk may stand at.
 -- Assumes nothing.
-use Prim.Native.Nat.{ℕ, zero, suc, _+_, _≤_, _<_}
+use Prim.Native.Nat.{ℕ, _+_, _≤_, _<_}
 use native.Mathlib.Nat.{add-zero}
 use native.Mathlib.Omega.{arith}
-use mathlib.Core.Bool.{true, false, not, _||_}
+use mathlib.Core.Bool.{true, false}
 use mathlib.Core.Path.{_≡_, refl, sym, _∙_, ap, ap₂, subst}
-use mathlib.Core.List.{List, [], _∷_, _++_, append-assoc, append-nil}
-use lib.Dec.{eqb, ltb}
+use mathlib.Core.List.{List, [], _∷_, _++_, append-assoc}
+use lib.Dec.{eqb}
 use lib.ListN.{length, take, drop, getD, length-append, List·getD-append}
 use lib.Seq.{getD-drop, take-append-le}
-use borrow.Author.Tests.{eq-eqb, ne-eqb, lt-ltb, ltb-true}
+use borrow.Author.Tests.{eq-eqb, ne-eqb}
 use Rattle.be.specs.Lists.{every, some-of, keep}
 use Rattle.be.specs.Bytes.{be, byte, field}
 use Rattle.be.proofs.Bools.{every-cons, every-append, and-both, by-cases}
 use Rattle.edition.specs.declared.Edition.{Edition}
 use Rattle.edition.specs.Edition.{Sane, entry-size}
 use Rattle.edition.proofs.Sizes.{entry-size-least}
-use Rattle.dir_rules.specs.declared.Entry.{Entry}
 use Rattle.dir_rules.specs.declared.Seen.{Seen}
 use Rattle.dir_rules.specs.declared.Seen.the-variants.{Live, Gap}
 use Rattle.dir_rules.specs.declared.Step.{Step}
 use Rattle.dir_rules.specs.declared.Walked.the-variants.{Stepped}
-use Rattle.dir_rules.specs.Record.{Rec, size, is-gap, gap-start, number, namelen}
+use Rattle.dir_rules.specs.Record.{Rec, size, gap-start, number, namelen}
 use Rattle.dir_rules.specs.Block.{records, data-end}
 use Rattle.dir_rules.specs.Walk.{step-over, step-end, is-place, walk-step, seen-start, seen-len}
 use Rattle.dir_rules.proofs.CutJoin.{Laid, join, laid-back, laid-front, join-append}

@@ -60,7 +60,7 @@ module _ (o n : ℕ) (p q r : Pair) where
 module _ (p q r : Pair) (x y z : Bool) (g : Rec) (gs : List Rec) where
   best-next : best-left x y z p q r (g ∷ gs)
       ≡ cond (eqb (which true (g .off) (size g) p q r) 0) false
-        (best-left (x || eqb (which true (g .off) (size g) p q r) 1) (y || eqb (which true (g .off) (size g) p q r) 2) (z || eqb (which true (g .off) (size g) p q r) 3) p q r gs)
+      (best-left (x || eqb (which true (g .off) (size g) p q r) 1) (y || eqb (which true (g .off) (size g) p q r) 2) (z || eqb (which true (g .off) (size g) p q r) 3) p q r gs)
   unfolding best-left which
   best-next =
       by-cases (is-gap-of p g)

@@ -17,9 +17,9 @@ use Rattle.dir_rules.specs.Block.{Slot, records, slots, slots-in, count-of, sta
 use Rattle.dir_rules.specs.Verdict.{verdict, size-ok, magic-ok, span-ok, tile-ok}
 use Rattle.dir_test.specs.Passes.{rest, slots-from, Parts, Tiled, after-span, after-tile, after-index, tiled}
 use Rattle.dir_test.proofs.FaultsAnswer.{tiled-not, tiled-done}
-
 -- TILE
 use Rattle.edition.proofs.Sizes.{block-size-bounds}
+
 module _ (e : Edition) (b : List ℕ) (t n m k : ℕ) (ks : k ≡ tiled e false 1 (rest e b t (length b) (e .header))) where
   pub end-5 : k ≡ 0 → 5 ≡ after-span e b (rest e b t (length b) (e .header)) (slots-from b t n 0) m
   unfolding after-span

@@ -124,10 +124,13 @@ module _ (e : Edition) (b : List ℕ) (t : ℕ) (hi : t ≤ length b) (te : t % 
         walk-on Q f =
             let hd : Head e b t o n = walk-head n h in
             record {
-              within = hd .fits; eights = omega (arith, k .eights, hd .eights); fuel = k .fuel - 1;
+              within = hd .fits;
+              eights = omega (arith, k .eights, hd .eights);
+              fuel = k .fuel - 1;
               enough = omega (arith, k .enough, hd .least);
               wholes = and-right (whole e rec-here) _ (subst (λ (rs : List Rec). every (whole e) rs ≡ true) next (k .wholes));
-              holds = f (rest e b t (k .fuel - 1) (o + n)) (subst P next (k .holds)) }
+              holds = f (rest e b t (k .fuel - 1) (o + n)) (subst P next (k .holds));
+            }
 
 -- what a whole record's entry is, in the block
 module _ (e : Edition) (b : List ℕ) (t o n : ℕ) (lo : o < t) (hi : t ≤ length b) (hd : Head e b t o n) where

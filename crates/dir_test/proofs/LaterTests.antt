@@ -92,8 +92,9 @@ module _ (e : Edition) (sane : Sane e) (b : List ℕ) (t n : ℕ) where
     reads = record {
       eights = laid-eights e is-entry (e .header) RS (sane .header-eights) laid;
       named = λ s. same-eq (name-of b (s .here .off)) (name (s .here))
-        (and-right (leb (s .here .off + 9 + getD b (s .here .off + 8) 0) t) _
-        (every-at (placed e b t hi (T .parts .eights)) (s .before) (s .here) (s .behind) (rw (s .is) at all-placed))) }
+          (and-right (leb (s .here .off + 9 + getD b (s .here .off + 8) 0) t) _
+          (every-at (placed e b t hi (T .parts .eights)) (s .before) (s .here) (s .behind) (rw (s .is) at all-placed)));
+    }
 
     -- TWICE
     module _ (m : ℕ) (x : index-ok e RS SS m ≡ true) where

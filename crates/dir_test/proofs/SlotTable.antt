@@ -101,8 +101,14 @@ module _ (b : List ℕ) (t n : ℕ) where
         (λ w. let x″ : 1 + tally (at-addr a) (slots-from b t n (i + 1)) ≡ 1 = rw w at x′ in
         let y1 : cond (eqb (hash-at b t i) h) 1 0 + tally (at-both a h) (slots-from b t n (i + 1)) ≡ 1 = rw w at y′ in
         by-cases (eqb (hash-at b t i) h)
-        (λ v. record { i = i; from = omega arith; within = omega arith; addr-is = eqb-true (addr-at b t i) a w; hash-is = eqb-true (hash-at b t i) h v;
-          last = λ k l u e. none-after j (i + 1) (omega arith) (omega arith) k (omega arith) u e })
+        (λ v. record {
+          i = i;
+          from = omega arith;
+          within = omega arith;
+          addr-is = eqb-true (addr-at b t i) a w;
+          hash-is = eqb-true (hash-at b t i) h v;
+          last = λ k l u e. none-after j (i + 1) (omega arith) (omega arith) k (omega arith) u e;
+        })
         (λ v. absurd (let y2 : 0 + tally (at-both a h) (slots-from b t n (i + 1)) ≡ 1 = rw v at y1 in omega arith)))
         (λ w. let x″ : 0 + tally (at-addr a) (slots-from b t n (i + 1)) ≡ 1 = rw w at x′ in
         let y″ : 0 + tally (at-both a h) (slots-from b t n (i + 1)) ≡ 1 = rw w at y′ in

@@ -27,7 +27,7 @@ module _ (b : List ℕ) (t n : ℕ) where
       let q : t + 8 * i + 8 ≡ t + 8 * (i + 1) = omega arith in
       ap (λ (k : ℕ). slots-in k (drop o b)) m
       ∙ ap₂ (λ (d f : List ℕ). slot (hash-at b t i) (be (take 4 d)) ∷ slots-in (n - (i + 1)) f)
-        (drop-drop 4 o b) (drop-drop 8 o b ∙ ap (λ (k : ℕ). drop k b) q)
+      (drop-drop 4 o b) (drop-drop 8 o b ∙ ap (λ (k : ℕ). drop k b) q)
 
   pub slots-end : (i : ℕ) → n ≤ i → slots-from b t n i ≡ []
   unfolding slots-from slots-in
@@ -65,8 +65,11 @@ module _ (b : List ℕ) (t n : ℕ) where
               let q : eqb (addr-at b t i) 0 ≡ true = eq-eqb (addr-at b t i) 0 (sym ai ∙ z) in
               let x : ℕ = tally is-stale (slots-from b t n (i + 1)) in
               let w : stale + (1 + x) ≡ stale + 1 + x = omega arith in
-              record { within = omega arith; few = omega (arith, o .few);
-                so-far = o .so-far ∙ rw (slots-next i lo, rises, q, w, hi) }
+              record {
+                within = omega arith;
+                few = omega (arith, o .few);
+                so-far = o .so-far ∙ rw (slots-next i lo, rises, q, w, hi);
+              }
 
           pub ordering-live : (a ≡ 0 → ⊥) → Ordering m (i + 1) h stale
           unfolding in-order climbs
@@ -74,9 +77,11 @@ module _ (b : List ℕ) (t n : ℕ) where
               let q : eqb (addr-at b t i) 0 ≡ false = ne-eqb (addr-at b t i) 0 (λ (y : addr-at b t i ≡ 0). z (ai ∙ y)) in
               let x : ℕ = tally is-stale (slots-from b t n (i + 1)) in
               let w : stale + (0 + x) ≡ stale + x = omega arith in
-              record { within = omega arith; few = omega (arith, o .few);
-                so-far = o .so-far ∙ rw (slots-next i lo, rises, q, w, hi) }
-
+              record {
+                within = omega arith;
+                few = omega (arith, o .few);
+                so-far = o .so-far ∙ rw (slots-next i lo, rises, q, w, hi);
+              }
 
 -- the table of places: has_slot, test by test
 module _ (M b : List ℕ) (t n a h p : ℕ) (ps : p ≡ getD M a 0) where

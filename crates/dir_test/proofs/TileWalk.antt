@@ -151,13 +151,21 @@ module _ (e : Edition) (b : List ℕ) (t a : ℕ) (hi : t ≤ length b) (te : t 
         pub tiling-gap : w ≡ true → g ≡ false → Tiling e b t a (o + m) true n
         tiling-gap p q =
             record {
-              within = hd .fits; eights = omega (arith, i .eights, hd .eights); few = omega (arith, i .few); fuel = i .fuel - 1;
+              within = hd .fits;
+              eights = omega (arith, i .eights, hd .eights);
+              few = omega (arith, i .few);
+              fuel = i .fuel - 1;
               enough = omega (arith, i .enough, hd .least);
-              so-far = now-is ∙ tile-gap e b t o lo hi g n (i .fuel - 1) m hd (sym wg ∙ p) q }
+              so-far = now-is ∙ tile-gap e b t o lo hi g n (i .fuel - 1) m hd (sym wg ∙ p) q;
+            }
 
         pub tiling-entry : w ≡ false → Tiling e b t a (o + m) false (n + 1)
         tiling-entry p =
             record {
-              within = hd .fits; eights = omega (arith, i .eights, hd .eights); few = omega (arith, i .few, hd .least); fuel = i .fuel - 1;
+              within = hd .fits;
+              eights = omega (arith, i .eights, hd .eights);
+              few = omega (arith, i .few, hd .least);
+              fuel = i .fuel - 1;
               enough = omega (arith, i .enough, hd .least);
-              so-far = now-is ∙ tile-entry e b t o lo hi g n (i .fuel - 1) m hd (sym wg ∙ p) }
+              so-far = now-is ∙ tile-entry e b t o lo hi g n (i .fuel - 1) m hd (sym wg ∙ p);
+            }

@@ -7,7 +7,7 @@ use mathlib.Core.Path.{_≡_, refl, sym, _∙_, ap}
 use mathlib.Core.List.{List, [], _∷_}
 use lib.Dec.{eqb, leb, ltb}
 use lib.ListN.{length, getD}
-use borrow.Author.Tests.{le-leb, eq-eqb, ne-eqb, not-true, ltb-true, ltb-false, le-ltb}
+use borrow.Author.Tests.{le-leb, eq-eqb, ltb-true, ltb-false, le-ltb}
 use Rattle.be.specs.Lists.{every, some-of, keep, same}
 use Rattle.be.specs.Bytes.{part, field}
 use Rattle.edition.specs.declared.Edition.{Edition}

@@ -88,8 +88,11 @@ module _ (e : Edition) (b : List ℕ) where
   unfolding once-in
   once-free g [] f = refl
   once-free g (s ∷ ss) f =
-      rw (run-is (s .hash) (s .addr) (s .hash) (omega arith) ss (f .1), once-free (s .hash) ss (f .1)
-      , some-and (is-live s) (λ u. eqb (u .hash) (s .hash) && (is-live u && same-name e (name-of b (8 * s .addr)) (name-of b (8 * u .addr)))) ss)
+      rw (
+        run-is (s .hash) (s .addr) (s .hash) (omega arith) ss (f .1),
+        once-free (s .hash) ss (f .1),
+        some-and (is-live s) (λ u. eqb (u .hash) (s .hash) && (is-live u && same-name e (name-of b (8 * s .addr)) (name-of b (8 * u .addr)))) ss,
+      )
 
   pub twin-swap : (s u : Slot) → twin s u ≡ twin u s
   twin-swap s u = rw (eqb-swap (u .hash) (s .hash), same-name-swap e (name-of b (8 * s .addr)) (name-of b (8 * u .addr)))

@@ -42,8 +42,11 @@ module _ (e : Edition) (b : List ℕ) (t n i h c : ℕ) where
 
         pub clash-stale : a ≡ 0 → Clashing e b t n h c i (j + 1)
         unfolding clash-from
-        clash-stale z = record { from = omega (arith, k .from); within = omega arith;
-          so-far = k .so-far ∙ rw (slots-next b t n j l, eq, eq-eqb (addr-at b t j) 0 (sym ea ∙ z)) }
+        clash-stale z = record {
+          from = omega (arith, k .from);
+          within = omega arith;
+          so-far = k .so-far ∙ rw (slots-next b t n j l, eq, eq-eqb (addr-at b t j) 0 (sym ea ∙ z));
+        }
 
         module _ (u : a ≡ 0 → ⊥) (s : Bool) (ss : s ≡ same-name e (name-of b (8 * c)) (name-of b (8 * a))) where
           live : eqb (addr-at b t j) 0 ≡ false
@@ -58,8 +61,11 @@ module _ (e : Edition) (b : List ℕ) (t n i h c : ℕ) where
 
           pub clash-on : s ≡ false → Clashing e b t n h c i (j + 1)
           unfolding clash-from
-          clash-on z = record { from = omega (arith, k .from); within = omega arith;
-            so-far = k .so-far ∙ rw (slots-next b t n j l, eq, live, names, z) }
+          clash-on z = record {
+            from = omega (arith, k .from);
+            within = omega arith;
+            so-far = k .so-far ∙ rw (slots-next b t n j l, eq, live, names, z);
+          }
 
 -- the slots so far
 pub record Oncing (e : Edition) (b : List ℕ) (t n i : ℕ) : Type 0 where

@@ -1,6 +1,6 @@
 // The test of a block directory: any bytes, answered by 0 or the number of the first test that fails.
 ghost use mathlib.Core.Path.{_≡_};
-ghost use mathlib.Core.Bool.{true, false, not, _&&_, _||_, cond, Bool·beq};
+ghost use mathlib.Core.Bool.{true, false, not, _&&_, cond, Bool·beq};
 ghost use Prim.Native.Nat.{_+_, _*_, _-_, _/_, _%_, _≤_, _<_, min};
 ghost use lib.Dec.{eqb, ltb};
 ghost use lib.ListN.{length, set};
@@ -287,7 +287,17 @@ fn which(g: bool, o: usize, n: usize, p: Best, q: Best, s: Best) -> usize
 }
 
 // Whether the pairs p, q and s name the longest gaps, where x, y and z say which need not name one.
-fn best_left(e: Edition, b: &[u8], t: usize, p: Best, q: Best, s: Best, x0: bool, y0: bool, z0: bool) -> bool
+fn best_left(
+    e: Edition,
+    b: &[u8],
+    t: usize,
+    p: Best,
+    q: Best,
+    s: Best,
+    x0: bool,
+    y0: bool,
+    z0: bool,
+) -> bool
     requires { ⌜ Sane e ⌝ }
     requires { ⌜ (t ≤ length (now b)) × (t % 8 ≡ 0) × (e .header ≤ t) × (every (whole e) (rest e (now b) t (length (now b)) (e .header)) ≡ true) ⌝ }
     ensures { λ r. ⌜ r ≡ best-left x0 y0 z0 (pair (p .from) (p .long)) (pair (q .from) (q .long)) (pair (s .from) (s .long)) (gaps (rest e (now (b .entry)) t (length (now (b .entry))) (e .header))) ⌝ }

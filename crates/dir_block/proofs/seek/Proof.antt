@@ -1,12 +1,12 @@
 use mathlib.Core.List.{_∷_}
-use Prim.Native.Nat.{ℕ, _-_, _≤_, _+_, _<_, _*_}
+use Prim.Native.Nat.{ℕ, _-_, _≤_, _+_}
 use native.Mathlib.Omega.{arith}
 use mathlib.Core.Path.{_≡_, refl, sym, _∙_, subst}
 use mathlib.Core.Logic.{⊎-elim}
-use lib.ListN.{length, drop, take}
+use lib.ListN.{drop}
 use denote.Ref.{now}
 use borrow.Author.Needs.{needs}
-use Rattle.dir_rules.specs.Block.{slots, slot, Slot, count-of}
+use Rattle.dir_rules.specs.Block.{slots, slot, Slot}
 use Rattle.dir_laws.proofs.SlotSearch.{slots-room, Run, run-start, run-other, run-end, run-stale, run-differs, run-hit, slot-read, live-inside, ordered, length-slots}
 use Rattle.dir_block.proofs.seek.Statement.{statement}
 use Rattle.dir_block.proofs.seek.Tie as tie
@@ -124,12 +124,13 @@ loop-again c =
     let l = c .before .before .before .before .before .loop in
     let s : Slot = slot (c .before .before .before .be32 .result) (c .before .be322 .result) in
     let b = now (p .args .b) in
-    let n = now (p .args .name) in
-    (⊎-elim
-    (λ w. subst (λ (x : ℕ). Run (p .args .e) (now (p .args .b)) (now (p .args .name)) (l .i + 1) x) (sym (w .3)) (run-differs _ (now (p .args .b)) (now (p .args .name)) (l .i) (l .c) (l .inv .0) s (here (c .before)) (w .0 .taken) (c .before .before .if1 .left ∙ c .before .before .before .before .before .before .before .hash .ensures .0) (sym (w .1 .ensures) ∙ w .2 .left)))
-    (λ w. subst (λ (x : ℕ). Run (p .args .e) (now (p .args .b)) (now (p .args .name)) (l .i + 1) x) (sym (w .1)) (run-stale _ (now (p .args .b)) (now (p .args .name)) (l .i) (l .c) (l .inv .0) s (here (c .before)) (w .0 .left)))
-    (c .if2 .came),
-    omega arith)
+    let n = now (p .args .name) in (
+      ⊎-elim
+          (λ w. subst (λ (x : ℕ). Run (p .args .e) (now (p .args .b)) (now (p .args .name)) (l .i + 1) x) (sym (w .3)) (run-differs _ (now (p .args .b)) (now (p .args .name)) (l .i) (l .c) (l .inv .0) s (here (c .before)) (w .0 .taken) (c .before .before .if1 .left ∙ c .before .before .before .before .before .before .before .hash .ensures .0) (sym (w .1 .ensures) ∙ w .2 .left)))
+          (λ w. subst (λ (x : ℕ). Run (p .args .e) (now (p .args .b)) (now (p .args .name)) (l .i + 1) x) (sym (w .1)) (run-stale _ (now (p .args .b)) (now (p .args .name)) (l .i) (l .c) (l .inv .0) s (here (c .before)) (w .0 .left)))
+          (c .if2 .came),
+      omega arith,
+    )
 
 -- src/lib.rt:87:1
 returns-3 : tie.Need-returns-3 Inv-loop μ-loop

@@ -1,7 +1,6 @@
 use native.Mathlib.Omega.{arith}
 use mathlib.Core.Path.{sym, _∙_}
 use denote.Ref.{now}
-use borrow.Author.Needs.{needs}
 use Rattle.dir_laws.proofs.SlotSearch.{slots-room}
 use Rattle.dir_laws.proofs.WalkSteps.{place-room, entry-room, step-gap, step-entry, step-last}
 use Rattle.dir_block.proofs.step_ready.Statement.{statement}

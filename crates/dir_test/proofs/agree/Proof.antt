@@ -7,6 +7,7 @@ first : (x y : Bool) → x ≡ true → y ≡ Bool·beq x y
 first true true h = refl
 first true false h = refl
 first false y h = absurd (false≢true h)
+
 second : (x y : Bool) → x ≡ false → not y ≡ Bool·beq x y
 second true y h = absurd (true≢false h)
 second false true h = refl

@@ -21,9 +21,15 @@ loop-holds c =
 
 worse-requires : tie.Need-worse-requires Inv-loop μ-loop
 worse-requires c κs =
-    let a = c .before .before .before .args in let p = c .before .before .before .pre .1 in let k = c .before .loop .inv .0 in let l = c .loop-test .taken in
-    (c .before .before .before .pre .0, (p .0, p .1, omega (arith, walk-room _ _ _ (omega arith) (p .2) _ _ k l),
-    λ g. entry-fits _ _ _ _ _ l (omega arith) (walk-head _ _ _ (omega arith) (p .2) _ _ k l _ refl) g))
+    let a = c .before .before .before .args in let p = c .before .before .before .pre .1 in let k = c .before .loop .inv .0 in let l = c .loop-test .taken in (
+      c .before .before .before .pre .0,
+      (
+        p .0,
+        p .1,
+        omega (arith, walk-room _ _ _ (omega arith) (p .2) _ _ k l),
+        λ g. entry-fits _ _ _ _ _ l (omega arith) (walk-head _ _ _ (omega arith) (p .2) _ _ k l _ refl) g,
+      ),
+    )
 
 rec-len-requires : tie.Need-rec-len-requires Inv-loop μ-loop
 rec-len-requires c κs =
@@ -39,9 +45,10 @@ loop-less c =
 
 loop-again : tie.Need-loop-again Inv-loop μ-loop
 loop-again c =
-    let p = c .before .before .before .before .before .pre .1 in let k = c .before .before .before .loop .inv .0 in let l = c .before .before .loop-test .taken in let n = c .rec-len .ensures .0 in
-    (walk-on _ _ _ (omega arith) (p .2) _ _ k l _ n _ (worst-on _ _ _ _ _ _ _ (fault-here _ _ _ _ _ l (omega arith) (walk-head _ _ _ (omega arith) (p .2) _ _ k l _ n) _) (c .before .worse .ensures)),
-    omega (arith, c .before .worse .ensures))
+    let p = c .before .before .before .before .before .pre .1 in let k = c .before .before .before .loop .inv .0 in let l = c .before .before .loop-test .taken in let n = c .rec-len .ensures .0 in (
+      walk-on _ _ _ (omega arith) (p .2) _ _ k l _ n _ (worst-on _ _ _ _ _ _ _ (fault-here _ _ _ _ _ l (omega arith) (walk-head _ _ _ (omega arith) (p .2) _ _ k l _ n) _) (c .before .worse .ensures)),
+      omega (arith, c .before .worse .ensures),
+    )
 
 returns : tie.Need-returns Inv-loop μ-loop
 returns c =
