@@ -1,9 +1,13 @@
-# What people type. `make run`: prove, build and run the main job. `make test`: the whole gate.
+# What people type.
+#   make run [BLOCK=file]   prove what the listing program needs, build it, list the sample block or another one
+#   make test               the whole gate
 .PHONY: run test
 
+BLOCK ?= crates/list/stdin
+
 run:
-	@rt check vectors
-	@target/bin/vectors
+	@rt check list
+	@target/bin/list < $(BLOCK)
 
 test:
 	@tests/gate
