@@ -1,0 +1,112 @@
+-- The fork's tests, one after the other.
+-- Assumes nothing.
+use Prim.Native.Nat.{ℕ, _≤_, _<_}
+use native.Mathlib.Omega.{arith}
+use mathlib.Core.Bool.{Bool, true, false, cond}
+use mathlib.Core.Path.{_≡_, refl, sym, _∙_}
+use mathlib.Core.List.{List}
+use lib.Dec.{leb}
+use lib.ListN.{length}
+use borrow.Author.Tests.{le-leb, lt-leb, leb-true}
+use Rattle.be.specs.Lists.{every}
+use Rattle.be.specs.Bytes.{byte, field}
+use Rattle.be.proofs.Bools.{by-cases, and-left, and-right}
+use Rattle.attr_sf.specs.Entry.{distinct}
+use Rattle.attr_sf.specs.Fork.{header, totsize, count, stored, entries, tiled, name-legal-of, flags-legal-of, own-code, span-good, tile-good, names-good, flags-good, twice-good, fork-code}
+
+module _ (f : List ℕ) where
+  pub span-short : length f < header → 4 ≡ fork-code f
+  unfolding fork-code span-good
+  span-short h = rw (lt-leb header (length f) h)
+
+  module _ {end : ℕ} (e : end ≡ field 0 2 f) (h : header ≤ length f) where
+    pub span-low : end < header → 4 ≡ fork-code f
+    unfolding fork-code span-good totsize
+    span-low k = rw (← e, le-leb header (length f) h, lt-leb header end k)
+
+    module _ (k : header ≤ end) where
+      pub span-over : length f < end → 4 ≡ fork-code f
+      unfolding fork-code span-good totsize
+      span-over l = rw (← e, le-leb header (length f) h, le-leb header end k, lt-leb end (length f) l)
+
+      module _ {n : ℕ} (m : n ≡ byte 2 f) (l : end ≤ length f) where
+        span-is : span-good f ≡ true
+        unfolding span-good totsize
+        span-is = rw (← e, le-leb header (length f) h, le-leb header end k, le-leb end (length f) l)
+
+        pub not-tiled : tiled f end n header ≡ false → 5 ≡ fork-code f
+        unfolding fork-code tile-good totsize count
+        not-tiled t = rw (span-is, ← e, ← m, t)
+
+        module _ (t : tiled f end n header ≡ true) where
+          -- what is left to test once the entries tile
+          rest-is : cond (every name-legal-of (entries f n header)) (cond (every flags-legal-of (entries f n header)) (cond (distinct (entries f n header)) 0 10) 7) 6 ≡ fork-code f
+          unfolding fork-code tile-good names-good flags-good twice-good totsize count stored
+          rest-is = rw (span-is, ← e, ← m, t)
+
+          module _ {r : ℕ} (q : r ≡ own-code (entries f n header)) where
+            pub not-own : (r ≡ 0 → ⊥) → r ≡ fork-code f
+            not-own d =
+                q
+                ∙ by-cases (every name-legal-of (entries f n header))
+                (λ u.
+                by-cases (every flags-legal-of (entries f n header)) (λ v. absurd (d (q ∙ rw (u, v)))) (λ v. rw (u, v) (rw (u, v) at rest-is)))
+                (λ u. rw u (rw u at rest-is))
+
+            own-passed : r ≡ 0 → (every name-legal-of (entries f n header) ≡ true) × (every flags-legal-of (entries f n header) ≡ true)
+            own-passed z = go (every name-legal-of (entries f n header)) (every flags-legal-of (entries f n header)) (sym q ∙ z)
+              where
+                go : (u v : Bool) → _≡_ {A = ℕ} (cond u (cond v 0 7) 6) 0 → (u ≡ true) × (v ≡ true)
+                go true true h = (refl, refl)
+                go true false h = absurd (omega arith)
+                go false v h = absurd (omega arith)
+
+            pub not-once : r ≡ 0 → distinct (entries f n header) ≡ false → 10 ≡ fork-code f
+            not-once z d = let w = own-passed z in rw (w .0, w .1, d) at rest-is
+
+            pub all-passed : r ≡ 0 → distinct (entries f n header) ≡ true → 0 ≡ fork-code f
+            all-passed z d = let w = own-passed z in rw (w .0, w .1, d) at rest-is
+
+-- five tests that all pass
+five : (a b d g h : Bool) → _≡_ {A = ℕ} (cond a (cond b (cond d (cond g (cond h 0 10) 7) 6) 5) 4) 0
+    → ((a ≡ true) × (b ≡ true)) × ((d ≡ true) × ((g ≡ true) × (h ≡ true)))
+five true true true true true q = ((refl, refl), (refl, (refl, refl)))
+five true true true true false q = absurd (omega arith)
+five true true true false h q = absurd (omega arith)
+five true true false g h q = absurd (omega arith)
+five true false d g h q = absurd (omega arith)
+five false b d g h q = absurd (omega arith)
+
+-- what a fork that passes is known to have
+module _ (f : List ℕ) (z : fork-code f ≡ 0) where
+  passes : ((span-good f ≡ true) × (tile-good f ≡ true)) × ((names-good f ≡ true) × ((flags-good f ≡ true) × (twice-good f ≡ true)))
+  unfolding fork-code
+  passes = five (span-good f) (tile-good f) (names-good f) (flags-good f) (twice-good f) z
+
+  pub long : header ≤ length f
+  unfolding span-good
+  long = leb-true _ _ (and-left (leb header (length f)) _ (passes .0 .0))
+
+  pub end-above : header ≤ totsize f
+  unfolding span-good
+  end-above = leb-true _ _ (and-left (leb header (totsize f)) _ (and-right (leb header (length f)) _ (passes .0 .0)))
+
+  pub end-inside : totsize f ≤ length f
+  unfolding span-good
+  end-inside = leb-true _ _ (and-right (leb header (totsize f)) _ (and-right (leb header (length f)) _ (passes .0 .0)))
+
+  pub all-tiled : tiled f (totsize f) (count f) header ≡ true
+  unfolding tile-good
+  all-tiled = passes .0 .1
+
+  pub all-named : every name-legal-of (stored f) ≡ true
+  unfolding names-good
+  all-named = passes .1 .0
+
+  pub all-flagged : every flags-legal-of (stored f) ≡ true
+  unfolding flags-good
+  all-flagged = passes .1 .1 .0
+
+  pub all-once : distinct (stored f) ≡ true
+  unfolding twice-good
+  all-once = passes .1 .1 .1

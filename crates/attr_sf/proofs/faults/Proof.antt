@@ -1,0 +1,32 @@
+use native.Mathlib.Omega.{arith}
+use mathlib.Core.Path.{sym, _∙_}
+use borrow.Author.Needs.{needs}
+use borrow.Author.Tests.{not-true, not-false}
+use Rattle.attr_sf.proofs.Turns.{next-fits, next-long}
+use Rattle.attr_sf.proofs.EntryTests.{Passed, passed-none, passed-stop, passed-next, passed-done, passed-not}
+use Rattle.attr_sf.proofs.faults.Statement.{statement}
+use Rattle.attr_sf.proofs.faults.Tie as tie
+
+abbrev Inv-loop : tie.InvT-loop
+Inv-loop f n end left₀ at₀ flagged₀ left at flagged = Passed f n end left at flagged
+
+abbrev μ-loop : tie.MeasureT-loop
+μ-loop f n end left₀ at₀ flagged₀ left at flagged = left
+
+pub faults-spec : {M : Type 1} → statement M
+faults-spec =
+    tie.close
+    (tie.spec
+    Inv-loop
+    μ-loop
+    (λ c. passed-none _ _ _ (c .before .pre .0))
+    (λ c κs. next-fits (c .before .loop .inv .names) (c .loop-test .taken) (c .before .before .before .pre .1))
+    (λ c. passed-stop (c .before .before .before .loop .inv) (c .before .before .loop-test .taken) (sym (c .before .name-good .ensures) ∙ not-true _ (c .if1 .taken)))
+    (λ c κs. next-long (c .before .before .before .loop .inv .names) (c .before .before .loop-test .taken) (c .before .before .before .before .before .pre .1))
+    (λ c κs. next-long (c .before .before .before .before .loop .inv .names) (c .before .before .before .loop-test .taken) (c .before .before .before .before .before .before .pre .1))
+    (λ c. omega (arith, next-long (c .before .before .before .before .before .loop .inv .names) (c .before .before .before .before .loop-test .taken) (c .before .before .before .before .before .before .before .pre .1), c .size .ensures))
+    (λ c. search needs)
+    (λ c. search needs)
+    (λ c. passed-next (c .before .before .before .before .before .loop .inv) (c .before .before .before .before .loop-test .taken) _ _ (sym (c .before .before .before .name-good .ensures) ∙ not-false _ (c .before .before .if1 .left)) (c .before .flags-good .ensures) (c .size .ensures .0))
+    (λ c. passed-done (c .before .before .loop .inv) (c .before .loop-test .left) (c .if2 .taken))
+    (λ c. passed-not (c .before .before .loop .inv) (c .before .loop-test .left) (c .if2 .left)))

@@ -1,0 +1,32 @@
+use native.Mathlib.Omega.{arith}
+use mathlib.Core.Path.{sym, _∙_}
+use borrow.Author.Needs.{needs}
+use Rattle.attr_sf.specs.Entry.{distinct}
+use Rattle.attr_sf.specs.Fork.{header, entries}
+use Rattle.attr_sf.proofs.Tiling.{tiled-next, distinct-fails, distinct-on, distinct-done}
+use Rattle.attr_sf.proofs.Turns.{Rest, rest-all, rest-stop, rest-next, next-fits, next-long}
+use Rattle.attr_sf.proofs.once.Statement.{statement}
+use Rattle.attr_sf.proofs.once.Tie as tie
+
+abbrev Inv-loop : tie.InvT-loop
+Inv-loop f n end left₀ at₀ left at = Rest (λ m p. distinct (entries f m p)) f end n header left at
+
+abbrev μ-loop : tie.MeasureT-loop
+μ-loop f n end left₀ at₀ left at = left
+
+pub once-spec : {M : Type 1} → statement M
+once-spec =
+    tie.close
+    (tie.spec
+    Inv-loop
+    μ-loop
+    (λ c. rest-all _ _ _ _ _ (c .before .pre .0))
+    (λ c κs. next-long (c .before .loop .inv) (c .loop-test .taken) (c .before .before .before .pre .1))
+    (λ c. omega (arith, next-long (c .before .before .loop .inv) (c .before .loop-test .taken) (c .before .before .before .before .pre .1), c .size .ensures))
+    (λ c. search needs)
+    (λ c κs. (rw (c .size .ensures .0) (tiled-next _ _ _ _ (c .before .loop-test .taken) (c .before .before .loop .inv .tile)), (c .before .before .before .before .pre .1, next-fits (c .before .before .loop .inv) (c .before .loop-test .taken) (c .before .before .before .before .pre .1))))
+    (λ c. rest-stop (c .before .before .before .before .loop .inv) (distinct-fails _ _ _ (c .before .before .before .loop-test .taken) (rw (c .before .before .size .ensures .0) at (sym (c .before .again .ensures) ∙ c .if1 .taken))))
+    (λ c. search needs)
+    (λ c. search needs)
+    (λ c. rest-next (c .before .before .before .before .loop .inv) (c .before .before .before .loop-test .taken) (c .before .before .size .ensures .0) (distinct-on _ _ _ (c .before .before .before .loop-test .taken) (rw (c .before .before .size .ensures .0) at (sym (c .before .again .ensures) ∙ c .if1 .left))))
+    (λ c. rest-stop (c .before .loop .inv) (distinct-done _ _ _ (c .loop-test .left))))

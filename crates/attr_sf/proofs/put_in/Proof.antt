@@ -1,0 +1,23 @@
+use native.Mathlib.Omega.{arith}
+use mathlib.Core.Path.{sym, _∙_}
+use borrow.Author.Needs.{needs}
+use Rattle.attr_sf.proofs.InodeTests.{located, asked-tested, asked-small, if-passed}
+use Rattle.attr_sf.proofs.ChangedInode.{set-at, set-refused}
+use Rattle.attr_sf.proofs.put_in.Statement.{statement}
+use Rattle.attr_sf.proofs.put_in.Tie as tie
+
+pub put-in-spec : {M : Type 1} → statement M
+put-in-spec =
+    tie.close
+    (tie.spec
+    (λ c κs. search needs)
+    (λ c. search needs)
+    (λ c. located _ _ (asked-tested _ _ _ _ (sym (c .before .start .given .1) ∙ c .before .before .before .asked .ensures)) .0)
+    (λ c. located _ _ (asked-tested _ _ _ _ (sym (c .before .start .given .1) ∙ c .before .before .before .asked .ensures)) .0)
+    (λ c. search needs)
+    (λ c κs. let z = located _ _ (asked-tested _ _ _ _ (sym (c .before .before .start .given .1) ∙ c .before .before .before .before .asked .ensures)) in let k = asked-small _ _ _ _ (if-passed _ _ _ _ _ (sym (c .before .before .start .given .1) ∙ c .before .before .before .before .asked .ensures) .0) in ((z .1 .0, omega (arith, z .1 .1)), k))
+    (λ c. search needs)
+    (λ c. search needs)
+    (λ c. set-at _ _ _ _ _ (sym (c .before .before .before .before .before .start .given .1) ∙ c .before .before .before .before .before .before .before .asked .ensures) (located _ _ (asked-tested _ _ _ _ (sym (c .before .before .before .before .before .start .given .1) ∙ c .before .before .before .before .before .before .before .asked .ensures)) .0) (c .before .before .set-in .kept .0) (c .before .before .set-in .ensures))
+    (λ c. search needs)
+    (λ c. set-refused _ _ _ _ _ (sym (c .before .n .given .1) ∙ c .before .before .before .asked .ensures)))

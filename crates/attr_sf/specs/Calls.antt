@@ -1,0 +1,118 @@
+-- What the calls on an inode's attributes answer, and the bytes that they leave.
+-- Assumes nothing.
+use Prim.Native.Nat.{ℕ, _+_}
+use mathlib.Core.Bool.{Bool, cond, _&&_}
+use mathlib.Core.List.{List, [], _∷_, _++_}
+use lib.Dec.{eqb, leb, ltb}
+use lib.ListN.{length}
+use Rattle.be.specs.Bytes.{byte, part, put}
+use Rattle.edition.specs.declared.Edition.{Edition}
+use Rattle.dinode.specs.Core.{attributes-code, attr-start, attr-length, attr-fork}
+use Rattle.dinode.specs.declared.Fork.{Fork}
+use Rattle.dinode.specs.declared.Fork.the-variants.{At as Fork-at, Refused as Fork-refused}
+use Rattle.attr_sf.specs.Entry.{Entry, entry, legal-key, others}
+use Rattle.attr_sf.specs.Fork.{totsize, stored, fork-code, place-of, fork-with, fits}
+use Rattle.attr_sf.specs.declared.Attr.{Attr}
+use Rattle.attr_sf.specs.declared.Place.{Place}
+use Rattle.attr_sf.specs.declared.Place.the-variants.{At, Refused}
+
+-- Tests run in number order: the number of the tests that gave n and of those behind them, that give k
+abbrev pub and-then : ℕ → ℕ → ℕ
+and-then n k = cond (eqb n 0) k n
+
+-- ---- the tests
+
+-- the first test of the inode and its attribute fork that fails; 0 when none does
+unfoldable pub attr-code : Edition → List ℕ → ℕ
+attr-code e b = and-then (attributes-code e b) (fork-code (attr-fork e b))
+
+-- 11 ASKED: the caller's name or flags are not legal
+unfoldable pub asked-code : Edition → List ℕ → List ℕ → ℕ → ℕ
+asked-code e b name flags = and-then (attr-code e b) (cond (legal-key name flags) 0 11)
+
+-- where the attribute fork lies, or the tests' number (inner: no public promise cites it)
+unfoldable pub fork-if : ℕ → Edition → List ℕ → Fork
+fork-if n e b = cond (eqb n 0) (Fork-at (attr-start e b) (attr-length e b)) (Fork-refused n)
+
+-- ---- lookup
+
+-- an attribute with this name and these flags is stored
+unfoldable pub held : List ℕ → List ℕ → ℕ → Bool
+held f name flags = ltb (place-of f name flags) (totsize f)
+
+-- 13 ABSENT: lookup or removal: no such live entry
+unfoldable pub held-code : List ℕ → List ℕ → ℕ → ℕ
+held-code f name flags = cond (held f name flags) 0 13
+
+unfoldable pub found-code : Edition → List ℕ → List ℕ → ℕ → ℕ
+found-code e b name flags = and-then (asked-code e b name flags) (held-code (attr-fork e b) name flags)
+
+-- the entry at a place of the fork that starts at s: where its name and its value lie in the inode
+unfoldable pub attr-at : ℕ → List ℕ → ℕ → Attr
+attr-at s f at =
+    record {
+      flags = byte (at + 2) f;
+      «name_start» = s + (at + 3);
+      «name_len» = byte at f;
+      «value_start» = s + (at + 3 + byte at f);
+      «value_len» = byte (at + 1) f;
+    }
+
+-- where the value lies in the inode whose attribute fork starts at s
+unfoldable pub found-in : ℕ → List ℕ → List ℕ → ℕ → Place
+found-in s f name flags =
+    let a = attr-at s f (place-of f name flags) in cond (held f name flags) (At (a .«value_start») (a .«value_len»)) (Refused 13)
+
+-- what a lookup answers: where the value lies in the inode, or the refusal
+unfoldable pub looked-up : Edition → List ℕ → List ℕ → ℕ → Place
+looked-up e b name flags =
+    cond (eqb (asked-code e b name flags) 0) (found-in (attr-start e b) (attr-fork e b) name flags) (Refused (asked-code e b name flags))
+
+-- a lookup's number, 0 where there is a value
+abbrev pub code-of : Place → ℕ
+code-of (At a n) = 0
+code-of (Refused k) = k
+
+-- and the part of the inode that is handed back: an empty part, the first zero bytes, when valuelen is 0 or the request is refused
+abbrev pub start-of : Place → ℕ
+start-of (At a n) = cond (eqb n 0) 0 a
+start-of (Refused k) = 0
+
+abbrev pub length-of : Place → ℕ
+length-of (At a n) = n
+length-of (Refused k) = 0
+
+abbrev pub part-of : List ℕ → Place → List ℕ
+part-of b v = part (start-of v) (length-of v) b
+
+-- ---- changes
+
+-- Set removes an equal one and appends at the end
+unfoldable pub set-entries : List ℕ → ℕ → List ℕ → List Entry → List Entry
+set-entries name flags value xs = others name flags xs ++ (entry flags name value ∷ [])
+
+-- 15 NOROOM: value over 255, count over 255, or totsize over the fork, all judged with the old one gone
+unfoldable pub room : List ℕ → List ℕ → ℕ → List ℕ → Bool
+room f name flags value = leb (length value) 255 && fits f (set-entries name flags value (stored f))
+
+unfoldable pub room-code : List ℕ → List ℕ → ℕ → List ℕ → ℕ
+room-code f name flags value = cond (room f name flags value) 0 15
+
+unfoldable pub set-code : Edition → List ℕ → List ℕ → ℕ → List ℕ → ℕ
+set-code e b name flags value = and-then (asked-code e b name flags) (room-code (attr-fork e b) name flags value)
+
+-- the fork after a change with this number and these entries
+unfoldable pub fork-changed : List ℕ → ℕ → List Entry → List ℕ
+fork-changed f n xs = cond (eqb n 0) (fork-with f xs) f
+
+-- the inode after it: only the attribute fork changes, and a refusal changes nothing
+unfoldable pub changed : Edition → List ℕ → ℕ → List Entry → List ℕ
+changed e b n xs = cond (eqb n 0) (put b (attr-start e b) (fork-with (attr-fork e b) xs)) b
+
+-- Removal closes the hole and lowers totsize and count
+unfoldable pub after-remove : Edition → List ℕ → List ℕ → ℕ → List ℕ
+after-remove e b name flags = changed e b (found-code e b name flags) (others name flags (stored (attr-fork e b)))
+
+unfoldable pub after-set : Edition → List ℕ → List ℕ → ℕ → List ℕ → List ℕ
+after-set e b name flags value =
+    changed e b (set-code e b name flags value) (set-entries name flags value (stored (attr-fork e b)))

@@ -1,0 +1,115 @@
+-- What the calls promise beyond their contracts, for every edition of sane sizes. These are claims about the definitions; the proofs are in proofs/.
+-- Assumes nothing.
+use Prim.Native.Nat.{ℕ, _+_, _-_}
+use mathlib.Core.Path.{_≡_}
+use mathlib.Core.List.{List, [], _∷_, _++_, map}
+use mathlib.Core.Bool.{true, false, _||_}
+use lib.Dec.{eqb}
+use lib.ListN.{length, take, drop, replicate}
+use Rattle.be.specs.Bytes.{bytes, byte, part}
+use Rattle.be.specs.Lists.{some-of}
+use Rattle.edition.specs.Edition.{Sane}
+use Rattle.edition.specs.declared.Edition.{Edition}
+use Rattle.dinode.specs.Core.{attr-start, attr-fork}
+use Rattle.attr_sf.specs.Entry.{Entry, entry, legal-flags, is-key, others}
+use Rattle.attr_sf.specs.Fork.{header, stored, count, totsize, entry-at}
+use Rattle.attr_sf.specs.Walk.{walk, places, live-step, end-step}
+use Rattle.attr_sf.specs.Calls.{attr-code, asked-code, attr-at, looked-up, code-of, part-of, found-code, set-code, after-remove, after-set}
+use Rattle.attr_sf.specs.declared.Walked.the-variants.{Stepped}
+use Rattle.attr_sf.specs.declared.Place.the-variants.{Refused}
+
+-- ---- set and removal
+
+-- what is left, c, of the inode b
+pub record Kept (e : Edition) (b c : List ℕ) : Type 0 where
+  -- it passes the tests
+  pub accepted : attr-code e c ≡ 0
+  -- it is as long as before, and nothing outside the attribute fork has changed
+  pub long : length c ≡ length b
+  pub outside : take (attr-start e b) c ≡ take (attr-start e b) b
+  -- the pad byte is left alone, and unused fork bytes are zero
+  pub pad : byte 3 (attr-fork e c) ≡ byte 3 (attr-fork e b)
+  pub unused : drop (totsize (attr-fork e c)) (attr-fork e c) ≡ replicate (length (attr-fork e b) - totsize (attr-fork e c)) 0
+
+pub record Removed (e : Edition) (b name : List ℕ) (flags : ℕ) (c : List ℕ) : Type 0 where
+  pub left : Kept e b c
+  -- every other attribute is as before, in order
+  pub rest : stored (attr-fork e c) ≡ others name flags (stored (attr-fork e b))
+  -- the one asked for is absent
+  pub gone : looked-up e c name flags ≡ Refused 13
+
+pub record Set (e : Edition) (b name : List ℕ) (flags : ℕ) (value c : List ℕ) : Type 0 where
+  pub left : Kept e b c
+  -- every other attribute is as before, in order, and the new one stands at the end
+  pub rest : stored (attr-fork e c) ≡ others name flags (stored (attr-fork e b)) ++ (entry flags name value ∷ [])
+  -- the lookup finds it, and gives exactly the value
+  pub there : code-of (looked-up e c name flags) ≡ 0
+  pub given : part-of c (looked-up e c name flags) ≡ value
+
+-- what a slice holds is bytes, always
+abbrev pub Removal-law : Type 0
+Removal-law = (e : Edition) → Sane e → (b name : List ℕ) (flags : ℕ) → bytes b ≡ true
+    → found-code e b name flags ≡ 0 → Removed e b name flags (after-remove e b name flags)
+
+abbrev pub Set-law : Type 0
+Set-law = (e : Edition) → Sane e → (b name : List ℕ) (flags : ℕ) (value : List ℕ)
+    → set-code e b name flags value ≡ 0 → Set e b name flags value (after-set e b name flags value)
+
+-- a set or a removal of one attribute changes no other lookup's answer
+pub record Alike (e : Edition) (b c m : List ℕ) (h : ℕ) : Type 0 where
+  pub number : code-of (looked-up e c m h) ≡ code-of (looked-up e b m h)
+  pub value : part-of c (looked-up e c m h) ≡ part-of b (looked-up e b m h)
+
+abbrev pub Unmoved-law : Type 0
+Unmoved-law = (e : Edition) → Sane e → (b name : List ℕ) (flags : ℕ) (value m : List ℕ) (h : ℕ)
+    → is-key name flags (entry h m []) ≡ false → asked-code e b m h ≡ 0
+    → (set-code e b name flags value ≡ 0 → Alike e b (after-set e b name flags value) m h)
+    × (bytes b ≡ true → found-code e b name flags ≡ 0 → Alike e b (after-remove e b name flags) m h)
+
+-- a refusal changes no byte
+abbrev pub Refusal-law : Type 0
+Refusal-law = (e : Edition) (b name : List ℕ) (flags : ℕ) (value : List ℕ)
+    → ((set-code e b name flags value ≡ 0 → ⊥) → after-set e b name flags value ≡ b)
+    × ((found-code e b name flags ≡ 0 → ⊥) → after-remove e b name flags ≡ b)
+
+-- ---- lookup
+
+-- a lookup that finds: the entry with the name and the flags is stored, and the part that is handed back is its value
+pub record Found (e : Edition) (b name : List ℕ) (flags : ℕ) : Type 0 where
+  pub front : List Entry
+  pub mid : Entry
+  pub back : List Entry
+  pub whole : stored (attr-fork e b) ≡ front ++ (mid ∷ back)
+  pub key : is-key name flags mid ≡ true
+  pub value : part-of b (looked-up e b name flags) ≡ mid .value
+
+abbrev pub Found-law : Type 0
+Found-law = (e : Edition) (b name : List ℕ) (flags : ℕ) → code-of (looked-up e b name flags) ≡ 0 → Found e b name flags
+
+-- an absent answer means that no stored entry has the name and the flags
+abbrev pub Absent-law : Type 0
+Absent-law = (e : Edition) (b name : List ℕ) (flags : ℕ) → looked-up e b name flags ≡ Refused 13
+    → some-of (is-key name flags) (stored (attr-fork e b)) ≡ false
+
+-- ---- the walk
+
+-- from the start it meets every entry once, in stored order, and then the end: entries plus one answers, and no more however long one asks
+abbrev pub Walk-law : Type 0
+Walk-law = (e : Edition) (b : List ℕ) (k : ℕ) → attr-code e b ≡ 0
+    → walk e b (count (attr-fork e b) + 1 + k) header
+    ≡ map (λ (at : ℕ). Stepped (live-step (attr-start e b) (attr-fork e b) at)) (places (attr-fork e b) (count (attr-fork e b)) header)
+    ++ (Stepped (end-step (totsize (attr-fork e b))) ∷ [])
+
+-- the places are those of the stored entries
+abbrev pub Places-law : Type 0
+Places-law = (f : List ℕ) → stored f ≡ map (entry-at f) (places f (count f) header)
+
+-- what a step says of an entry: the parts of the inode that it names are the entry's own
+abbrev pub Parts-law : Type 0
+Parts-law = (e : Edition) (b : List ℕ) (at : ℕ)
+    → (part (attr-at (attr-start e b) (attr-fork e b) at .«name_start») (attr-at (attr-start e b) (attr-fork e b) at .«name_len») b ≡ entry-at (attr-fork e b) at .name)
+    × (part (attr-at (attr-start e b) (attr-fork e b) at .«value_start») (attr-at (attr-start e b) (attr-fork e b) at .«value_len») b ≡ entry-at (attr-fork e b) at .value)
+
+-- ---- flags: 2 trusted, 4 secure, 0 user, and no other
+abbrev pub Flags-law : Type 0
+Flags-law = (g : ℕ) → legal-flags g ≡ (eqb g 0 || (eqb g 2 || eqb g 4))

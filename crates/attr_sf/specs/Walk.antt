@@ -1,0 +1,72 @@
+-- The walk over an inode's attributes: one step, and the steps one after the other.
+-- Assumes nothing.
+use Prim.Native.Nat.{ℕ, zero, suc, _+_}
+use mathlib.Core.Bool.{Bool, true, false, cond, _||_}
+use mathlib.Core.List.{List, [], _∷_}
+use lib.Dec.{eqb}
+use Rattle.edition.specs.declared.Edition.{Edition}
+use Rattle.dinode.specs.Core.{attr-start, attr-fork}
+use Rattle.attr_sf.specs.Fork.{header, totsize, count, size-at}
+use Rattle.attr_sf.specs.Calls.{and-then, attr-code, attr-at}
+use Rattle.attr_sf.specs.declared.Seen.{Seen}
+use Rattle.attr_sf.specs.declared.Seen.the-variants.{Live, End}
+use Rattle.attr_sf.specs.declared.Step.{Step}
+use Rattle.attr_sf.specs.declared.Walked.{Walked}
+use Rattle.attr_sf.specs.declared.Walked.the-variants.{Stepped, Refused}
+
+-- places are record starts and the list's end: of n entries from a place on
+unfoldable pub stands : List ℕ → ℕ → ℕ → ℕ → Bool
+stands f place zero at = eqb place at
+stands f place (suc n) at = eqb place at || stands f place n (at + size-at f at)
+
+-- 11 ASKED: the walk place is not legal, judged after the tests
+unfoldable pub step-code : Edition → List ℕ → ℕ → ℕ
+step-code e b place = and-then (attr-code e b) (cond (stands (attr-fork e b) place (count (attr-fork e b)) header) 0 11)
+
+-- a step at an entry of the fork that starts at s
+unfoldable pub live-step : ℕ → List ℕ → ℕ → Step
+live-step s f place = record { next = place + size-at f place; seen = Live (attr-at s f place) }
+
+-- a step at the list's end, which answers end again
+unfoldable pub end-step : ℕ → Step
+end-step place = record { next = place; seen = End }
+
+unfoldable pub step-in : ℕ → List ℕ → ℕ → Step
+step-in s f place = cond (eqb place (totsize f)) (end-step place) (live-step s f place)
+
+-- what a step answers: live entry or end, together with where the walk now stands; or the refusal
+unfoldable pub walked-in : ℕ → List ℕ → ℕ → Walked
+walked-in s f place = cond (stands f place (count f) header) (Stepped (step-in s f place)) (Refused 11)
+
+unfoldable pub walked : Edition → List ℕ → ℕ → Walked
+walked e b place = cond (eqb (attr-code e b) 0) (walked-in (attr-start e b) (attr-fork e b) place) (Refused (attr-code e b))
+
+-- a step's number, 0 where it is done
+abbrev pub step-number : Walked → ℕ
+step-number (Stepped s) = 0
+step-number (Refused k) = k
+
+-- whether a walk goes on after an answer, and from where
+abbrev pub is-live : Seen → Bool
+is-live (Live a) = true
+is-live End = false
+
+abbrev pub goes-on : Walked → Bool
+goes-on (Stepped s) = is-live (s .seen)
+goes-on (Refused k) = false
+
+abbrev pub next-of : Walked → ℕ
+next-of (Stepped s) = s .next
+next-of (Refused k) = 0
+
+-- the answers of a walk from a place on, n of them at most: it goes on as long as it meets entries
+unfoldable pub walk : Edition → List ℕ → ℕ → ℕ → List Walked
+walk e b zero place = []
+walk e b (suc n) place =
+    let a = walked e b place in
+    let rest = walk e b n (next-of (walked e b place)) in a ∷ cond (goes-on a) rest []
+
+-- where n entries from a place on start
+unfoldable pub places : List ℕ → ℕ → ℕ → List ℕ
+places f zero at = []
+places f (suc n) at = at ∷ places f n (at + size-at f at)
