@@ -1,4 +1,4 @@
--- An insert: the entry's stores, writes that may change places, and the room rule's case from what a pass found.
+-- An insert: writes that may change places, and the room rule's case from what a pass found.
 -- Assumes nothing.
 use Prim.Native.Nat.{ℕ, zero, suc, _+_, _-_, _*_, _/_, _%_, _≤_, _<_}
 use native.Mathlib.Omega.{arith}
@@ -6,13 +6,13 @@ use mathlib.Core.Bool.{Bool, true, false, not, cond, _&&_, _||_}
 use mathlib.Core.Path.{_≡_, refl, sym, _∙_, ap, ap₂, subst}
 use mathlib.Core.List.{List, [], _∷_, _++_, append-assoc}
 use lib.Dec.{eqb, leb}
-use lib.ListN.{length, replicate, length-append, length-replicate}
+use lib.ListN.{length}
 use borrow.Author.Tests.{eqb-false, eq-eqb, ne-eqb, leb-true, leb-false, le-leb, lt-leb, not-true}
 use Rattle.be.specs.Lists.{keep, without-first}
 use Rattle.be.specs.Bytes.{bytes, put, to-be, write, Write, written}
 use Rattle.edition.specs.declared.Edition.{Edition}
-use Rattle.edition.specs.Edition.{v4, entry-size, Sane}
-use Rattle.dir_rules.specs.Record.{Rec, size, gaps, besides, is-gap, gap-writes, entry-bytes}
+use Rattle.edition.specs.Edition.{entry-size, Sane}
+use Rattle.dir_rules.specs.Record.{Rec, size, gaps, besides, is-gap, gap-writes}
 use Rattle.dir_rules.specs.Block.{Slot, slot, slots, records, data-end, stale-of, is-stale, is-live, slot-bytes, count-of}
 use Rattle.name.specs.Name.{hash-of, legal-name, legal-number, fixed-name}
 use Rattle.dir_rules.specs.Verdict.{Pair, pair}
@@ -24,7 +24,7 @@ use Rattle.dir_rules.specs.Lookup.{sought}
 use Rattle.dir_rules.proofs.RecordPlaces.{Split}
 use Rattle.dir_rules.proofs.AcceptedParts.{keep-find, Found-in}
 use Rattle.dir_rules.proofs.ChangeAccepted.{longest-in, length-insert, length-without}
-use Rattle.edition.proofs.Sizes.{entry-size-eights, entry-size-least}
+use Rattle.edition.proofs.Sizes.{entry-size-eights}
 use Rattle.dir_laws.proofs.SlotSearch.{tiled, length-slots}
 use Rattle.dir_laws.proofs.IndexStores.{stale-some}
 use Rattle.dir_rules.proofs.LookupFinds.{hit-of}
@@ -38,29 +38,7 @@ use Rattle.dir_rules.proofs.CutJoin.{join, Laid, laid-back}
 use Rattle.dir_rules.proofs.WritesLeave.{written-append, length-entry-bytes}
 use Rattle.dir_laws.specs.Tiled.{Tiled, Ready}
 use Rattle.dir_laws.specs.Pass.{Scanned, Inside}
-use Rattle.be.proofs.Writes.{put-next, put-comm}
-
--- ---- the entry's bytes, field by field
-
-pub entry-stored : (o i E : ℕ) (n b b₁ b₂ b₃ b₄ b₅ : List ℕ) → E ≡ entry-size v4 (length n)
-    → b₁ ≡ put b o (to-be 8 i) → b₂ ≡ put b₁ (o + 8) (length n ∷ []) → b₃ ≡ put b₂ (o + 9) n → b₄ ≡ put b₃ (o + 9 + length n) (replicate (E - (11 + length n)) 0)
-    → b₅ ≡ put b₄ (o + E - 2) (to-be 2 o)
-    → b₅ ≡ put b o (entry-bytes v4 o i n)
-unfolding entry-bytes
-entry-stored o i E n b b₁ b₂ b₃ b₄ b₅ q e₁ e₂ e₃ e₄ e₅ =
-    let least : 11 + length n ≤ entry-size v4 (length n) = entry-size-least v4 (length n) in
-    let Z : List ℕ = replicate (entry-size v4 (length n) - (11 + length n)) 0 in
-    let l8 : length (to-be 8 i) ≡ 8 = length-to-be 8 i in
-    let x1 : List ℕ = to-be 8 i ++ (length n ∷ []) in
-    let l1 : length x1 ≡ 9 = length-append (to-be 8 i) (length n ∷ []) ∙ ap (λ (k : ℕ). k + 1) l8 in
-    let l2 : length (x1 ++ n) ≡ 9 + length n = length-append x1 n ∙ ap (λ (k : ℕ). k + length n) l1 in
-    let l3 : length ((x1 ++ n) ++ Z) ≡ 9 + length n + (entry-size v4 (length n) - (11 + length n)) = length-append (x1 ++ n) Z ∙ ap₂ (λ (x y : ℕ). x + y) l2 (length-replicate (entry-size v4 (length n) - (11 + length n)) 0) in
-    let s2 : b₂ ≡ put b o x1 = e₂ ∙ ap (λ (l : List ℕ). put l (o + 8) (length n ∷ [])) e₁ ∙ put-next b (o + 8) o (to-be 8 i) (length n ∷ []) (ap (λ (k : ℕ). o + k) l8) in
-    let s3 : b₃ ≡ put b o (x1 ++ n) = e₃ ∙ ap (λ (l : List ℕ). put l (o + 9) n) s2 ∙ put-next b (o + 9) o x1 n (ap (λ (k : ℕ). o + k) l1) in
-    let s4 : b₄ ≡ put b o ((x1 ++ n) ++ Z) =
-    e₄ ∙ ap₂ (λ (l : List ℕ) (k : ℕ). put l (o + 9 + length n) (replicate (k - (11 + length n)) 0)) s3 q ∙ put-next b (o + 9 + length n) o (x1 ++ n) Z (omega (arith, l2)) in
-    e₅ ∙ ap (λ (l : List ℕ). put l (o + E - 2) (to-be 2 o)) s4 ∙ put-next b (o + E - 2) o ((x1 ++ n) ++ Z) (to-be 2 o) (omega (arith, l3))
-    ∙ ap (put b o) (simp append-assoc)
+use Rattle.be.proofs.Writes.{put-comm}
 
 -- ---- writes that end before a place may be made after a write there
 

@@ -1,7 +1,6 @@
 pub mod BestGrows
 pub mod RecordSteps
 pub mod RecordPass
-pub mod BestBytes
 pub mod SlotSearch
 pub mod GapsBeside
 pub mod StoresTiled

@@ -28,7 +28,10 @@ fn look(b: &[u8], name: &[u8]) {
     text(b"lookup ");
     text(name);
     match dir_block::lookup(b, name) {
-        Looked::Found { number: i, compared } => {
+        Looked::Found {
+            number: i,
+            compared,
+        } => {
             number(i);
             number(compared as u64);
         }

@@ -1,12 +1,12 @@
--- The starred numbers as one table: what a definition gives, and what the paper says it gives.
+-- Rows of the table of starred numbers: what a definition gives, and what the paper says it gives. The whole table and the claim
+-- about it stand in dir_rules/specs/Starred.antt.
 -- Assumes nothing.
 use Prim.Native.Nat.{ℕ}
-use mathlib.Core.Bool.{Bool, true}
-use mathlib.Core.Path.{_≡_, refl}
+use mathlib.Core.Bool.{Bool}
 use mathlib.Core.List.{List, [], _∷_}
-use Rattle.be.specs.Lists.{every, same}
+use Rattle.be.specs.Lists.{same}
 use Rattle.edition.specs.Edition.{v4}
-use Rattle.name.specs.Name.{hash-of, hash-from, hash-byte, rol, dot, dotdot}
+use Rattle.name.specs.Name.{hash-of, dot, dotdot}
 
 pub record Row : Type 0 where
   pub computed : List ℕ
@@ -30,7 +30,3 @@ hash-rows =
     ∷ hash-row (97 ∷ 116 ∷ 116 ∷ 114 ∷ 50 ∷ []) 0x1e9d3934
     ∷ hash-row (98 ∷ 105 ∷ 103 ∷ 95 ∷ 97 ∷ 116 ∷ 116 ∷ 114 ∷ []) 0xfcf89d4f
     ∷ []
-
-pub starred : every right hash-rows ≡ true
-unfolding hash-rows hash-of hash-from hash-byte rol
-starred = refl

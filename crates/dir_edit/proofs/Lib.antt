@@ -1,0 +1,3 @@
+pub mod RoomTaken
+pub mod EntryStored
+pub mod Refused

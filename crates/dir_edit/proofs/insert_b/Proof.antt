@@ -1,0 +1,44 @@
+use Prim.Native.Nat.{_-_, _/_}
+use native.Mathlib.Omega.{arith}
+use mathlib.Core.Path.{_∙_}
+use denote.Ref.{now}
+use Rattle.dir_laws.proofs.SlotSearch.{slots-room}
+use Rattle.dir_laws.proofs.InsertStores.{done-b}
+use Rattle.dir_index.proofs.LiveSlotsPacked.{live-count, few-stale}
+use borrow.Author.Needs.{needs}
+use Rattle.dir_edit.proofs.insert_b.Statement.{statement}
+use Rattle.dir_edit.proofs.insert_b.Tie as tie
+
+mul-place : tie.Need-mul-place
+mul-place c =
+    let p = c .before .before .before .before .before .before .before in
+    omega (arith, slots-room _ (now (p .args .b)) (p .pre .0 .0) (p .pre .0 .1), p .pre .1, few-stale _ (p .pre .0 .0) (now (p .args .b)) (p .pre .0 .1) (p .args .end) (p .args .count) (p .args .stale) (p .args .p) (p .args .h) (p .args .u / 8) (p .pre .1 .0 .0) (p .pre .1 .0 .1 .0) (p .pre .1 .0 .1 .1 .0) (p .pre .1 .0 .1 .1 .1) (p .pre .1 .1 .0))
+
+add-place-2 : tie.Need-add-place-2
+add-place-2 c =
+    let p = c .before .before .before .before .before .before .before in
+    omega (arith, slots-room _ (now (p .args .b)) (p .pre .0 .0) (p .pre .0 .1), p .pre .1, few-stale _ (p .pre .0 .0) (now (p .args .b)) (p .pre .0 .1) (p .args .end) (p .args .count) (p .args .stale) (p .args .p) (p .args .h) (p .args .u / 8) (p .pre .1 .0 .0) (p .pre .1 .0 .1 .0) (p .pre .1 .0 .1 .1 .0) (p .pre .1 .0 .1 .1 .1) (p .pre .1 .1 .0))
+
+place-requires : tie.Need-place-requires
+place-requires c κs =
+    let p = c .before .before .before .before .before .before .before in
+    (p .pre .0 .0, omega (arith, slots-room _ (now (p .args .b)) (p .pre .0 .0) (p .pre .0 .1), p .pre .1, few-stale _ (p .pre .0 .0) (now (p .args .b)) (p .pre .0 .1) (p .args .end) (p .args .count) (p .args .stale) (p .args .p) (p .args .h) (p .args .u / 8) (p .pre .1 .0 .0) (p .pre .1 .0 .1 .0) (p .pre .1 .0 .1 .1 .0) (p .pre .1 .0 .1 .1 .1) (p .pre .1 .1 .0)))
+
+returns : tie.Need-returns
+returns c =
+    let p = c .before .before .before .before .before .before .before .before .before .before in
+    let t = p .pre .1 .1 .1 .1 in
+    done-b _ (now (p .args .b)) (now (p .args .name)) (p .pre .0 .1) (p .args .number) (p .args .h) (p .args .u / 8) (p .args .u) (p .args .k) (p .args .stale) _ _ (t .1 .0 ∙ p .pre .1 .0 .0) (p .pre .1 .0 .1 .1 .0) (p .pre .1 .0 .1 .1 .1) (p .pre .1 .1 .1 .0 .1) (t .1 .1) (live-count _ (p .pre .0 .0) (now (p .args .b)) (p .pre .0 .1) (p .args .end) (p .args .count) (p .args .stale) (p .args .p) (p .args .h) (p .args .u / 8) (p .pre .1 .0 .0) (p .pre .1 .0 .1 .0) (p .pre .1 .0 .1 .1 .0) (p .pre .1 .0 .1 .1 .1) (p .pre .1 .1 .0) ∙ p .pre .1 .0 .1 .0) (c .before .before .before .before .before .before .squeeze .ensures) (c .before .before .place .ensures)
+
+pub insert-b-spec : {M : Type 1} → statement M
+insert-b-spec =
+    tie.close
+    (tie.spec
+    (λ c κs. search needs)
+    (λ c. search needs)
+    (λ c. search needs)
+    mul-place
+    add-place-2
+    place-requires
+    (λ c. search needs)
+    returns)

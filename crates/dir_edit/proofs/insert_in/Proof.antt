@@ -1,0 +1,29 @@
+use Rattle.name.specs.Name.{legal-name}
+use mathlib.Core.Path.{sym, _∙_}
+use denote.Ref.{now}
+use Rattle.be.proofs.Bools.{and-left, and-right}
+use Rattle.be.proofs.Parts.{bytes-all}
+use Rattle.dir_edit.proofs.Refused.{clear, insert-refused}
+use borrow.Author.Needs.{needs}
+use Rattle.dir_edit.proofs.insert_in.Statement.{statement}
+use Rattle.dir_edit.proofs.insert_in.Tie as tie
+
+insert-ready-requires : tie.Need-insert-ready-requires
+insert-ready-requires c κs =
+    let p = c .before .before .before .before .before .before .before in
+    let k = clear _ _ _ (sym (c .before .before .refusal .ensures) ∙ c .before .if1 .left) in (
+      (p .pre, record { are-bytes = bytes-all (now (p .args .b)) (λ i. c .before .before .before .before .before .before .slice-known .given i .fits); ok = k .tested }),
+      (and-left (legal-name (p .args .e) (now (p .args .name))) (c .before .before .before .before .number-legal .result) (k .asked), (sym (c .before .before .before .before .number-legal .ensures) ∙ and-right (legal-name (p .args .e) (now (p .args .name))) (c .before .before .before .before .number-legal .result) (k .asked), (k .free, bytes-all (now (p .args .name)) (λ i. c .before .before .before .before .before .shared-slice-known .given i .fits)))),
+    )
+
+pub insert-in-spec : {M : Type 1} → statement M
+insert-in-spec =
+    tie.close
+    (tie.spec
+    (λ c κs. search needs)
+    (λ c κs. search needs)
+    (λ c. search needs)
+    (λ c. insert-refused _ _ _ _ _ _ (c .before .before .before .number-legal .ensures) (c .before .refusal .ensures) (c .if1 .taken))
+    insert-ready-requires
+    (λ c. search needs)
+    (λ c. search needs))

@@ -1,0 +1,76 @@
+-- Numbers, file types and single entries, read.
+-- Assumes nothing.
+use Prim.Native.Nat.{ℕ, zero, suc, _+_, _-_, _≤_, _<_}
+use native.Mathlib.Omega.{arith}
+use mathlib.Core.Bool.{true}
+use mathlib.Core.Path.{_≡_, refl, sym, _∙_, ap}
+use mathlib.Core.List.{List}
+use lib.Dec.{eqb}
+use lib.ListN.{length, drop, getD, length-drop}
+use borrow.Author.Tests.{leb-true, ne-eqb}
+use Rattle.be.specs.Bytes.{be, be-from, byte, field}
+use Rattle.be.proofs.Bools.{and-left, by-cases}
+use Rattle.be.proofs.Parts.{field-1}
+use Rattle.edition.specs.declared.Edition.{Edition}
+use Rattle.edition.specs.Edition.{Sane}
+use Rattle.dir_sf.specs.Entry.{width-of, long-in, enough}
+use Rattle.dir_sf.proofs.Run.{long-at-is}
+
+pub width-least : (wides : ℕ) → 4 ≤ width-of wides
+unfolding width-of
+width-least wides = by-cases (eqb wides 0) (λ q. rw q (omega arith)) (λ q. rw q (omega arith))
+
+pub narrow : (wides : ℕ) → wides ≡ 0 → 4 ≡ width-of wides
+unfolding width-of
+narrow wides h = rw h refl
+
+pub broad : (wides : ℕ) → (wides ≡ 0 → ⊥) → 8 ≡ width-of wides
+unfolding width-of
+broad wides h = rw (ne-eqb wides 0 h) refl
+
+pub room-narrow : (wides o n : ℕ) → wides ≡ 0 → o + width-of wides ≤ n → o + 4 ≤ n
+room-narrow wides o n h k = omega (arith, narrow wides h)
+
+pub room-broad : (wides o n : ℕ) → (wides ≡ 0 → ⊥) → o + width-of wides ≤ n → o + 8 ≤ n
+room-broad wides o n h k = omega (arith, broad wides h)
+
+pub field-narrow : (wides o r : ℕ) (u : List ℕ) → wides ≡ 0 → r ≡ field o 4 u → r ≡ field o (width-of wides) u
+field-narrow wides o r u h q = q ∙ ap (λ (w : ℕ). field o w u) (narrow wides h)
+
+pub field-broad : (wides o r : ℕ) (u : List ℕ) → (wides ≡ 0 → ⊥) → r ≡ field o 8 u → r ≡ field o (width-of wides) u
+field-broad wides o r u h q = q ∙ ap (λ (w : ℕ). field o w u) (broad wides h)
+
+-- a file type, where the edition has none and where it has one
+module _ (ed : Edition) (z : ed .ftype ≡ 0) (o : ℕ) where
+  pub kind-none : (u : List ℕ) → 0 ≡ field o (ed .ftype) u
+  unfolding be be-from
+  kind-none u = rw z refl
+
+module _ (ed : Edition) (s : Sane ed) (z : ed .ftype ≡ 0 → ⊥) (o : ℕ) where
+  pub kind-one : ed .ftype ≡ 1
+  kind-one = go (ed .ftype) (s .ftype-most) z
+    where
+      go : (k : ℕ) → k ≤ 1 → (k ≡ 0 → ⊥) → k ≡ 1
+      go zero h f = absurd (f refl)
+      go (suc k) h f = omega arith
+
+  pub kind-in : (n : ℕ) → o + ed .ftype ≤ n → o < n
+  kind-in n h = omega (arith, kind-one)
+
+  pub kind-some : (u : List ℕ) (r : ℕ) → r ≡ byte o u → r ≡ field o (ed .ftype) u
+  kind-some u r h = h ∙ sym (field-1 u o) ∙ ap (λ (k : ℕ). field o k u) (sym kind-one)
+
+one-long : (ed : Edition) (w : ℕ) (d : List ℕ) → enough ed w 1 d ≡ true → long-in ed w d ≤ length d
+unfolding enough
+one-long ed w d h = leb-true _ _ (and-left _ _ h)
+
+pub one-in : (ed : Edition) (w p : ℕ) (u : List ℕ) → enough ed w 1 (drop p u) ≡ true → p + 3 + getD u p 0 + (ed .ftype + w) ≤ length u
+one-in ed w p u h =
+    let a : long-in ed w (drop p u) ≤ length u - p = rw length-drop at (one-long ed w (drop p u) h) in
+    omega (arith, long-at-is ed w u p)
+
+pub one-starts : (ed : Edition) (w p : ℕ) (u : List ℕ) → enough ed w 1 (drop p u) ≡ true → p < length u
+one-starts ed w p u h = omega (arith, one-in ed w p u h)
+
+pub one-ends : (ed : Edition) (w p n : ℕ) (u : List ℕ) → enough ed w 1 (drop p u) ≡ true → n ≡ getD u p 0 → p + 3 + n + (ed .ftype + w) ≤ length u
+one-ends ed w p n u h q = omega (arith, one-in ed w p u h)

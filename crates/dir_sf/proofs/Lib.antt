@@ -1,0 +1,15 @@
+pub mod Chains
+pub mod Run
+pub mod Leaves
+pub mod Listed
+pub mod Seeks
+pub mod Tests
+pub mod Verdicts
+pub mod Inodes
+pub mod Tested
+pub mod Names
+pub mod Looks
+pub mod Walks
+pub mod Tags
+pub mod Stored
+pub mod Whole

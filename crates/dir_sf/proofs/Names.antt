@@ -1,0 +1,59 @@
+-- Laws of the names asked for and stored: `same-name`, `holds`, `number-in`.
+-- Assumes nothing.
+use Prim.Native.Nat.{ℕ}
+use mathlib.Core.Bool.{Bool, true, false, not, _||_, true≢false}
+use mathlib.Core.Path.{_≡_, refl}
+use mathlib.Core.List.{List, [], _∷_}
+use borrow.Author.Tests.{not-true}
+use Rattle.edition.specs.declared.Edition.{Edition}
+use Rattle.name.specs.Name.{same-name}
+use Rattle.name.proofs.Same.{same-name-trans}
+use Rattle.be.proofs.Bools.{and-left, and-right, by-cases, clash}
+use Rattle.dir_sf.specs.Entry.{Entry}
+use Rattle.dir_sf.specs.Fork.{holds, once-ok}
+use Rattle.dir_sf.specs.Change.{number-in}
+
+-- a test that would follow fails where its consequence does
+pub fails : (a b : Bool) → (a ≡ true → b ≡ true) → b ≡ false → a ≡ false
+fails true b f h = absurd (clash (f refl) h)
+fails false b f h = refl
+
+pub or-right : (a b : Bool) → b ≡ true → (a || b) ≡ true
+or-right true b h = refl
+or-right false b h = h
+
+pub or-false : (a b : Bool) → (a || b) ≡ false → (a ≡ false) × (b ≡ false)
+or-false true b h = absurd (true≢false h)
+or-false false b h = (refl, h)
+
+-- two names that are the same are held alike
+pub holds-same : (e : Edition) (m n : List ℕ) (xs : List Entry) → same-name e m n ≡ true → holds e n xs ≡ true → holds e m xs ≡ true
+unfolding holds
+holds-same e m n [] s h = h
+holds-same e m n (x ∷ xs) s h =
+    by-cases (same-name e n (x .name))
+    (λ q. rw (same-name-trans e m n (x .name) s q) refl)
+    (λ q. or-right (same-name e m (x .name)) _ (holds-same e m n xs s (rw q at h)))
+
+pub absent-same : (e : Edition) (m n : List ℕ) (xs : List Entry) → same-name e m n ≡ true → holds e m xs ≡ false → holds e n xs ≡ false
+absent-same e m n xs s h = fails (holds e n xs) (holds e m xs) (holds-same e m n xs s) h
+
+-- a name that no entry bears has no number
+pub absent-number : (e : Edition) (n : List ℕ) (xs : List Entry) → holds e n xs ≡ false → number-in e n xs ≡ 0
+unfolding holds number-in
+absent-number e n [] h = refl
+absent-number e n (x ∷ xs) h =
+    let o = or-false (same-name e n (x .name)) _ h in
+    rw (o .0) (absent-number e n xs (o .1))
+
+pub once-head : (e : Edition) (x : Entry) (xs : List Entry) → once-ok e (x ∷ xs) ≡ true → holds e (x .name) xs ≡ false
+unfolding once-ok
+once-head e x xs h = not-true _ (and-left (not (holds e (x .name) xs)) _ h)
+
+pub once-tail : (e : Edition) (x : Entry) (xs : List Entry) → once-ok e (x ∷ xs) ≡ true → once-ok e xs ≡ true
+unfolding once-ok
+once-tail e x xs h = and-right (not (holds e (x .name) xs)) _ h
+
+pub once-cons : (e : Edition) (x : Entry) (xs : List Entry) → holds e (x .name) xs ≡ false → once-ok e xs ≡ true → once-ok e (x ∷ xs) ≡ true
+unfolding once-ok
+once-cons e x xs h k = rw h k

@@ -1,0 +1,115 @@
+-- Lookup, insert and removal, of an accepted fork's parent and entries.
+-- Assumes nothing.
+use Prim.Native.Nat.{ℕ, suc, _+_}
+use mathlib.Core.Bool.{Bool, not, cond, _&&_, _||_}
+use mathlib.Core.Path.{_≡_}
+use mathlib.Core.List.{List, [], _∷_, _++_}
+use lib.Dec.{eqb, leb, ltb}
+use lib.ListN.{length, take, drop}
+use Rattle.be.specs.Lists.{same, without-first}
+use Rattle.edition.specs.declared.Edition.{Edition}
+use Rattle.edition.specs.Edition.{entry-size}
+use Rattle.name.specs.Name.{legal-name, legal-number, same-name, fixed-name, dot, dotdot}
+use Rattle.dir_sf.specs.declared.Hit.{Hit}
+use Rattle.dir_sf.specs.Entry.{Entry, entry, is-wide, wides-of, next-tag, end-tag, in-block}
+use Rattle.dir_sf.specs.Fork.{entries, place-of, lay, holds, otherwise}
+
+-- ---- lookup
+
+-- the number stored with the first entry of the name; 0 where there is none (no stored number is 0)
+unfoldable pub number-in : Edition → List ℕ → List Entry → ℕ
+number-in e n [] = 0
+number-in e n (x ∷ xs) = cond (same-name e n (x .name)) (x .inode) (number-in e n xs)
+
+-- how many entries stand before the first of the name
+unfoldable pub seek : Edition → List ℕ → List Entry → ℕ
+seek e n [] = 0
+seek e n (x ∷ xs) = let r = seek e n xs in cond (same-name e n (x .name)) 0 (suc r)
+
+-- what the search for a name in the used bytes finds: whether an entry bears it, how many stand before that entry, where it starts, its number
+pub record Hits (e : Edition) (n u : List ℕ) (r : Hit) : Type 0 where
+  pub held-is : r .held ≡ holds e n (entries e u)
+  pub index-is : r .index ≡ seek e n (entries e u)
+  pub at-is : r .at ≡ place-of e (r .index) u
+  pub number-is : r .number ≡ number-in e n (entries e u)
+
+-- 11 ASKED, 12 FIXED ("." looked up in a short form), 13 ABSENT
+unfoldable pub lookup-code : Edition → List ℕ → List Entry → ℕ
+lookup-code e n xs =
+    otherwise (legal-name e n) 11 (
+    otherwise (not (same n dot)) 12 (
+    otherwise (same n dotdot || holds e n xs) 13 0))
+
+-- Lookup of ".." gives the parent
+unfoldable pub lookup-number : Edition → List ℕ → ℕ → List Entry → ℕ
+lookup-number e n p xs = cond (same n dotdot) p (number-in e n xs)
+
+-- ---- insert
+
+-- the start of the lowest gap in the tags, from low up, that holds long; 0 where there is none
+unfoldable pub gap-tag : Edition → ℕ → ℕ → List Entry → ℕ
+gap-tag e long low [] = 0
+gap-tag e long low (x ∷ xs) =
+    let r = gap-tag e long (next-tag e x) xs in
+    cond (leb (low + long) (x .tag)) low r
+
+-- the tag of a new entry with a name of n bytes: it follows the last entry if the TILE limit still holds; otherwise the
+-- start of the lowest gap that holds E, if the limit for the larger count holds; 0 where there is no such tag
+unfoldable pub tag-for : Edition → ℕ → ℕ → List Entry → ℕ
+tag-for e told n xs =
+    let long = entry-size e n in
+    let end = end-tag e (e .first) xs in
+    let k = suc (length xs) in
+    cond (in-block told (end + long) k) end (cond (in-block told end k) (gap-tag e long (e .first) xs) 0)
+
+-- the list stays in tag order
+unfoldable pub placed : Entry → List Entry → List Entry
+placed y [] = y ∷ []
+placed y (x ∷ xs) = let r = placed y xs in cond (ltb (y .tag) (x .tag)) (y ∷ x ∷ xs) (x ∷ r)
+
+-- how many entries stand before a new one with tag t
+unfoldable pub rank : ℕ → List Entry → ℕ
+rank t [] = 0
+rank t (x ∷ xs) = let r = rank t xs in cond (ltb t (x .tag)) 0 (suc r)
+
+-- the list with an entry put in, j before it
+unfoldable pub with-nth : ℕ → Entry → List Entry → List Entry
+with-nth j y xs = take j xs ++ (y ∷ drop j xs)
+
+unfoldable pub inserted : Edition → ℕ → List ℕ → ℕ → ℕ → List Entry → List Entry
+inserted e told n kind i xs = placed (entry (tag-for e told (length n) xs) n kind i) xs
+
+-- 15 NOROOM: no such tag, or the new size passes the fork
+unfoldable pub has-room : Edition → ℕ → ℕ → List ℕ → ℕ → ℕ → ℕ → List Entry → Bool
+has-room e told fork n kind i p xs =
+    not (eqb (tag-for e told (length n) xs) 0) && leb (length (lay e p (inserted e told n kind i xs))) fork
+
+-- 11 ASKED, 12 FIXED, 14 EXISTS, 15 NOROOM
+unfoldable pub insert-code : Edition → ℕ → ℕ → List ℕ → ℕ → ℕ → ℕ → List Entry → ℕ
+insert-code e told fork n kind i p xs =
+    otherwise (legal-name e n && legal-number i) 11 (
+    otherwise (not (fixed-name n)) 12 (
+    otherwise (not (holds e n xs)) 14 (
+    otherwise (has-room e told fork n kind i p xs) 15 0)))
+
+-- ---- removal
+
+-- later entries close up, their tags stay
+unfoldable pub removed : Edition → List ℕ → List Entry → List Entry
+removed e n xs = without-first (λ x. same-name e n (x .name)) xs
+
+-- the list without the entry that has j before it
+unfoldable pub without-nth : ℕ → List Entry → List Entry
+without-nth j xs = take j xs ++ drop (suc j) xs
+
+-- 16 NARROW: the last wide entry is taken out under a wide parent
+unfoldable pub narrows : ℕ → List Entry → List Entry → Bool
+narrows p xs ys = not (eqb (wides-of p xs) 0) && eqb (wides-of p ys) 0 && is-wide p
+
+-- 11 ASKED, 12 FIXED, 13 ABSENT, 16 NARROW
+unfoldable pub remove-code : Edition → List ℕ → ℕ → List Entry → ℕ
+remove-code e n p xs =
+    otherwise (legal-name e n) 11 (
+    otherwise (not (fixed-name n)) 12 (
+    otherwise (holds e n xs) 13 (
+    otherwise (not (narrows p xs (removed e n xs))) 16 0)))

@@ -1,0 +1,110 @@
+-- A short-form directory's fork: header, entries, and tests 4 to 10.
+-- f is the fork; u is its used bytes, the first `size` of it.
+-- Assumes nothing.
+use Prim.Native.Nat.{ℕ, _+_, _-_, _≤_}
+use mathlib.Core.Path.{_≡_}
+use mathlib.Core.Bool.{Bool, true, not, cond, _&&_}
+use mathlib.Core.List.{List, [], _∷_, _++_}
+use lib.Dec.{eqb, leb}
+use lib.ListN.{length, take, drop, replicate}
+use Rattle.be.specs.Lists.{every, some-of}
+use Rattle.be.specs.Bytes.{byte, field, to-be}
+use Rattle.edition.specs.declared.Edition.{Edition}
+use Rattle.name.specs.Name.{legal-name, legal-number, same-name, fixed-name}
+use Rattle.dir_sf.specs.Entry.{Entry, width-of, entries-in, filled, enough, start-of, entries-bytes, wides-of, tags-ok, end-tag, in-block}
+
+-- Header: count (1), i8count (1), parent
+unfoldable pub count-of : List ℕ → ℕ
+count-of u = byte 0 u
+
+unfoldable pub stored-wides : List ℕ → ℕ
+stored-wides u = byte 1 u
+
+unfoldable pub used-width : List ℕ → ℕ
+used-width u = width-of (stored-wides u)
+
+unfoldable pub parent : List ℕ → ℕ
+parent u = field 2 (used-width u) u
+
+-- what follows the header
+unfoldable pub list-of : List ℕ → List ℕ
+list-of u = drop (2 + used-width u) u
+
+unfoldable pub entries : Edition → List ℕ → List Entry
+entries e u = entries-in e (used-width u) (count-of u) (list-of u)
+
+-- a header and entries laid out
+abbrev pub laid : Edition → ℕ → ℕ → ℕ → List Entry → List ℕ
+laid e count wides p xs = count ∷ wides ∷ to-be (width-of wides) p ++ entries-bytes e (width-of wides) xs
+
+-- the used bytes of a directory with this parent and these entries
+unfoldable pub lay : Edition → ℕ → List Entry → List ℕ
+lay e p xs = laid e (length xs) (wides-of p xs) p xs
+
+-- its fork of n bytes: unused fork bytes are zeroed
+unfoldable pub lay-fork : Edition → ℕ → ℕ → List Entry → List ℕ
+lay-fork e n p xs = let u = lay e p xs in u ++ replicate (n - length u) 0
+
+-- what is known of used bytes that pass the tests: header and entries lie in them, and i8count is right
+pub record Readable (e : Edition) (u : List ℕ) : Type 0 where
+  pub header : 2 + used-width u ≤ length u
+  pub listed : enough e (used-width u) (count-of u) (list-of u) ≡ true
+  pub wides : stored-wides u ≡ wides-of (parent u) (entries e u)
+
+-- where entry j starts in the used bytes
+unfoldable pub place-of : Edition → ℕ → List ℕ → ℕ
+place-of e j u = 2 + used-width u + start-of e (used-width u) j (list-of u)
+
+-- 4 SPAN: size is not under the header and not over the fork
+unfoldable pub span-ok : List ℕ → ℕ → Bool
+span-ok f size = leb (2 + used-width f) size && leb size (length f)
+
+-- 5 TILE: count entries use exactly size bytes, their tags are right, and the block they would go into holds them
+unfoldable pub tile-ok : Edition → ℕ → List ℕ → Bool
+tile-ok e told u =
+    filled e (used-width u) (count-of u) (list-of u)
+    && tags-ok e (e .first) (entries e u)
+    && in-block told (end-tag e (e .first) (entries e u)) (count-of u)
+
+-- the same of k entries in d, of all in the list, whose tags start at low: what a walk over them has still to test
+unfoldable pub tiles : Edition → ℕ → ℕ → ℕ → ℕ → ℕ → List ℕ → Bool
+tiles e w told all low k d =
+    filled e w k d
+    && tags-ok e low (entries-in e w k d)
+    && in-block told (end-tag e low (entries-in e w k d)) all
+
+-- 6 NAME: a stored name is legal, and not "." or ".."
+abbrev pub name-ok : Edition → Entry → Bool
+name-ok e x = legal-name e (x .name) && not (fixed-name (x .name))
+
+unfoldable pub names-ok : Edition → List Entry → Bool
+names-ok e xs = every (name-ok e) xs
+
+-- 7 NUMBER covers the parent
+unfoldable pub numbers-ok : ℕ → List Entry → Bool
+numbers-ok p xs = legal-number p && every (λ x. legal-number (x .inode)) xs
+
+-- some entry bears the name
+unfoldable pub holds : Edition → List ℕ → List Entry → Bool
+holds e n xs = some-of (λ x. same-name e n (x .name)) xs
+
+-- 10 TWICE: no name is stored twice
+unfoldable pub once-ok : Edition → List Entry → Bool
+once-ok e [] = true
+once-ok e (x ∷ xs) = not (holds e (x .name) xs) && once-ok e xs
+
+-- a test, the number that is given when it fails, and the tests after it
+abbrev pub otherwise : Bool → ℕ → ℕ → ℕ
+otherwise t n rest = cond t rest n
+
+-- tests 5 to 10 of the used bytes, 8 INDEX being i8count; 0 if none fails
+unfoldable pub used-verdict : Edition → ℕ → List ℕ → ℕ
+used-verdict e told u =
+    otherwise (tile-ok e told u) 5 (
+    otherwise (names-ok e (entries e u)) 6 (
+    otherwise (numbers-ok (parent u) (entries e u)) 7 (
+    otherwise (eqb (stored-wides u) (wides-of (parent u) (entries e u))) 8 (
+    otherwise (once-ok e (entries e u)) 10 0))))
+
+unfoldable pub fork-verdict : Edition → ℕ → List ℕ → ℕ → ℕ
+fork-verdict e told f size = otherwise (span-ok f size) 4 (used-verdict e told (take size f))

@@ -1,0 +1,6 @@
+pub mod Entry
+pub mod Fork
+pub mod Change
+pub mod Inode
+pub mod Walk
+pub mod Laws

@@ -1,0 +1,211 @@
+-- What an accepted fork holds is good; what is good, laid out, is accepted.
+-- Assumes nothing.
+use Prim.Native.Nat.{ℕ, zero, suc, _+_, _*_, _%_, _^_, _≤_, _<_}
+use native.Mathlib.Omega.{arith}
+use mathlib.Core.Bool.{Bool, true, false, _&&_}
+use mathlib.Core.Path.{_≡_, refl, _∙_, subst}
+use mathlib.Core.List.{List, [], _∷_}
+use lib.Dec.{eqb, leb, ltb}
+use lib.ListN.{length, drop, getD}
+use borrow.Author.Tests.{le-leb, lt-ltb, leb-true, ltb-true, ltb-false, eqb-true, eq-eqb, le-ltb}
+use Rattle.be.specs.Lists.{every, tally}
+use Rattle.be.specs.Bytes.{bytes, field}
+use Rattle.edition.specs.declared.Edition.{Edition}
+use Rattle.name.specs.Name.{legal-name, legal-number}
+use Rattle.name.proofs.Legality.{legal-bounds, number-bounds}
+use Rattle.be.proofs.Bools.{and-left, and-right, and-both, by-cases, every-head, every-tail}
+use Rattle.be.proofs.Parts.{field-lt, bytes-drop}
+use Rattle.dir_sf.specs.Entry.{Entry, width-of, long-in, entry-in, entries-in, filled, is-wide, wides-of, next-tag, tags-ok, end-tag, in-block}
+use Rattle.dir_sf.specs.Fork.{count-of, stored-wides, used-width, parent, list-of, entries, lay, lay-fork, span-ok, tile-ok, name-ok, names-ok, numbers-ok, once-ok, used-verdict, fork-verdict}
+use Rattle.dir_sf.proofs.Chains.{pass}
+use Rattle.dir_sf.proofs.Run.{length-entries-in}
+use Rattle.dir_sf_edit.proofs.ReadBack.{Fits, filled-bytes, lay-count, lay-wides, lay-width, lay-list, lay-parent, lay-entries, length-lay, length-lay-fork, lay-used}
+
+-- the file types fit their bytes
+abbrev pub kinds-ok : Edition → List Entry → Bool
+kinds-ok e xs = every (λ x. ltb (x .kind) (256 ^ e .ftype)) xs
+
+-- what may be stored in a fork, of a directory whose block size is told
+pub record Good (e : Edition) (told p : ℕ) (xs : List Entry) : Type 0 where
+  pub tags : tags-ok e (e .first) xs ≡ true
+  pub within : in-block told (end-tag e (e .first) xs) (length xs) ≡ true
+  pub names : names-ok e xs ≡ true
+  pub numbers : numbers-ok p xs ≡ true
+  pub once : once-ok e xs ≡ true
+  pub kinds : kinds-ok e xs ≡ true
+  -- a wide parent has a wide entry
+  pub parent-fits : wides-of p xs ≡ 0 → is-wide p ≡ false
+
+-- ---- good entries fit their bytes
+
+legal-below : (i : ℕ) → legal-number i ≡ true → i < 256 ^ 8
+legal-below i h = omega (arith, number-bounds i h)
+
+narrow-below : (i : ℕ) → is-wide i ≡ false → i < 256 ^ 4
+unfolding is-wide
+narrow-below i h = let a : i ≤ 4294967295 = ltb-false _ _ h in omega arith
+
+-- a number that is legal, and not wide where nothing is
+pub number-fits : (wides i : ℕ) → legal-number i ≡ true → (wides ≡ 0 → is-wide i ≡ false) → i < 256 ^ width-of wides
+unfolding width-of
+number-fits wides i h n = by-cases (eqb wides 0) (λ q. rw q (narrow-below i (n (eqb-true _ _ q)))) (λ q. rw q (legal-below i h))
+
+no-wide-head : (x : Entry) (xs : List Entry) → tally (λ y. is-wide (y .inode)) (x ∷ xs) ≡ 0 → is-wide (x .inode) ≡ false
+no-wide-head x xs h = by-cases (is-wide (x .inode)) (λ q. absurd (omega (arith, rw q at h))) (λ q. q)
+
+no-wide-tail : (x : Entry) (xs : List Entry) → tally (λ y. is-wide (y .inode)) (x ∷ xs) ≡ 0 → tally (λ y. is-wide (y .inode)) xs ≡ 0
+no-wide-tail x xs h = omega arith
+
+-- tags rise
+pub low-le-end : (e : Edition) (low : ℕ) (xs : List Entry) → tags-ok e low xs ≡ true → low ≤ end-tag e low xs
+unfolding tags-ok end-tag next-tag
+low-le-end e low [] h = omega arith
+low-le-end e low (x ∷ xs) h =
+    let a : low ≤ x .tag = leb-true _ _ (and-right (eqb (x .tag % 8) 0) _ (and-left _ _ h)) in
+    let i : next-tag e x ≤ end-tag e (next-tag e x) xs = low-le-end e (next-tag e x) xs (and-right (eqb (x .tag % 8) 0 && leb low (x .tag)) _ h) in
+    omega arith
+
+good-fits : (e : Edition) (low wides : ℕ) (xs : List Entry) → tags-ok e low xs ≡ true → end-tag e low xs < 65536 → every (name-ok e) xs ≡ true
+    → every (λ x. legal-number (x .inode)) xs ≡ true → kinds-ok e xs ≡ true → (wides ≡ 0 → tally (λ x. is-wide (x .inode)) xs ≡ 0)
+    → Fits e (width-of wides) xs
+unfolding tags-ok end-tag next-tag
+good-fits e low wides [] t en ns is ks z = tt
+good-fits e low wides (x ∷ xs) t en ns is ks z =
+    let tl : tags-ok e (next-tag e x) xs ≡ true = and-right (eqb (x .tag % 8) 0 && leb low (x .tag)) _ t in
+    let up : next-tag e x ≤ end-tag e (next-tag e x) xs = low-le-end e (next-tag e x) xs tl in
+    let l = legal-bounds e (x .name) (and-left (legal-name e (x .name)) _ (every-head (name-ok e) x xs ns)) in (
+      record {
+        name-fits = omega arith;
+        tag-fits = omega arith;
+        kind-fits = ltb-true _ _ (every-head (λ y. ltb (y .kind) (256 ^ e .ftype)) x xs ks);
+        inode-fits = number-fits wides (x .inode) (every-head (λ y. legal-number (y .inode)) x xs is) (λ q. no-wide-head x xs (z q));
+      },
+      good-fits e (next-tag e x) wides xs tl en (every-tail (name-ok e) x xs ns) (every-tail (λ y. legal-number (y .inode)) x xs is)
+          (every-tail (λ y. ltb (y .kind) (256 ^ e .ftype)) x xs ks) (λ q. no-wide-tail x xs (z q)),
+    )
+
+module _ (e : Edition) (told p : ℕ) (xs : List Entry) (small : told ≤ 65536) (g : Good e told p xs) where
+  end-small : end-tag e (e .first) xs < 65536
+  unfolding in-block
+  end-small =
+      let a : end-tag e (e .first) xs + 8 * (length xs + 2) + 8 ≤ told = leb-true _ _ (g .within) in
+      omega arith
+
+  pub good-fit : Fits e (width-of (wides-of p xs)) xs
+  unfolding wides-of names-ok numbers-ok
+  good-fit =
+      good-fits e (e .first) (wides-of p xs) xs (g .tags) end-small (g .names) (and-right (legal-number p) _ (g .numbers)) (g .kinds) (λ q. q)
+
+  pub good-parent : p < 256 ^ width-of (wides-of p xs)
+  unfolding numbers-ok
+  good-parent = number-fits (wides-of p xs) p (and-left (legal-number p) _ (g .numbers)) (g .parent-fits)
+
+  read-entries : entries e (lay e p xs) ≡ xs
+  read-entries = lay-entries e p xs good-fit
+
+  read-parent : parent (lay e p xs) ≡ p
+  read-parent = lay-parent e p xs good-parent
+
+  tile-holds : tile-ok e told (lay e p xs) ≡ true
+  unfolding tile-ok
+  tile-holds =
+      rw (lay-width e p xs, lay-list e p xs, read-entries, lay-count e p xs)
+      (and-both _ _ (and-both _ _ (filled-bytes e (width-of (wides-of p xs)) xs) (g .tags)) (g .within))
+
+  -- what is good, laid out, passes the tests
+  pub used-accepted : used-verdict e told (lay e p xs) ≡ 0
+  unfolding used-verdict
+  used-accepted =
+      rw (tile-holds, read-entries, read-parent, lay-wides e p xs, g .names, g .numbers, eq-eqb (wides-of p xs) (wides-of p xs) refl, g .once) refl
+
+  fork-width : (n : ℕ) → used-width (lay-fork e n p xs) ≡ width-of (wides-of p xs)
+  unfolding used-width stored-wides lay-fork lay
+  fork-width n = refl
+
+  span-holds : (n : ℕ) → length (lay e p xs) ≤ n → span-ok (lay-fork e n p xs) (length (lay e p xs)) ≡ true
+  unfolding span-ok
+  span-holds n h =
+      let q : used-width (lay-fork e n p xs) ≡ width-of (wides-of p xs) = fork-width n in
+      let a : 2 + used-width (lay-fork e n p xs) ≤ length (lay e p xs) = omega (arith, length-lay e p xs) in
+      let b : length (lay e p xs) ≤ length (lay-fork e n p xs) = omega (arith, length-lay-fork e p xs n h) in
+      and-both _ _ (le-leb _ _ a) (le-leb _ _ b)
+
+  pub laid-accepted : (n : ℕ) → length (lay e p xs) ≤ n → fork-verdict e told (lay-fork e n p xs) (length (lay e p xs)) ≡ 0
+  unfolding fork-verdict
+  laid-accepted n h = rw (span-holds n h, lay-used e p xs n) used-accepted
+
+-- ---- the other way: what an accepted fork holds is good
+
+kind-in : (e : Edition) (w : ℕ) (d : List ℕ) → bytes d ≡ true → long-in e w d ≤ length d → ltb (entry-in e w d .kind) (256 ^ e .ftype) ≡ true
+unfolding entry-in long-in
+kind-in e w d h l = lt-ltb _ _ (field-lt (3 + getD d 0 0) (e .ftype) d h (omega arith))
+
+kinds-in : (e : Edition) (w k : ℕ) (d : List ℕ) → bytes d ≡ true → filled e w k d ≡ true → kinds-ok e (entries-in e w k d) ≡ true
+unfolding entries-in filled
+kinds-in e w zero d h f = refl
+kinds-in e w (suc k) d h f =
+    let l : long-in e w d ≤ length d = leb-true _ _ (and-left _ _ f) in
+    and-both _ _ (kind-in e w d h l) (kinds-in e w k (drop (long-in e w d) d) (bytes-drop (long-in e w d) d h) (and-right (leb (long-in e w d) (length d)) _ f))
+
+narrow-width : (wides : ℕ) → wides ≡ 0 → width-of wides ≡ 4
+unfolding width-of
+narrow-width wides h = rw h refl
+
+below-narrow : (i : ℕ) → i < 256 ^ 4 → is-wide i ≡ false
+unfolding is-wide
+below-narrow i h = le-ltb 4294967295 i (omega arith)
+
+is-four : (u : List ℕ) → stored-wides u ≡ 0 → used-width u ≡ 4
+unfolding used-width
+is-four u h = narrow-width (stored-wides u) h
+
+module _ (e : Edition) (told : ℕ) (u : List ℕ) (h : bytes u ≡ true) (long : 2 + used-width u ≤ length u) (a : used-verdict e told u ≡ 0) where
+  tests : (tile-ok e told u ≡ true) × (names-ok e (entries e u) ≡ true) × (numbers-ok (parent u) (entries e u) ≡ true)
+      × (eqb (stored-wides u) (wides-of (parent u) (entries e u)) ≡ true) × (once-ok e (entries e u) ≡ true)
+  unfolding used-verdict
+  tests =
+      let t₅ = pass (tile-ok e told u) 5 _ (omega arith) a in
+      let t₆ = pass (names-ok e (entries e u)) 6 _ (omega arith) (t₅ .1) in
+      let t₇ = pass (numbers-ok (parent u) (entries e u)) 7 _ (omega arith) (t₆ .1) in
+      let t₈ = pass (eqb (stored-wides u) (wides-of (parent u) (entries e u))) 8 _ (omega arith) (t₇ .1) in
+      let t₁₀ = pass (once-ok e (entries e u)) 10 _ (omega arith) (t₈ .1) in
+      (t₅ .0, t₆ .0, t₇ .0, t₈ .0, t₁₀ .0)
+
+  pub used-count : length (entries e u) ≡ count-of u
+  unfolding entries
+  used-count = length-entries-in e (used-width u) (count-of u) (list-of u)
+
+  tile : (filled e (used-width u) (count-of u) (list-of u) ≡ true) × (tags-ok e (e .first) (entries e u) ≡ true)
+      × (in-block told (end-tag e (e .first) (entries e u)) (count-of u) ≡ true)
+  unfolding tile-ok
+  tile =
+      let t = tests .0 in (
+        and-left _ _ (and-left _ _ t),
+        and-right (filled e (used-width u) (count-of u) (list-of u)) _ (and-left _ _ t),
+        and-right (filled e (used-width u) (count-of u) (list-of u) && tags-ok e (e .first) (entries e u)) _ t,
+      )
+
+  pub used-filled : filled e (used-width u) (count-of u) (list-of u) ≡ true
+  used-filled = tile .0
+
+  used-kinds : kinds-ok e (entries e u) ≡ true
+  unfolding entries list-of
+  used-kinds = kinds-in e (used-width u) (count-of u) (list-of u) (bytes-drop (2 + used-width u) u h) (tile .0)
+
+  used-parent : wides-of (parent u) (entries e u) ≡ 0 → is-wide (parent u) ≡ false
+  unfolding parent
+  used-parent q =
+      let s : stored-wides u ≡ 0 = eqb-true _ _ (tests .3) ∙ q in
+      below-narrow (field 2 (used-width u) u) (subst (λ (w : ℕ). field 2 (used-width u) u < 256 ^ w) (is-four u s) (field-lt 2 (used-width u) u h long))
+
+  pub used-good : Good e told (parent u) (entries e u)
+  used-good =
+      record {
+        tags = tile .1;
+        within = rw used-count (tile .2);
+        names = tests .1;
+        numbers = tests .2;
+        once = tests .4;
+        kinds = used-kinds;
+        parent-fits = used-parent;
+      }

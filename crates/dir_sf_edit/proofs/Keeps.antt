@@ -1,0 +1,137 @@
+-- A change that is done leaves an accepted fork, and its names and numbers are those before, plus or less the one.
+-- Assumes nothing.
+use Prim.Native.Nat.{ℕ, zero, suc, _+_, _%_, _^_, _≤_, _<_}
+use native.Mathlib.Omega.{arith}
+use mathlib.Core.Bool.{true, false, not, _&&_}
+use mathlib.Core.Path.{_≡_, refl, sym, _∙_, ap, ap₂}
+use mathlib.Core.List.{List, [], _∷_}
+use lib.Dec.{eqb, leb, ltb}
+use lib.ListN.{length, length-append}
+use borrow.Author.Tests.{leb-true, eqb-true, eqb-false, eq-eqb, not-true, lt-ltb}
+use Rattle.be.proofs.Bools.{and-left, and-right, and-both, by-cases}
+use Rattle.edition.specs.declared.Edition.{Edition}
+use Rattle.edition.specs.Edition.{entry-size}
+use Rattle.name.specs.Name.{legal-name, legal-number, same-name, fixed-name}
+use Rattle.dir_sf.specs.Entry.{Entry, entry, width-of, entries-bytes, is-wide, wides-of, next-tag, tags-ok, end-tag, in-block}
+use Rattle.dir_sf.specs.Fork.{name-ok, names-ok, numbers-ok, holds, lay, lay-fork, fork-verdict}
+use Rattle.dir_sf.specs.Change.{gap-tag, tag-for, placed, inserted, has-room, insert-code, removed, remove-code}
+use Rattle.dir_sf_edit.proofs.ReadBack.{length-entry-bytes, length-lay}
+use Rattle.dir_sf_edit.proofs.Accepted.{Good, laid-accepted}
+use Rattle.dir_sf.proofs.Chains.{pass}
+use Rattle.dir_sf_edit.proofs.Removes.{removed-good}
+use Rattle.dir_sf_edit.proofs.Inserts.{Tags, every-placed, length-placed, tally-placed, placed-once, placed-last, placed-in-gap, end-eights}
+
+least : (k : ℕ) → (k ≡ 0 → ⊥) → 1 ≤ k
+least zero z = absurd (z refl)
+least (suc k) z = omega arith
+
+-- what an insert that is done has passed
+module _ (e : Edition) (told p : ℕ) (n : List ℕ) (kind i : ℕ) (xs : List Entry) (fork : ℕ) (done : insert-code e told fork n kind i p xs ≡ 0) where
+  pub inserts : (legal-name e n ≡ true) × (legal-number i ≡ true) × (fixed-name n ≡ false) × (holds e n xs ≡ false)
+      × ((tag-for e told (length n) xs ≡ 0 → ⊥)) × (length (lay e p (inserted e told n kind i xs)) ≤ fork)
+  unfolding insert-code has-room
+  inserts =
+      let a = pass (legal-name e n && legal-number i) 11 _ (omega arith) done in
+      let b = pass (not (fixed-name n)) 12 _ (omega arith) (a .1) in
+      let c = pass (not (holds e n xs)) 14 _ (omega arith) (b .1) in
+      let d = pass (not (eqb (tag-for e told (length n) xs) 0) && leb (length (lay e p (inserted e told n kind i xs))) fork) 15 _ (omega arith) (c .1) in (
+        and-left _ _ (a .0),
+        and-right (legal-name e n) _ (a .0),
+        not-true _ (b .0),
+        not-true _ (c .0),
+        eqb-false _ _ (not-true _ (and-left _ _ (d .0))),
+        leb-true _ _ (and-right (not (eqb (tag-for e told (length n) xs) 0)) _ (d .0)),
+      )
+
+module _ (e : Edition) (ok : Tags e) (told p : ℕ) (n : List ℕ) (kind i : ℕ) (xs : List Entry) (g : Good e told p xs) where
+  -- the tags and the block's limit, with the new entry in
+  abbrev Fits-in : Entry → Type 0
+  Fits-in y = (tags-ok e (e .first) (placed y xs) ≡ true) × (in-block told (end-tag e (e .first) (placed y xs)) (length (placed y xs)) ≡ true)
+
+  at-end : (y : Entry) → y .name ≡ n → in-block told (end-tag e (e .first) xs + entry-size e (length n)) (suc (length xs)) ≡ true
+      → y .tag ≡ end-tag e (e .first) xs → Fits-in y
+  unfolding next-tag
+  at-end y q h t =
+      let r = placed-last e y (e .first) xs (ap (λ (z : ℕ). z % 8) t ∙ end-eights e (e .first) xs (ok .first-eights) (g .tags)) (g .tags) (sym t) in
+      let m : end-tag e (e .first) (placed y xs) ≡ end-tag e (e .first) xs + entry-size e (length n) =
+      r .1 ∙ ap₂ (λ (a : ℕ) (b : List ℕ). a + entry-size e (length b)) t q in
+      (r .0, rw (m, length-placed y xs) h)
+
+  in-gap : (y : Entry) → y .name ≡ n → in-block told (end-tag e (e .first) xs) (suc (length xs)) ≡ true
+      → gap-tag e (entry-size e (length n)) (e .first) xs ≡ y .tag → (y .tag ≡ 0 → ⊥) → Fits-in y
+  in-gap y q h t z =
+      let t' : gap-tag e (entry-size e (length (y .name))) (e .first) xs ≡ y .tag = rw q t in
+      let r = placed-in-gap e y (e .first) xs (ok .first-eights) (g .tags) (least (y .tag) z) t' in
+      (r .0, rw (r .1, length-placed y xs) h)
+
+  tag-fits : (y : Entry) → y .name ≡ n → y .tag ≡ tag-for e told (length n) xs → (y .tag ≡ 0 → ⊥) → Fits-in y
+  unfolding tag-for
+  tag-fits y q t z =
+      by-cases (in-block told (end-tag e (e .first) xs + entry-size e (length n)) (suc (length xs)))
+      (λ a. at-end y q a (rw a at t))
+      (λ a.
+      by-cases (in-block told (end-tag e (e .first) xs) (suc (length xs)))
+      (λ b. in-gap y q b (sym (rw (a, b) at t)) z)
+      (λ b. absurd (z (rw (a, b) at t))))
+
+  module _ (fork : ℕ) (fits : kind < 256 ^ e .ftype) (done : insert-code e told fork n kind i p xs ≡ 0) where
+    -- good before, good after
+    pub inserted-good : Good e told p (inserted e told n kind i xs)
+    unfolding inserted names-ok numbers-ok wides-of
+    inserted-good =
+        let y : Entry = entry (tag-for e told (length n) xs) n kind i in
+        let f = tag-fits y refl refl (inserts e told p n kind i xs fork done .4) in
+        record {
+          tags = f .0;
+          within = f .1;
+          names = every-placed (name-ok e) y xs (and-both _ _ (inserts e told p n kind i xs fork done .0) (rw (inserts e told p n kind i xs fork done .2) refl)) (g .names);
+          numbers = and-both _ _ (and-left (legal-number p) _ (g .numbers)) (every-placed (λ x. legal-number (x .inode)) y xs (inserts e told p n kind i xs fork done .1) (and-right (legal-number p) _ (g .numbers)));
+          once = placed-once e y xs (inserts e told p n kind i xs fork done .3) (g .once);
+          kinds = every-placed (λ x. ltb (x .kind) (256 ^ e .ftype)) y xs (lt-ltb _ _ fits) (g .kinds);
+          parent-fits = λ z. g .parent-fits (omega (arith, tally-placed (λ x. is-wide (x .inode)) y xs));
+        }
+
+    -- 01's law: the fork that is left is accepted
+    pub insert-accepted : told ≤ 65536
+        → fork-verdict e told (lay-fork e fork p (inserted e told n kind i xs)) (length (lay e p (inserted e told n kind i xs))) ≡ 0
+    insert-accepted s = laid-accepted e told p (inserted e told n kind i xs) s inserted-good fork (inserts e told p n kind i xs fork done .5)
+
+-- ---- removal: what is left is no longer than what was there
+
+width-grows : (a b : ℕ) → a ≤ b → width-of a ≤ width-of b
+unfolding width-of
+width-grows a b h =
+    by-cases (eqb b 0)
+    (λ q. let z : a ≡ 0 = omega (arith, eqb-true b 0 q) in rw (q, eq-eqb a 0 z) (omega arith))
+    (λ q. by-cases (eqb a 0) (λ r. rw (q, r) (omega arith)) (λ r. rw (q, r) (omega arith)))
+
+removed-wides : (e : Edition) (n : List ℕ) (p : ℕ) (xs : List Entry) → wides-of p (removed e n xs) ≤ wides-of p xs
+unfolding wides-of removed
+removed-wides e n p [] = omega arith
+removed-wides e n p (x ∷ xs) =
+    by-cases (same-name e n (x .name)) (λ q. rw q (omega arith)) (λ q. rw q (omega (arith, removed-wides e n p xs)))
+
+entries-narrower : (e : Edition) (v w : ℕ) (xs : List Entry) → v ≤ w → length (entries-bytes e v xs) ≤ length (entries-bytes e w xs)
+unfolding entries-bytes
+entries-narrower e v w [] h = omega arith
+entries-narrower e v w (x ∷ xs) h =
+    simp length-append (omega (arith, length-entry-bytes e v x, length-entry-bytes e w x, entries-narrower e v w xs h))
+
+removed-shorter : (e : Edition) (n : List ℕ) (v w : ℕ) (xs : List Entry) → v ≤ w → length (entries-bytes e v (removed e n xs)) ≤ length (entries-bytes e w xs)
+unfolding entries-bytes removed
+removed-shorter e n v w [] h = omega arith
+removed-shorter e n v w (x ∷ xs) h =
+    by-cases (same-name e n (x .name))
+    (λ q. rw q (simp length-append (omega (arith, entries-narrower e v w xs h))))
+    (λ q. rw q (simp length-append (omega (arith, length-entry-bytes e v x, length-entry-bytes e w x, removed-shorter e n v w xs h))))
+
+pub removed-fits : (e : Edition) (n : List ℕ) (p : ℕ) (xs : List Entry) → length (lay e p (removed e n xs)) ≤ length (lay e p xs)
+removed-fits e n p xs =
+    let w : width-of (wides-of p (removed e n xs)) ≤ width-of (wides-of p xs) = width-grows _ _ (removed-wides e n p xs) in
+    omega (arith, length-lay e p (removed e n xs), length-lay e p xs, removed-shorter e n (width-of (wides-of p (removed e n xs))) (width-of (wides-of p xs)) xs w)
+
+module _ (e : Edition) (told p : ℕ) (n : List ℕ) (xs : List Entry) (g : Good e told p xs) (done : remove-code e n p xs ≡ 0) where
+  pub remove-accepted : (fork : ℕ) → told ≤ 65536 → length (lay e p xs) ≤ fork
+      → fork-verdict e told (lay-fork e fork p (removed e n xs)) (length (lay e p (removed e n xs))) ≡ 0
+  remove-accepted fork s h =
+      laid-accepted e told p (removed e n xs) s (removed-good e told p n xs g done) fork (omega (arith, removed-fits e n p xs))

@@ -1,0 +1,162 @@
+-- The laws of the changes, at the inode.
+-- Assumes nothing.
+use Prim.Native.Nat.{ℕ, _≤_}
+use native.Mathlib.Omega.{arith}
+use mathlib.Core.Bool.{Bool, true, false, cond, _||_}
+use mathlib.Core.Path.{_≡_, refl, _∙_, ap}
+use mathlib.Core.List.{List}
+use lib.ListN.{length}
+use Rattle.be.specs.Bytes.{bytes}
+use Rattle.edition.specs.declared.Edition.{Edition}
+use Rattle.edition.specs.Edition.{Sane}
+use Rattle.edition.proofs.Sizes.{block-size-bounds}
+use Rattle.name.specs.Name.{same-name}
+use Rattle.dinode.specs.Core.{data-length}
+use Rattle.dir_sf.specs.Entry.{Entry, entry}
+use Rattle.dir_sf.specs.Fork.{parent, entries, holds, lay}
+use Rattle.dir_sf.specs.Change.{number-in, tag-for, inserted, removed}
+use Rattle.dir_sf.specs.Inode.{used, verdict, insert-number, remove-number, with-entries, after-insert, after-remove}
+use Rattle.dir_sf.proofs.Tested.{is-told, used-passes, used-header}
+use Rattle.dir_sf_edit.specs.Laws.{Kind, Insert-accepted, Remove-accepted, Differs, Insert-names, Remove-names, Put-back}
+use Rattle.dir_sf_edit.proofs.ReadBack.{lay-entries, lay-parent}
+use Rattle.dir_sf_edit.proofs.Accepted.{Good, good-fit, good-parent, used-good, laid-accepted}
+use Rattle.dir_sf_edit.proofs.Removes.{removed-good, removed-number, removed-held}
+use Rattle.dir_sf_edit.proofs.Inserts.{Tags, placed-holds, placed-number}
+use Rattle.dir_sf_edit.proofs.Keeps.{inserts, inserted-good}
+use Rattle.dir_sf_edit.proofs.Changes.{insert-passes, insert-answers, insert-fits, remove-passes, remove-answers, remove-fits, lay-fits}
+use Rattle.dir_sf_edit.proofs.Untouched.{fork-kept, used-after, verdict-after, used-bytes}
+use Rattle.dir_sf_edit.proofs.PutBack.{back-in}
+
+tags-of : (e : Edition) → Sane e → Tags e
+tags-of e s = record { first-eights = omega (arith, s .first-after, s .header-eights); first-least = omega (arith, s .first-after) }
+
+module _ (e : Edition) (sane : Sane e) (told : ℕ) (b : List ℕ) (by : bytes b ≡ true) (v : verdict e told b ≡ 0) where
+  small : told ≤ 65536
+  small = omega (arith, block-size-bounds told (is-told e sane told b v))
+
+  good : Good e told (parent (used e b)) (entries e (used e b))
+  good = used-good e told (used e b) (used-bytes e b by) (used-header e sane told b v) (used-passes e sane told b v)
+
+  -- a change that leaves good entries which fit
+  module _ (ys : List Entry) (g : Good e told (parent (used e b)) ys) (fits : length (lay e (parent (used e b)) ys) ≤ data-length e b) where
+    accepted : verdict e told (with-entries e b ys) ≡ 0
+    accepted = verdict-after e sane told b v ys fits (laid-accepted e told (parent (used e b)) ys small g (data-length e b) fits)
+
+    read : entries e (used e (with-entries e b ys)) ≡ ys
+    read = ap (entries e) (used-after e sane told b v ys fits) ∙ lay-entries e (parent (used e b)) ys (good-fit e told (parent (used e b)) ys small g)
+
+    read-parent : parent (used e (with-entries e b ys)) ≡ parent (used e b)
+    read-parent = ap parent (used-after e sane told b v ys fits) ∙ lay-parent e (parent (used e b)) ys (good-parent e told (parent (used e b)) ys small g)
+
+or-cond : (a b : Bool) → (a || b) ≡ cond a true b
+or-cond true b = refl
+or-cond false b = refl
+
+-- ---- insert
+
+module _ (e : Edition) (sane : Sane e) (told : ℕ) (b n : List ℕ) (kind i : ℕ) (by : bytes b ≡ true) (k : Kind e kind) (done : insert-number e told b n kind i ≡ 0) where
+  new : List Entry
+  new = inserted e told n kind i (entries e (used e b))
+
+  v : verdict e told b ≡ 0
+  v = insert-passes e sane told b n kind i done
+
+  new-good : Good e told (parent (used e b)) new
+  unfolding new
+  new-good =
+      inserted-good e (tags-of e sane) told (parent (used e b)) n kind i (entries e (used e b)) (good e sane told b by v) (data-length e b) k
+      (insert-answers e sane told b n kind i done)
+
+  new-fits : length (lay e (parent (used e b)) new) ≤ data-length e b
+  unfolding new
+  new-fits = insert-fits e sane told b n kind i done
+
+  is-with : after-insert e told b n kind i ≡ with-entries e b new
+  unfolding after-insert new
+  is-with = rw done refl
+
+  insert-keeps : verdict e told (after-insert e told b n kind i) ≡ 0
+  insert-keeps = ap (verdict e told) is-with ∙ accepted e sane told b by v new new-good new-fits
+
+  absent : holds e n (entries e (used e b)) ≡ false
+  absent = inserts e told (parent (used e b)) n kind i (entries e (used e b)) (data-length e b) (insert-answers e sane told b n kind i done) .3
+
+  insert-tells : Differs e b (after-insert e told b n kind i) n true i
+  unfolding new inserted
+  insert-tells =
+      let y : Entry = entry (tag-for e told (length n) (entries e (used e b))) n kind i in
+      let r : entries e (used e (after-insert e told b n kind i)) ≡ new = ap (λ (c : List ℕ). entries e (used e c)) is-with ∙ read e sane told b by v new new-good new-fits in
+      record {
+        same-parent = ap (λ (c : List ℕ). parent (used e c)) is-with ∙ read-parent e sane told b by v new new-good new-fits;
+        names = λ m. ap (holds e m) r ∙ placed-holds e m y (entries e (used e b)) ∙ or-cond (same-name e m n) (holds e m (entries e (used e b)));
+        numbers = λ m. ap (number-in e m) r ∙ placed-number e m y (entries e (used e b)) absent;
+      }
+
+-- ---- removal
+
+module _ (e : Edition) (sane : Sane e) (told : ℕ) (b n : List ℕ) (by : bytes b ≡ true) (done : remove-number e told b n ≡ 0) where
+  left : List Entry
+  left = removed e n (entries e (used e b))
+
+  u : verdict e told b ≡ 0
+  u = remove-passes e sane told b n done
+
+  left-good : Good e told (parent (used e b)) left
+  unfolding left
+  left-good = removed-good e told (parent (used e b)) n (entries e (used e b)) (good e sane told b by u) (remove-answers e sane told b n done)
+
+  left-fits : length (lay e (parent (used e b)) left) ≤ data-length e b
+  unfolding left
+  left-fits = remove-fits e sane told b n done
+
+  was-with : after-remove e told b n ≡ with-entries e b left
+  unfolding after-remove left
+  was-with = rw done refl
+
+  remove-keeps : verdict e told (after-remove e told b n) ≡ 0
+  remove-keeps = ap (verdict e told) was-with ∙ accepted e sane told b by u left left-good left-fits
+
+  now-read : entries e (used e (after-remove e told b n)) ≡ left
+  now-read = ap (λ (c : List ℕ). entries e (used e c)) was-with ∙ read e sane told b by u left left-good left-fits
+
+  now-parent : parent (used e (after-remove e told b n)) ≡ parent (used e b)
+  now-parent = ap (λ (c : List ℕ). parent (used e c)) was-with ∙ read-parent e sane told b by u left left-good left-fits
+
+  remove-tells : Differs e b (after-remove e told b n) n false 0
+  unfolding left
+  remove-tells =
+      record {
+        same-parent = now-parent;
+        names = λ m. ap (holds e m) now-read ∙ removed-held e n m (entries e (used e b)) (good e sane told b by u .once);
+        numbers = λ m. ap (number-in e m) now-read ∙ removed-number e n m (entries e (used e b)) (good e sane told b by u .once);
+      }
+
+  goes-back : (kind : ℕ) → insert-number e told (after-remove e told b n) n kind (number-in e n (entries e (used e b))) ≡ 0
+  unfolding insert-number left
+  goes-back kind =
+      let f : data-length e (after-remove e told b n) ≡ data-length e b = ap (data-length e) was-with ∙ fork-kept e sane told b u left left-fits in
+      rw (remove-keeps, now-read, now-parent, f)
+      (back-in e (tags-of e sane) told (parent (used e b)) (data-length e b) n kind (entries e (used e b)) (good e sane told b by u) (remove-answers e sane told b n done) (lay-fits e sane told b u))
+
+-- ---- the laws
+
+module _ (e : Edition) (sane : Sane e) where
+  pub insert-accepted : Insert-accepted e
+  unfolding Insert-accepted
+  insert-accepted told b n kind i by k done = insert-keeps e sane told b n kind i by k done
+
+  pub remove-accepted : Remove-accepted e
+  unfolding Remove-accepted
+  remove-accepted told b n by done = remove-keeps e sane told b n by done
+
+  pub insert-names : Insert-names e
+  unfolding Insert-names
+  insert-names told b n kind i by k done = insert-tells e sane told b n kind i by k done
+
+  pub remove-names : Remove-names e
+  unfolding Remove-names
+  remove-names told b n by done = remove-tells e sane told b n by done
+
+  pub put-back : Put-back e
+  unfolding Put-back
+  put-back told b n kind by done = goes-back e sane told b n by done kind

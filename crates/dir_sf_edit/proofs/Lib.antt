@@ -1,0 +1,15 @@
+pub mod Puts
+pub mod ReadBack
+pub mod Accepted
+pub mod Removes
+pub mod Inserts
+pub mod Keeps
+pub mod Copies
+pub mod Lays
+pub mod Refusals
+pub mod TagScans
+pub mod Insertions
+pub mod Changes
+pub mod Untouched
+pub mod PutBack
+pub mod Kept

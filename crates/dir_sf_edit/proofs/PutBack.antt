@@ -1,0 +1,172 @@
+-- Right after a removal the same name with the same number goes back in.
+-- Assumes nothing.
+use Prim.Native.Nat.{ℕ, suc, _+_, _≤_}
+use native.Mathlib.Omega.{arith}
+use mathlib.Core.Bool.{Bool, true, false, not, cond}
+use mathlib.Core.Path.{_≡_, refl, sym, _∙_, ap}
+use mathlib.Core.List.{List, [], _∷_}
+use lib.Dec.{leb}
+use lib.ListN.{length, length-append}
+use borrow.Author.Tests.{le-leb, ne-eqb, not-true}
+use Rattle.be.specs.Lists.{every}
+use Rattle.be.proofs.Bools.{by-cases, clash, and-right, every-head, every-tail}
+use Rattle.edition.specs.declared.Edition.{Edition}
+use Rattle.edition.specs.Edition.{entry-size}
+use Rattle.name.specs.Name.{legal-name, legal-number, same-name, fixed-name}
+use Rattle.name.proofs.Same.{same-name-refl, same-name-length}
+use Rattle.dir_sf.specs.Entry.{Entry, entry, width-of, entries-bytes, wides-of, next-tag, tags-ok, end-tag, in-block}
+use Rattle.dir_sf.specs.Fork.{lay, holds, numbers-ok}
+use Rattle.dir_sf.specs.Change.{number-in, gap-tag, tag-for, placed, inserted, has-room, insert-code, removed, remove-code}
+use Rattle.dir_sf.proofs.Chains.{pass}
+use Rattle.dir_sf_edit.proofs.ReadBack.{length-entry-bytes, length-lay}
+use Rattle.dir_sf_edit.proofs.Accepted.{Good, low-le-end}
+use Rattle.dir_sf_edit.proofs.Removes.{removed-end, removed-tags, removed-length, removed-held, removed-wide, less-in-block}
+use Rattle.dir_sf.proofs.Tags.{tagged}
+use Rattle.dir_sf_edit.proofs.Inserts.{Tags}
+use Rattle.dir_sf_edit.proofs.Insertions.{placed-wide, placed-bytes}
+
+-- E of the name asked for is that of the stored one
+same-size : (e : Edition) (n : List ℕ) (x : Entry) → same-name e n (x .name) ≡ true → next-tag e x ≡ x .tag + entry-size e (length n)
+unfolding next-tag
+same-size e n x h = ap (λ (k : ℕ). x .tag + entry-size e k) (sym (same-name-length e n (x .name) h))
+
+-- the room that is left: behind the last entry, or in a gap
+pub record Room (e : Edition) (long low : ℕ) (xs ys : List Entry) (last : Bool) : Type 0 where
+  pub behind : last ≡ true → end-tag e low ys + long ≤ end-tag e low xs
+  pub between : last ≡ false → 1 ≤ gap-tag e long low ys
+
+gap-first : (e : Edition) (long low : ℕ) (z : Entry) (zs : List Entry) → low + long ≤ z .tag → gap-tag e long low (z ∷ zs) ≡ low
+unfolding gap-tag
+gap-first e long low z zs h = rw (le-leb _ _ h) refl
+
+gap-more : (e : Edition) (long low : ℕ) (x : Entry) (ys : List Entry) → 1 ≤ low → 1 ≤ gap-tag e long (next-tag e x) ys → 1 ≤ gap-tag e long low (x ∷ ys)
+unfolding gap-tag
+gap-more e long low x ys h k = by-cases (leb (low + long) (x .tag)) (λ q. rw q h) (λ q. rw q k)
+
+end-next : (e : Edition) (low : ℕ) (x : Entry) (xs : List Entry) → end-tag e low (x ∷ xs) ≡ end-tag e (next-tag e x) xs
+unfolding end-tag
+end-next e low x xs = refl
+
+end-none : (e : Edition) (low : ℕ) → end-tag e low [] ≡ low
+unfolding end-tag
+end-none e low = refl
+
+-- whether the first entry of the name is the last of all
+last-of : Edition → List ℕ → List Entry → Bool
+last-of e n [] = true
+last-of e n (x ∷ []) = true
+last-of e n (x ∷ (z ∷ zs)) = let r = last-of e n (z ∷ zs) in cond (same-name e n (x .name)) false r
+
+head-room : (e : Edition) (n : List ℕ) (low : ℕ) (x : Entry) (xs : List Entry) → same-name e n (x .name) ≡ true → 1 ≤ low → tags-ok e low (x ∷ xs) ≡ true
+    → Room e (entry-size e (length n)) low (x ∷ xs) xs (last-of e n (x ∷ xs))
+unfolding last-of
+head-room e n low x [] q l t =
+    let g = tagged e low x [] t in
+    record {
+      behind = λ z. omega (arith, end-next e low x [], end-none e (next-tag e x), end-none e low, same-size e n x q, g .least);
+      between = λ z. absurd (clash refl z);
+    }
+head-room e n low x (y ∷ ys) q l t =
+    let g = tagged e low x (y ∷ ys) t in
+    let h = tagged e (next-tag e x) y ys (g .rest) in
+    record {
+      behind = λ z. absurd (clash z (rw q refl));
+      between = λ z. omega (arith, gap-first e (entry-size e (length n)) low y ys (omega (arith, same-size e n x q, g .least, h .least)));
+    }
+
+last-tail : (e : Edition) (n : List ℕ) (x : Entry) (xs : List Entry) → same-name e n (x .name) ≡ false → holds e n xs ≡ true → last-of e n (x ∷ xs) ≡ last-of e n xs
+unfolding last-of holds
+last-tail e n x [] q h = absurd (clash h refl)
+last-tail e n x (y ∷ ys) q h = rw q refl
+
+tail-room : (e : Edition) (long low : ℕ) (x : Entry) (xs ys : List Entry) (last : Bool) → 1 ≤ low → Room e long (next-tag e x) xs ys last → Room e long low (x ∷ xs) (x ∷ ys) last
+tail-room e long low x xs ys last l r =
+    record {
+      behind = λ z. omega (arith, r .behind z, end-next e low x xs, end-next e low x ys);
+      between = λ z. gap-more e long low x ys l (r .between z);
+    }
+
+room-left : (e : Edition) (n : List ℕ) (low : ℕ) (xs : List Entry) → 1 ≤ low → tags-ok e low xs ≡ true → holds e n xs ≡ true
+    → Room e (entry-size e (length n)) low xs (removed e n xs) (last-of e n xs)
+unfolding holds removed
+room-left e n low [] l t h = absurd (clash h refl)
+room-left e n low (x ∷ xs) l t h =
+    by-cases (same-name e n (x .name))
+    (λ q. rw q (head-room e n low x xs q l t))
+    (λ q.
+    let g = tagged e low x xs t in
+    let k : holds e n xs ≡ true = rw q at h in
+    rw (q, last-tail e n x xs q k) (tail-room e (entry-size e (length n)) low x xs (removed e n xs) (last-of e n xs) l (room-left e n (next-tag e x) xs (omega (arith, g .least, g .grows)) (g .rest) k)))
+
+removed-bytes : (e : Edition) (w : ℕ) (n : List ℕ) (xs : List Entry) → holds e n xs ≡ true
+    → length (entries-bytes e w xs) ≡ 3 + length n + e .ftype + w + length (entries-bytes e w (removed e n xs))
+unfolding holds removed entries-bytes
+removed-bytes e w n [] h = absurd (clash h refl)
+removed-bytes e w n (x ∷ xs) h =
+    by-cases (same-name e n (x .name))
+    (λ q. rw q (simp length-append (omega (arith, length-entry-bytes e w x, same-name-length e n (x .name) q))))
+    (λ q. rw q (simp length-append (omega (arith, length-entry-bytes e w x, removed-bytes e w n xs (rw q at h)))))
+
+number-legal : (e : Edition) (n : List ℕ) (xs : List Entry) → holds e n xs ≡ true → every (λ x. legal-number (x .inode)) xs ≡ true → legal-number (number-in e n xs) ≡ true
+unfolding holds number-in
+number-legal e n [] h k = absurd (clash h refl)
+number-legal e n (x ∷ xs) h k =
+    by-cases (same-name e n (x .name))
+    (λ q. rw q (every-head (λ y. legal-number (y .inode)) x xs k))
+    (λ q. rw q (number-legal e n xs (rw q at h) (every-tail (λ y. legal-number (y .inode)) x xs k)))
+
+module _ (e : Edition) (ok : Tags e) (told p fork : ℕ) (n : List ℕ) (kind : ℕ) (xs : List Entry) (g : Good e told p xs) (done : remove-code e n p xs ≡ 0)
+    (fits : length (lay e p xs) ≤ fork) where
+  tests : (legal-name e n ≡ true) × (fixed-name n ≡ false) × (holds e n xs ≡ true)
+  unfolding remove-code
+  tests =
+      let a = pass (legal-name e n) 11 _ (omega arith) done in
+      let b = pass (not (fixed-name n)) 12 _ (omega arith) (a .1) in
+      let c = pass (holds e n xs) 13 _ (omega arith) (b .1) in
+      (a .0, not-true _ (b .0), c .0)
+
+  gone : holds e n (removed e n xs) ≡ false
+  gone = removed-held e n n xs (g .once) ∙ rw (same-name-refl e n) refl
+
+  -- the same size
+  size : (t : ℕ) → length (lay e p (placed (entry t n kind (number-in e n xs)) (removed e n xs))) ≡ length (lay e p xs)
+  size t =
+      let y : Entry = entry t n kind (number-in e n xs) in
+      let w : wides-of p (placed y (removed e n xs)) ≡ wides-of p xs = omega (arith, placed-wide p y (removed e n xs), removed-wide e n p xs (tests .2)) in
+      let v : ℕ = width-of (wides-of p xs) in
+      let l : length (lay e p (placed y (removed e n xs))) ≡ 2 + v + length (entries-bytes e v (placed y (removed e n xs))) =
+      length-lay e p (placed y (removed e n xs)) ∙ ap (λ (k : ℕ). 2 + width-of k + length (entries-bytes e (width-of k) (placed y (removed e n xs)))) w in
+      omega (arith, length-lay e p xs, placed-bytes e v y (removed e n xs), length-entry-bytes e v y, removed-bytes e v n xs (tests .2))
+
+  room : Room e (entry-size e (length n)) (e .first) xs (removed e n xs) (last-of e n xs)
+  room = room-left e n (e .first) xs (ok .first-least) (g .tags) (tests .2)
+
+  end-least : 1 ≤ end-tag e (e .first) (removed e n xs)
+  end-least = omega (arith, ok .first-least, low-le-end e (e .first) (removed e n xs) (removed-tags e n (e .first) xs (g .tags)))
+
+  positive : (k : ℕ) → 1 ≤ k → k ≡ 0 → ⊥
+  positive k h z = omega arith
+
+  -- a tag
+  tagged-again : tag-for e told (length n) (removed e n xs) ≡ 0 → ⊥
+  unfolding tag-for
+  tagged-again z =
+      let long : ℕ = entry-size e (length n) in
+      let end : ℕ = end-tag e (e .first) (removed e n xs) in
+      let k : ℕ = suc (length (removed e n xs)) in
+      let m : k ≡ length xs = removed-length e n xs (tests .2) in
+      by-cases (in-block told (end + long) k)
+      (λ a. positive end end-least (rw a at z))
+      (λ a.
+      let b : in-block told end k ≡ true = less-in-block told _ _ _ _ (removed-end e n (e .first) xs (g .tags)) (omega arith) (g .within) in
+      by-cases (last-of e n xs)
+      (λ l. clash (less-in-block told _ _ _ _ (room .behind l) (omega arith) (g .within)) a)
+      (λ l. positive (gap-tag e long (e .first) (removed e n xs)) (room .between l) (rw (a, b) at z)))
+
+  pub back-in : insert-code e told fork n kind (number-in e n xs) p (removed e n xs) ≡ 0
+  unfolding insert-code has-room inserted numbers-ok
+  back-in =
+      let t : ℕ = tag-for e told (length n) (removed e n xs) in
+      let s : length (lay e p (placed (entry t n kind (number-in e n xs)) (removed e n xs))) ≤ fork = omega (arith, size t) in
+      let j : legal-number (number-in e n xs) ≡ true = number-legal e n xs (tests .2) (and-right (legal-number p) _ (g .numbers)) in
+      rw (tests .0, j, tests .1, gone, ne-eqb t 0 tagged-again, le-leb _ _ s) refl

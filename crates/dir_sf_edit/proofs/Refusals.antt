@@ -1,0 +1,108 @@
+-- What a removal answers, test by test, and the directory without the entry, from what the search found.
+-- Assumes nothing.
+use Prim.Native.Nat.{ℕ, _+_, _-_, _≤_}
+use native.Mathlib.Omega.{arith}
+use mathlib.Core.Bool.{Bool, true, false, not, cond, _&&_}
+use mathlib.Core.Path.{_≡_, refl, sym, _∙_, ap, ap₂, subst}
+use mathlib.Core.List.{List, [], _∷_}
+use lib.Dec.{eqb}
+use lib.ListN.{length}
+use borrow.Author.Tests.{not-true, not-false}
+use Rattle.be.specs.Bytes.{byte, put}
+use Rattle.be.proofs.Bools.{by-cases, clash}
+use Rattle.edition.specs.declared.Edition.{Edition}
+use Rattle.name.specs.Name.{legal-name, same-name, fixed-name}
+use Rattle.dir_sf.specs.Entry.{Entry, is-wide, wides-of}
+use Rattle.dir_sf.specs.Fork.{Readable, laid, lay, count-of, stored-wides, parent, entries, holds}
+use Rattle.dir_sf.specs.Change.{number-in, seek, without-nth, removed, narrows, remove-code}
+use Rattle.dir_sf_edit.proofs.Removes.{removed-length, removed-wide}
+use Rattle.dir_sf.proofs.Listed.{count-is}
+
+-- the first entry of the name left out: the one that the search finds
+removed-nth : (e : Edition) (n : List ℕ) (xs : List Entry) → holds e n xs ≡ true → removed e n xs ≡ without-nth (seek e n xs) xs
+unfolding removed holds seek without-nth
+removed-nth e n [] h = absurd (clash h refl)
+removed-nth e n (x ∷ xs) h =
+    by-cases (same-name e n (x .name)) (λ q. rw q refl) (λ q. rw q (ap (λ (l : List Entry). x ∷ l) (removed-nth e n xs (rw q at h))))
+
+module _ (e : Edition) (u n : List ℕ) (r : Readable e u) (there : holds e n (entries e u) ≡ true) (wides i one : ℕ) (b : wides ≡ byte 1 u)
+    (f : i ≡ number-in e n (entries e u)) (g : one ≡ cond (is-wide i) 1 0) where
+  less : wides ≡ one + wides-of (parent u) (removed e n (entries e u))
+  unfolding stored-wides
+  less =
+      b ∙ r .wides ∙ removed-wide e n (parent u) (entries e u) there
+      ∙ ap (λ (z : ℕ). z + wides-of (parent u) (removed e n (entries e u))) (ap (λ (z : ℕ). cond (is-wide z) 1 0) (sym f) ∙ sym g)
+
+  pub one-within : one ≤ wides
+  one-within = omega (arith, less)
+
+  after-is : wides - one ≡ wides-of (parent u) (removed e n (entries e u))
+  after-is = omega (arith, less)
+
+  fewer : length (removed e n (entries e u)) ≡ count-of u - 1
+  fewer = omega (arith, removed-length e n (entries e u) there, count-is e u)
+
+  module _ (index : ℕ) (s : index ≡ seek e n (entries e u)) where
+    lay-is : laid e (count-of u - 1) (wides - one) (parent u) (without-nth index (entries e u)) ≡ lay e (parent u) (removed e n (entries e u))
+    unfolding lay
+    lay-is =
+        sym (ap₂ (λ (c₁ c₂ : ℕ). laid e c₁ c₂ (parent u) (removed e n (entries e u))) fewer (sym after-is)
+        ∙ ap (laid e (count-of u - 1) (wides - one) (parent u)) (removed-nth e n (entries e u) there ∙ ap (λ (j : ℕ). without-nth j (entries e u)) (sym s)))
+
+    pub shrink-room : (T : ℕ) → length (lay e (parent u) (removed e n (entries e u))) ≤ T
+        → length (laid e (count-of u - 1) (wides - one) (parent u) (without-nth index (entries e u))) ≤ T
+    shrink-room T h = subst (λ (l : List ℕ). length l ≤ T) (sym lay-is) h
+
+    pub shrink-bytes : (t t₁ : List ℕ) → t₁ ≡ put t 0 (laid e (count-of u - 1) (wides - one) (parent u) (without-nth index (entries e u)))
+        → t₁ ≡ put t 0 (lay e (parent u) (removed e n (entries e u)))
+    shrink-bytes t t₁ h = h ∙ ap (put t 0) lay-is
+
+    pub shrink-size : (z : ℕ) → z ≡ length (laid e (count-of u - 1) (wides - one) (parent u) (without-nth index (entries e u)))
+        → z ≡ length (lay e (parent u) (removed e n (entries e u)))
+    shrink-size z h = h ∙ ap length lay-is
+
+  narrows-is : (t : Bool) (q : ℕ) → q ≡ parent u → t ≡ (not (eqb wides 0) && eqb (wides - one) 0 && is-wide q)
+      → narrows (parent u) (entries e u) (removed e n (entries e u)) ≡ t
+  unfolding narrows stored-wides
+  narrows-is t q k h =
+      let w : wides-of (parent u) (entries e u) ≡ wides = sym (r .wides) ∙ sym b in
+      ap₂ (λ (x₁ x₂ : ℕ). not (eqb x₁ 0) && eqb x₂ 0 && is-wide (parent u)) w (sym after-is)
+      ∙ ap (λ (x : ℕ). not (eqb wides 0) && eqb (wides - one) 0 && is-wide x) (sym k) ∙ sym h
+
+-- ---- the answer
+
+module _ (e : Edition) (n : List ℕ) (p : ℕ) (xs : List Entry) (t₁ : Bool) (h₁ : t₁ ≡ legal-name e n) where
+  pub remove-11 : not t₁ ≡ true → _≡_ {A = ℕ} 11 (remove-code e n p xs)
+  unfolding remove-code
+  remove-11 f = sym (rw (sym h₁ ∙ not-true t₁ f) refl)
+
+  module _ (g₁ : not t₁ ≡ false) (t₂ : Bool) (h₂ : t₂ ≡ fixed-name n) where
+    pub remove-12 : t₂ ≡ true → _≡_ {A = ℕ} 12 (remove-code e n p xs)
+    unfolding remove-code
+    remove-12 f = sym (rw (sym h₁ ∙ not-false t₁ g₁, sym h₂ ∙ f) refl)
+
+    module _ (g₂ : t₂ ≡ false) (t₃ : Bool) (h₃ : t₃ ≡ holds e n xs) where
+      pub remove-13 : not t₃ ≡ true → _≡_ {A = ℕ} 13 (remove-code e n p xs)
+      unfolding remove-code
+      remove-13 f = sym (rw (sym h₁ ∙ not-false t₁ g₁, sym h₂ ∙ g₂, sym h₃ ∙ not-true t₃ f) refl)
+
+      remove-last : (t₄ : Bool) → not t₃ ≡ false → narrows p xs (removed e n xs) ≡ t₄ → cond t₄ 16 0 ≡ remove-code e n p xs
+      unfolding remove-code
+      remove-last t₄ f k = sym (rw (sym h₁ ∙ not-false t₁ g₁, sym h₂ ∙ g₂, sym h₃ ∙ not-false t₃ f, k) (by-cases t₄ (λ q. rw q refl) (λ q. rw q refl)))
+
+pub held-of : (e : Edition) (n : List ℕ) (xs : List Entry) (t : Bool) → t ≡ holds e n xs → not t ≡ false → holds e n xs ≡ true
+held-of e n xs t h f = sym h ∙ not-false t f
+
+module _ (e : Edition) (u n : List ℕ) (r : Readable e u) (t₁ t₂ t₃ : Bool) (h₁ : t₁ ≡ legal-name e n) (g₁ : not t₁ ≡ false) (h₂ : t₂ ≡ fixed-name n) (g₂ : t₂ ≡ false)
+    (h₃ : t₃ ≡ holds e n (entries e u)) (g₃ : not t₃ ≡ false) (wides i one q : ℕ) (b : wides ≡ byte 1 u) (f : i ≡ number-in e n (entries e u))
+    (g : one ≡ cond (is-wide i) 1 0) (k : q ≡ parent u) (t : Bool) (h : t ≡ (not (eqb wides 0) && eqb (wides - one) 0 && is-wide q)) where
+  last : cond t 16 0 ≡ remove-code e n (parent u) (entries e u)
+  last =
+      remove-last e n (parent u) (entries e u) t₁ h₁ g₁ t₂ h₂ g₂ t₃ h₃ t g₃
+      (narrows-is e u n r (held-of e n (entries e u) t₃ h₃ g₃) wides i one b f g t q k h)
+
+  pub remove-16 : t ≡ true → _≡_ {A = ℕ} 16 (remove-code e n (parent u) (entries e u))
+  remove-16 z = sym (ap (λ (x : Bool). cond x 16 0) z) ∙ last
+
+  pub remove-0 : t ≡ false → _≡_ {A = ℕ} 0 (remove-code e n (parent u) (entries e u))
+  remove-0 z = sym (ap (λ (x : Bool). cond x 16 0) z) ∙ last

@@ -1,0 +1,17 @@
+use borrow.Author.Needs.{needs}
+use Rattle.dir_sf_edit.proofs.Insertions.{rank-in, wides-small, grow-room, grow-bytes, grow-size}
+use Rattle.dir_sf_edit.proofs.grow.Statement.{statement}
+use Rattle.dir_sf_edit.proofs.grow.Tie as tie
+
+pub grow-spec : {M : Type 1} → statement M
+grow-spec =
+    tie.close
+    (tie.spec
+    (λ c κs. search needs)
+    (λ c κs. search needs)
+    (λ c κs. search needs)
+    (λ c κs. search needs)
+    (λ c. search needs)
+    (λ c κs. (search needs, search needs, search (needs, rank-in), search needs, search needs, search (needs, wides-small), search needs, search (needs, grow-room)))
+    (λ c. search needs)
+    (λ c. (search (needs, grow-bytes), search (needs, grow-size))))

@@ -1,0 +1,22 @@
+use borrow.Author.Needs.{needs}
+use Rattle.dir_sf_edit.proofs.Insertions.{insert-name, insert-asked, insert-12, insert-14, insert-no-tag, insert-no-fit, insert-0, short-name}
+use Rattle.dir_sf_edit.proofs.insertion_code.Statement.{statement}
+use Rattle.dir_sf_edit.proofs.insertion_code.Tie as tie
+
+pub insertion-code-spec : {M : Type 1} → statement M
+insertion-code-spec =
+    tie.close
+    (tie.spec
+    (λ c κs. search needs)
+    (λ c. search (needs, insert-name))
+    (λ c κs. search needs)
+    (λ c. search (needs, insert-asked))
+    (λ c κs. search needs)
+    (λ c. search (needs, insert-12))
+    (λ c κs. search needs)
+    (λ c. search (needs, insert-14))
+    (λ c κs. (search needs, search needs, search (needs, short-name)))
+    (λ c. search (needs, insert-no-tag))
+    (λ c κs. (search needs, search needs, search needs, search (needs, short-name), search needs))
+    (λ c. search (needs, insert-no-fit))
+    (λ c. search (needs, insert-0)))
