@@ -13,12 +13,13 @@ use borrow.Author.Tests.{ne-eqb}
 use Rattle.be.specs.Bytes.{put}
 use Rattle.be.proofs.Bools.{by-cases}
 use Rattle.be.proofs.Writes.{put-whole, put-same}
+use Rattle.be.specs.Codes.{and-then}
 use Rattle.edition.specs.declared.Edition.{Edition}
 use Rattle.dinode.specs.Core.{attr-start, attr-fork}
 use Rattle.dinode.specs.declared.Fork.the-variants.{At, Refused}
 use Rattle.attr_sf.specs.Entry.{Entry, others}
 use Rattle.attr_sf.specs.Fork.{stored}
-use Rattle.attr_sf.specs.Calls.{and-then, asked-code, fork-if, held-code, found-code, room-code, set-entries, set-code, fork-changed, changed, after-remove, after-set}
+use Rattle.attr_sf.specs.Calls.{asked-code, fork-if, held-code, found-code, room-code, set-entries, set-code, fork-changed, changed, after-remove, after-set}
 use Rattle.attr_sf.proofs.InodeTests.{lent-fork, if-passed, if-refused}
 
 -- the part from a place on was lent, and came back

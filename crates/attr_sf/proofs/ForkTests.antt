@@ -12,36 +12,36 @@ use Rattle.be.specs.Lists.{every}
 use Rattle.be.specs.Bytes.{byte, field}
 use Rattle.be.proofs.Bools.{by-cases, and-left, and-right}
 use Rattle.attr_sf.specs.Entry.{distinct}
-use Rattle.attr_sf.specs.Fork.{header, totsize, count, stored, entries, tiled, name-legal-of, flags-legal-of, own-code, span-good, tile-good, names-good, flags-good, twice-good, fork-code}
+use Rattle.attr_sf.specs.Fork.{header, totsize, count, stored, entries, tiled, name-legal-of, flags-legal-of, own-code, span-ok, tile-ok, names-ok, flags-ok, once-ok, fork-code}
 
 module _ (f : List ℕ) where
   pub span-short : length f < header → 4 ≡ fork-code f
-  unfolding fork-code span-good
+  unfolding fork-code span-ok
   span-short h = rw (lt-leb header (length f) h)
 
   module _ {end : ℕ} (e : end ≡ field 0 2 f) (h : header ≤ length f) where
     pub span-low : end < header → 4 ≡ fork-code f
-    unfolding fork-code span-good totsize
+    unfolding fork-code span-ok totsize
     span-low k = rw (← e, le-leb header (length f) h, lt-leb header end k)
 
     module _ (k : header ≤ end) where
       pub span-over : length f < end → 4 ≡ fork-code f
-      unfolding fork-code span-good totsize
+      unfolding fork-code span-ok totsize
       span-over l = rw (← e, le-leb header (length f) h, le-leb header end k, lt-leb end (length f) l)
 
       module _ {n : ℕ} (m : n ≡ byte 2 f) (l : end ≤ length f) where
-        span-is : span-good f ≡ true
-        unfolding span-good totsize
+        span-is : span-ok f ≡ true
+        unfolding span-ok totsize
         span-is = rw (← e, le-leb header (length f) h, le-leb header end k, le-leb end (length f) l)
 
         pub not-tiled : tiled f end n header ≡ false → 5 ≡ fork-code f
-        unfolding fork-code tile-good totsize count
+        unfolding fork-code tile-ok totsize count
         not-tiled t = rw (span-is, ← e, ← m, t)
 
         module _ (t : tiled f end n header ≡ true) where
           -- what is left to test once the entries tile
           rest-is : cond (every name-legal-of (entries f n header)) (cond (every flags-legal-of (entries f n header)) (cond (distinct (entries f n header)) 0 10) 7) 6 ≡ fork-code f
-          unfolding fork-code tile-good names-good flags-good twice-good totsize count stored
+          unfolding fork-code tile-ok names-ok flags-ok once-ok totsize count stored
           rest-is = rw (span-is, ← e, ← m, t)
 
           module _ {r : ℕ} (q : r ≡ own-code (entries f n header)) where
@@ -79,34 +79,34 @@ five false b d g h q = absurd (omega arith)
 
 -- what a fork that passes is known to have
 module _ (f : List ℕ) (z : fork-code f ≡ 0) where
-  passes : ((span-good f ≡ true) × (tile-good f ≡ true)) × ((names-good f ≡ true) × ((flags-good f ≡ true) × (twice-good f ≡ true)))
+  passes : ((span-ok f ≡ true) × (tile-ok f ≡ true)) × ((names-ok f ≡ true) × ((flags-ok f ≡ true) × (once-ok f ≡ true)))
   unfolding fork-code
-  passes = five (span-good f) (tile-good f) (names-good f) (flags-good f) (twice-good f) z
+  passes = five (span-ok f) (tile-ok f) (names-ok f) (flags-ok f) (once-ok f) z
 
   pub long : header ≤ length f
-  unfolding span-good
+  unfolding span-ok
   long = leb-true _ _ (and-left (leb header (length f)) _ (passes .0 .0))
 
   pub end-above : header ≤ totsize f
-  unfolding span-good
+  unfolding span-ok
   end-above = leb-true _ _ (and-left (leb header (totsize f)) _ (and-right (leb header (length f)) _ (passes .0 .0)))
 
   pub end-inside : totsize f ≤ length f
-  unfolding span-good
+  unfolding span-ok
   end-inside = leb-true _ _ (and-right (leb header (totsize f)) _ (and-right (leb header (length f)) _ (passes .0 .0)))
 
   pub all-tiled : tiled f (totsize f) (count f) header ≡ true
-  unfolding tile-good
+  unfolding tile-ok
   all-tiled = passes .0 .1
 
   pub all-named : every name-legal-of (stored f) ≡ true
-  unfolding names-good
+  unfolding names-ok
   all-named = passes .1 .0
 
   pub all-flagged : every flags-legal-of (stored f) ≡ true
-  unfolding flags-good
+  unfolding flags-ok
   all-flagged = passes .1 .1 .0
 
   pub all-once : distinct (stored f) ≡ true
-  unfolding twice-good
+  unfolding once-ok
   all-once = passes .1 .1 .1

@@ -9,7 +9,9 @@ use lib.Dec.{eqb}
 use lib.ListN.{length, take, drop, length-drop}
 use lib.Seq.{take-all}
 use borrow.Author.Tests.{ne-eqb, eqb-true, eqb-false}
+use Rattle.be.proofs.Codes.{both}
 use Rattle.be.proofs.Bools.{by-cases, and-left, and-right}
+use Rattle.be.specs.Codes.{and-then}
 use Rattle.edition.specs.declared.Edition.{Edition}
 use Rattle.name.specs.Name.{legal-attr-name}
 use Rattle.name.proofs.Legality.{attr-bounds}
@@ -19,13 +21,8 @@ use Rattle.dinode.specs.declared.Fork.the-variants.{At, Refused}
 use Rattle.dinode.proofs.Sound.{attributes-sound, sound-size, sound-fits}
 use Rattle.attr_sf.specs.Entry.{legal-key, legal-flags}
 use Rattle.attr_sf.specs.Fork.{fork-code}
-use Rattle.attr_sf.specs.Calls.{and-then, attr-code, asked-code, fork-if}
+use Rattle.attr_sf.specs.Calls.{attr-code, asked-code, fork-if}
 use Rattle.attr_sf.proofs.FlagsLaw.{flags-low}
-
--- tests, and others behind them: all have passed
-pub both : (n k : ℕ) → and-then n k ≡ 0 → (n ≡ 0) × (k ≡ 0)
-both n k h =
-    by-cases (eqb n 0) (λ q. (eqb-true n 0 q, rw q at h)) (λ q. absurd (eqb-false n 0 q (rw q at h)))
 
 -- one test has passed
 pub holds : (k : Bool) (n : ℕ) → 0 < n → _≡_ {A = ℕ} (cond k 0 n) 0 → k ≡ true

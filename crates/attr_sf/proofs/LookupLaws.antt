@@ -9,21 +9,21 @@ use lib.Dec.{eqb}
 use lib.ListN.{length, take, drop}
 use borrow.Author.Tests.{eqb-true, eqb-false, ne-eqb, ltb-true}
 use Rattle.be.specs.Lists.{some-of, keep}
-use Rattle.be.proofs.Bools.{by-cases}
+use Rattle.be.proofs.Bools.{by-cases, neither, keep-append}
 use Rattle.edition.specs.declared.Edition.{Edition}
-use Rattle.dinode.specs.Core.{inode-size, magic-good, kind-good, attributes-good, inode-code, attributes-code, attr-start, attr-fork}
+use Rattle.dinode.specs.Core.{inode-size, magic-ok, kind-ok, attributes-ok, inode-code, attributes-code, attr-start, attr-fork}
 use Rattle.dinode.specs.declared.Fork.the-variants.{At as Fork-at, Refused as Fork-refused}
 use Rattle.attr_sf.specs.declared.Place.{Place}
 use Rattle.attr_sf.specs.declared.Place.the-variants.{At, Refused}
 use Rattle.attr_sf.specs.Entry.{Entry, is-key, legal-key}
-use Rattle.attr_sf.specs.Fork.{header, totsize, count, stored, entry-at, place-of, fork-code, span-good, tile-good, names-good, flags-good, twice-good}
-use Rattle.attr_sf.specs.Calls.{attr-code, fork-if, asked-code, held, held-code, found-code, attr-at, found-in, looked-up, code-of, part-of}
+use Rattle.attr_sf.specs.Fork.{header, totsize, count, stored, entry-at, place-of, fork-code, span-ok, tile-ok, names-ok, flags-ok, once-ok}
+use Rattle.attr_sf.specs.Calls.{attr-code, fork-if, asked-code, held, held-code, found-code, attr-at, found-in, looked-up, place-code, part-of}
 use Rattle.attr_sf.specs.Laws.{Found-law, Absent-law}
 use Rattle.attr_sf.proofs.Tiling.{seek-some}
 use Rattle.attr_sf.proofs.ForkTests.{all-tiled}
 use Rattle.attr_sf.proofs.InodeTests.{inode-passed, fork-passed, fork-length, tests-passed, lent-fork, if-passed, if-refused}
 use Rattle.attr_sf.proofs.Seeking.{at-never, found-inside}
-use Rattle.attr_sf.proofs.OtherEntries.{or-left-false, or-right-false, others-none}
+use Rattle.attr_sf.proofs.OtherEntries.{others-none}
 use Rattle.attr_sf.proofs.AroundEntry.{splits}
 use Rattle.attr_sf.proofs.EntryParts.{parts-law, part-at-is}
 
@@ -38,16 +38,11 @@ code-among (x ∷ xs) = 0
 module _ (p : Entry → Bool) where
   pub keep-none : (xs : List Entry) → some-of p xs ≡ false → keep p xs ≡ []
   keep-none [] h = refl
-  keep-none (x ∷ xs) h = rw (or-left-false (p x) _ h, keep-none xs (or-right-false (p x) _ h))
-
-  pub keep-append : (xs ys : List Entry) → keep p (xs ++ ys) ≡ keep p xs ++ keep p ys
-  keep-append [] ys = refl
-  keep-append (x ∷ xs) ys =
-      by-cases (p x) (λ q. rw q (ap (λ (l : List Entry). x ∷ l) (keep-append xs ys))) (λ q. rw q (keep-append xs ys))
+  keep-none (x ∷ xs) h = rw (neither (p x) _ h .0, keep-none xs (neither (p x) _ h .1))
 
   some-front : (xs ys : List Entry) → some-of p (xs ++ ys) ≡ false → some-of p xs ≡ false
   some-front [] ys h = refl
-  some-front (x ∷ xs) ys h = rw (or-left-false (p x) _ h) (some-front xs ys (or-right-false (p x) _ h))
+  some-front (x ∷ xs) ys h = rw (neither (p x) _ h .0) (some-front xs ys (neither (p x) _ h .1))
 
 module _ (f name : List ℕ) (flags : ℕ) (z : fork-code f ≡ 0) where
   pub held-some : held f name flags ≡ some-of (is-key name flags) (stored f)
@@ -101,7 +96,7 @@ module _ (e : Edition) (b name : List ℕ) (flags : ℕ) where
       (λ q. absurd (at-never (rw q at h)))
 
 -- its number
-pub code-is : (e : Edition) (b name : List ℕ) (flags : ℕ) → code-of (looked-up e b name flags) ≡ found-code e b name flags
+pub code-is : (e : Edition) (b name : List ℕ) (flags : ℕ) → place-code (looked-up e b name flags) ≡ found-code e b name flags
 unfolding looked-up found-in found-code held-code
 code-is e b name flags =
     by-cases (eqb (asked-code e b name flags) 0)
@@ -135,7 +130,7 @@ module _ (e : Edition) (b name : List ℕ) (flags : ℕ) (a : asked-code e b nam
       ∙ ap value-among (sym (kept-found (attr-fork e b) name flags z p)))
       (λ q. rw (looked-none q, kept-none (attr-fork e b) name flags z q))
 
-  pub code-by : code-of (looked-up e b name flags) ≡ code-among (keep (is-key name flags) (stored (attr-fork e b)))
+  pub code-by : place-code (looked-up e b name flags) ≡ code-among (keep (is-key name flags) (stored (attr-fork e b)))
   unfolding code-among found-code held-code
   code-by =
       code-is e b name flags
@@ -145,7 +140,7 @@ module _ (e : Edition) (b name : List ℕ) (flags : ℕ) (a : asked-code e b nam
 
 -- ---- a lookup that finds
 
-found-asked : (e : Edition) (b name : List ℕ) (flags : ℕ) → code-of (looked-up e b name flags) ≡ 0
+found-asked : (e : Edition) (b name : List ℕ) (flags : ℕ) → place-code (looked-up e b name flags) ≡ 0
     → (asked-code e b name flags ≡ 0) × (held (attr-fork e b) name flags ≡ true)
 unfolding looked-up found-in
 found-asked e b name flags h =
@@ -180,19 +175,19 @@ module _ (e : Edition) (b : List ℕ) where
   unfolding inode-code
   inode-le =
       cond-le (inode-size (length b)) _ 1 11
-      (cond-le (magic-good b) _ 2 11 (cond-le (kind-good e b) 0 3 11 (omega arith) (omega arith)) (omega arith)) (omega arith)
+      (cond-le (magic-ok b) _ 2 11 (cond-le (kind-ok e b) 0 3 11 (omega arith) (omega arith)) (omega arith)) (omega arith)
 
   attributes-le : attributes-code e b ≤ 11
   unfolding attributes-code
-  attributes-le = cond-le (eqb (inode-code e b) 0) _ (inode-code e b) 11 (cond-le (attributes-good b) 0 3 11 (omega arith) (omega arith)) inode-le
+  attributes-le = cond-le (eqb (inode-code e b) 0) _ (inode-code e b) 11 (cond-le (attributes-ok b) 0 3 11 (omega arith) (omega arith)) inode-le
 
   fork-le : (f : List ℕ) → fork-code f ≤ 11
   unfolding fork-code
   fork-le f =
-      cond-le (span-good f) _ 4 11
-      (cond-le (tile-good f) _ 5 11
-      (cond-le (names-good f) _ 6 11
-      (cond-le (flags-good f) _ 7 11 (cond-le (twice-good f) 0 10 11 (omega arith) (omega arith)) (omega arith)) (omega arith)) (omega arith)) (omega arith)
+      cond-le (span-ok f) _ 4 11
+      (cond-le (tile-ok f) _ 5 11
+      (cond-le (names-ok f) _ 6 11
+      (cond-le (flags-ok f) _ 7 11 (cond-le (once-ok f) 0 10 11 (omega arith) (omega arith)) (omega arith)) (omega arith)) (omega arith)) (omega arith)
 
   asked-le : (name : List ℕ) (flags : ℕ) → asked-code e b name flags ≤ 11
   unfolding asked-code attr-code
@@ -203,7 +198,7 @@ module _ (e : Edition) (b : List ℕ) where
 pub absent-law : Absent-law
 unfolding found-code held-code
 absent-law e b name flags h =
-    let n : found-code e b name flags ≡ 13 = sym (code-is e b name flags) ∙ ap code-of h in
+    let n : found-code e b name flags ≡ 13 = sym (code-is e b name flags) ∙ ap place-code h in
     by-cases (eqb (asked-code e b name flags) 0)
     (λ q.
     let z : fork-code (attr-fork e b) ≡ 0 = fork-passed e b (tests-passed e b name flags (eqb-true _ _ q)) in

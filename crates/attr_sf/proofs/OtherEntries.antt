@@ -9,20 +9,12 @@ use lib.Dec.{eqb}
 use lib.ListN.{length, length-append}
 use borrow.Author.Tests.{eq-eqb, eqb-true, not-true}
 use Rattle.be.specs.Lists.{every, some-of, same}
-use Rattle.be.proofs.Bools.{by-cases, and-left, and-right, and-both, clash}
+use Rattle.be.proofs.Bools.{by-cases, and-left, and-right, and-both, clash, neither}
 use Rattle.name.proofs.Same.{same-eq, same-refl}
 use Rattle.attr_sf.specs.Entry.{Entry, entry, is-key, distinct, others, entry-bytes, run}
 use Rattle.attr_sf.specs.Fork.{size-at, entry-at, entries, tiled, seek}
 use Rattle.attr_sf.proofs.Tiling.{tiled-end, tiled-fits, tiled-next}
 use Rattle.attr_sf.proofs.StoredBytes.{stored-size}
-
-pub or-left-false : (a b : Bool) → (a || b) ≡ false → a ≡ false
-or-left-false true b h = h
-or-left-false false b h = refl
-
-pub or-right-false : (a b : Bool) → (a || b) ≡ false → b ≡ false
-or-right-false true b h = absurd (clash refl h)
-or-right-false false b h = h
 
 -- an entry that has the name and the flags
 pub key-is : (name : List ℕ) (flags : ℕ) (e : Entry) → is-key name flags e ≡ true → (flags ≡ e .flags) × (name ≡ e .name)
@@ -39,7 +31,7 @@ module _ (name : List ℕ) (flags : ℕ) where
   unfolding others
   others-all [] h = refl
   others-all (e ∷ es) h =
-      rw (or-left-false (is-key name flags e) _ h, others-all es (or-right-false (is-key name flags e) _ h))
+      rw (neither (is-key name flags e) _ h .0, others-all es (neither (is-key name flags e) _ h .1))
 
   -- none of the others has them
   pub others-none : (es : List Entry) → some-of (is-key name flags) (others name flags es) ≡ false
@@ -60,8 +52,8 @@ module _ (name : List ℕ) (flags : ℕ) where
   unfolding others
   others-some p [] h = refl
   others-some p (e ∷ es) h =
-      let r : some-of p (others name flags es) ≡ false = others-some p es (or-right-false (p e) _ h) in
-      by-cases (is-key name flags e) (λ q. rw q r) (λ q. rw (q, or-left-false (p e) _ h) r)
+      let r : some-of p (others name flags es) ≡ false = others-some p es (neither (p e) _ h .1) in
+      by-cases (is-key name flags e) (λ q. rw q r) (λ q. rw (q, neither (p e) _ h .0) r)
 
   pub others-distinct : (es : List Entry) → distinct es ≡ true → distinct (others name flags es) ≡ true
   unfolding others distinct
@@ -90,10 +82,10 @@ pub distinct-more : (name : List ℕ) (flags : ℕ) (value : List ℕ) (es : Lis
 unfolding distinct
 distinct-more name flags value [] d n = refl
 distinct-more name flags value (e ∷ es) d n =
-    let k : is-key (e .name) (e .flags) (entry flags name value) ≡ false = key-turned name flags value e (or-left-false (is-key name flags e) _ n) in
+    let k : is-key (e .name) (e .flags) (entry flags name value) ≡ false = key-turned name flags value e (neither (is-key name flags e) _ n .0) in
     let s : some-of (is-key (e .name) (e .flags)) es ≡ false = not-true _ (and-left _ (distinct es) d) in
     let r : distinct (es ++ (entry flags name value ∷ [])) ≡ true =
-    distinct-more name flags value es (and-right (not (some-of (is-key (e .name) (e .flags)) es)) _ d) (or-right-false (is-key name flags e) _ n) in
+    distinct-more name flags value es (and-right (not (some-of (is-key (e .name) (e .flags)) es)) _ d) (neither (is-key name flags e) _ n .1) in
     rw (some-more (is-key (e .name) (e .flags)) (entry flags name value) es, s, k) r
   where
     some-more : (p : Entry → Bool) (x : Entry) (es : List Entry) → some-of p (es ++ (x ∷ [])) ≡ (some-of p es || p x)

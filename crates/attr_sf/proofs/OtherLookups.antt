@@ -6,7 +6,7 @@ use mathlib.Core.Path.{_≡_, refl, sym, _∙_, ap}
 use mathlib.Core.List.{List, [], _∷_, append-nil}
 use borrow.Author.Tests.{ne-eqb}
 use Rattle.be.specs.Lists.{keep}
-use Rattle.be.proofs.Bools.{by-cases, clash}
+use Rattle.be.proofs.Bools.{by-cases, clash, keep-append}
 use Rattle.edition.specs.declared.Edition.{Edition}
 use Rattle.dinode.specs.Core.{attr-fork}
 use Rattle.attr_sf.specs.Entry.{Entry, entry, is-key, others}
@@ -15,7 +15,7 @@ use Rattle.attr_sf.specs.Calls.{attr-code, asked-code, changed, after-se
 use Rattle.attr_sf.specs.Laws.{Alike, Unmoved-law, Refusal-law}
 use Rattle.attr_sf.proofs.InodeTests.{asked-legal, still-asked}
 use Rattle.attr_sf.proofs.OtherEntries.{key-own, key-is}
-use Rattle.attr_sf.proofs.LookupLaws.{value-among, code-among, keep-append, value-by, code-by}
+use Rattle.attr_sf.proofs.LookupLaws.{value-among, code-among, value-by, code-by}
 use Rattle.attr_sf.proofs.SetLaw.{set-law}
 use Rattle.attr_sf.proofs.RemovalLaw.{removal-law}
 

@@ -15,7 +15,7 @@ use Rattle.be.proofs.Bools.{and-left, and-right}
 use Rattle.be.proofs.Numbers.{length-to-be, be-to-be}
 use Rattle.be.proofs.Parts.{part-at, part-length, field-1}
 use Rattle.attr_sf.specs.Entry.{Entry, distinct, run}
-use Rattle.attr_sf.specs.Fork.{header, totsize, count, stored, tiled, name-legal-of, flags-legal-of, span-good, tile-good, names-good, flags-good, twice-good, fork-code, fork-with, fits}
+use Rattle.attr_sf.specs.Fork.{header, totsize, count, stored, tiled, name-legal-of, flags-legal-of, span-ok, tile-ok, names-ok, flags-ok, once-ok, fork-code, fork-with, fits}
 use Rattle.attr_sf.proofs.ReadBack.{read-entries, read-tiled}
 
 -- the header that is written
@@ -91,7 +91,7 @@ module _ (f : List ℕ) (es : List Entry) where
     with-tiled = rw (with-count, with-totsize, with-is) (read-tiled es (head-of f es) (unused f es) header (header + length (run es)) head-length refl)
 
     pub with-passes : every name-legal-of es ≡ true → every flags-legal-of es ≡ true → distinct es ≡ true → fork-code (fork-with f es) ≡ 0
-    unfolding fork-code span-good tile-good names-good flags-good twice-good
+    unfolding fork-code span-ok tile-ok names-ok flags-ok once-ok
     with-passes n g d =
         let a : leb header (length (fork-with f es)) ≡ true = le-leb header (length (fork-with f es)) (omega (arith, with-length)) in
         let b : leb header (totsize (fork-with f es)) ≡ true = le-leb header (totsize (fork-with f es)) (omega (arith, with-totsize)) in

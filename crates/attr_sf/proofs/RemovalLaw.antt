@@ -11,13 +11,14 @@ use Rattle.be.specs.Lists.{some-of}
 use Rattle.be.specs.Bytes.{bytes}
 use Rattle.be.proofs.Bools.{by-cases}
 use Rattle.be.proofs.Parts.{bytes-drop, field-lt, field-1}
+use Rattle.be.proofs.Codes.{both}
 use Rattle.dinode.specs.Core.{attr-start, attr-fork}
 use Rattle.attr_sf.specs.Entry.{Entry, entry-bytes, is-key, others, run}
 use Rattle.attr_sf.specs.Fork.{header, count, stored, fork-code, fits, name-legal-of, flags-legal-of}
 use Rattle.attr_sf.specs.Calls.{attr-code, asked-code, held-code, found-code, after-remove}
 use Rattle.attr_sf.specs.Laws.{Removal-law}
 use Rattle.attr_sf.proofs.ForkTests.{long, end-above, end-inside, all-named, all-flagged, all-once}
-use Rattle.attr_sf.proofs.InodeTests.{both, fork-passed, tests-passed, asked-legal, still-asked}
+use Rattle.attr_sf.proofs.InodeTests.{fork-passed, tests-passed, asked-legal, still-asked}
 use Rattle.attr_sf.proofs.OtherEntries.{others-none, others-every, others-distinct}
 use Rattle.attr_sf.proofs.AroundEntry.{number, body-length}
 use Rattle.attr_sf.proofs.LookupLaws.{absent-if}

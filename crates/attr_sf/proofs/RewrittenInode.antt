@@ -11,12 +11,12 @@ use Rattle.be.proofs.Parts.{field-1}
 use Rattle.be.proofs.Writes.{length-put, put-whole, take-put, part-before}
 use Rattle.edition.specs.Edition.{Sane}
 use Rattle.edition.specs.declared.Edition.{Edition}
-use Rattle.dinode.specs.Core.{magic-good, kind-good, attributes-good, inode-code, attributes-code, attr-start, attr-fork}
+use Rattle.dinode.specs.Core.{magic-ok, kind-ok, attributes-ok, inode-code, attributes-code, attr-start, attr-fork}
 use Rattle.attr_sf.proofs.InodeTests.{start-inside}
 
 same-core : (e : Edition) (b c : List ℕ) → length c ≡ length b → field 0 2 c ≡ field 0 2 b → byte 4 c ≡ byte 4 b → byte 82 c ≡ byte 82 b → byte 83 c ≡ byte 83 b
     → attributes-code e c ≡ attributes-code e b
-unfolding attributes-code inode-code magic-good kind-good attributes-good attr-start
+unfolding attributes-code inode-code magic-ok kind-ok attributes-ok attr-start
 same-core e b c l m v k a = rw (l, m, v, k, a)
 
 same-start : (e : Edition) (b c : List ℕ) → byte 82 c ≡ byte 82 b → attr-start e c ≡ attr-start e b

@@ -8,16 +8,17 @@ use mathlib.Core.List.{List, [], _∷_, _++_}
 use lib.Dec.{leb}
 use lib.ListN.{length}
 use Rattle.be.specs.Lists.{keep}
-use Rattle.be.proofs.Bools.{and-right}
+use Rattle.be.proofs.Bools.{and-right, keep-append}
+use Rattle.be.proofs.Codes.{both}
 use Rattle.dinode.specs.Core.{attr-fork}
 use Rattle.attr_sf.specs.Entry.{Entry, entry, is-key, others}
 use Rattle.attr_sf.specs.Fork.{stored, fork-code, fits, name-legal-of, flags-legal-of}
 use Rattle.attr_sf.specs.Calls.{attr-code, asked-code, room, room-code, set-entries, set-code, after-set}
 use Rattle.attr_sf.specs.Laws.{Set-law}
 use Rattle.attr_sf.proofs.ForkTests.{all-named, all-flagged, all-once}
-use Rattle.attr_sf.proofs.InodeTests.{both, holds, fork-passed, tests-passed, asked-legal, still-asked}
+use Rattle.attr_sf.proofs.InodeTests.{holds, fork-passed, tests-passed, asked-legal, still-asked}
 use Rattle.attr_sf.proofs.OtherEntries.{key-own, others-none, others-every, others-distinct, distinct-more, every-more}
-use Rattle.attr_sf.proofs.LookupLaws.{value-among, code-among, keep-none, keep-append, value-by, code-by}
+use Rattle.attr_sf.proofs.LookupLaws.{value-among, code-among, keep-none, value-by, code-by}
 use Rattle.attr_sf.proofs.RebuiltInode.{new-kept, new-stored}
 
 -- the new one is the only one with its name and flags

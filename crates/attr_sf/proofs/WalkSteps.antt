@@ -19,7 +19,7 @@ use Rattle.attr_sf.specs.declared.Walked.{Walked}
 use Rattle.attr_sf.specs.declared.Walked.the-variants.{Stepped, Refused}
 use Rattle.attr_sf.specs.Fork.{fork-code, header, totsize, count, size-at, tiled}
 use Rattle.attr_sf.specs.Calls.{attr-code, attr-at, fork-if}
-use Rattle.attr_sf.specs.Walk.{stands, live-step, end-step, step-in, walked-in, walked, step-code, step-number}
+use Rattle.attr_sf.specs.Walk.{stands, live-step, end-step, step-in, walked-in, walked, step-code, walked-code}
 use Rattle.attr_sf.proofs.Tiling.{tiled-fits, tiled-next, tiled-end}
 use Rattle.attr_sf.proofs.ForkTests.{all-tiled, end-inside}
 use Rattle.attr_sf.proofs.InodeTests.{lent-fork, if-passed, if-refused}
@@ -93,7 +93,7 @@ module _ (e : Edition) (b : List ℕ) (place : ℕ) where
   walked-refused n h = let z = if-refused e b (attr-code e b) n h in ap (λ (x : ℕ). Refused x) (z .0) ∙ rw (ne-eqb (attr-code e b) 0 (z .1))
 
   -- a step's number
-  pub step-is : step-number (walked e b place) ≡ step-code e b place
+  pub step-is : walked-code (walked e b place) ≡ step-code e b place
   unfolding walked walked-in step-code
   step-is =
       by-cases (eqb (attr-code e b) 0)

@@ -5,6 +5,7 @@ use mathlib.Core.Bool.{Bool, cond, _&&_}
 use mathlib.Core.List.{List, [], _∷_, _++_}
 use lib.Dec.{eqb, leb, ltb}
 use lib.ListN.{length}
+use Rattle.be.specs.Codes.{otherwise, and-then}
 use Rattle.be.specs.Bytes.{byte, part, put}
 use Rattle.edition.specs.declared.Edition.{Edition}
 use Rattle.dinode.specs.Core.{attributes-code, attr-start, attr-length, attr-fork}
@@ -16,10 +17,6 @@ use Rattle.attr_sf.specs.declared.Attr.{Attr}
 use Rattle.attr_sf.specs.declared.Place.{Place}
 use Rattle.attr_sf.specs.declared.Place.the-variants.{At, Refused}
 
--- Tests run in number order: the number of the tests that gave n and of those behind them, that give k
-abbrev pub and-then : ℕ → ℕ → ℕ
-and-then n k = cond (eqb n 0) k n
-
 -- ---- the tests
 
 -- the first test of the inode and its attribute fork that fails; 0 when none does
@@ -28,7 +25,7 @@ attr-code e b = and-then (attributes-code e b) (fork-code (attr-fork e b))
 
 -- 11 ASKED: the caller's name or flags are not legal
 unfoldable pub asked-code : Edition → List ℕ → List ℕ → ℕ → ℕ
-asked-code e b name flags = and-then (attr-code e b) (cond (legal-key name flags) 0 11)
+asked-code e b name flags = and-then (attr-code e b) (otherwise (legal-key name flags) 11 0)
 
 -- where the attribute fork lies, or the tests' number (inner: no public promise cites it)
 unfoldable pub fork-if : ℕ → Edition → List ℕ → Fork
@@ -42,7 +39,7 @@ held f name flags = ltb (place-of f name flags) (totsize f)
 
 -- 13 ABSENT: lookup or removal: no such live entry
 unfoldable pub held-code : List ℕ → List ℕ → ℕ → ℕ
-held-code f name flags = cond (held f name flags) 0 13
+held-code f name flags = otherwise (held f name flags) 13 0
 
 unfoldable pub found-code : Edition → List ℕ → List ℕ → ℕ → ℕ
 found-code e b name flags = and-then (asked-code e b name flags) (held-code (attr-fork e b) name flags)
@@ -69,9 +66,9 @@ looked-up e b name flags =
     cond (eqb (asked-code e b name flags) 0) (found-in (attr-start e b) (attr-fork e b) name flags) (Refused (asked-code e b name flags))
 
 -- a lookup's number, 0 where there is a value
-abbrev pub code-of : Place → ℕ
-code-of (At a n) = 0
-code-of (Refused k) = k
+abbrev pub place-code : Place → ℕ
+place-code (At a n) = 0
+place-code (Refused k) = k
 
 -- and the part of the inode that is handed back: an empty part, the first zero bytes, when valuelen is 0 or the request is refused
 abbrev pub start-of : Place → ℕ
@@ -96,7 +93,7 @@ unfoldable pub room : List ℕ → List ℕ → ℕ → List ℕ → Bool
 room f name flags value = leb (length value) 255 && fits f (set-entries name flags value (stored f))
 
 unfoldable pub room-code : List ℕ → List ℕ → ℕ → List ℕ → ℕ
-room-code f name flags value = cond (room f name flags value) 0 15
+room-code f name flags value = otherwise (room f name flags value) 15 0
 
 unfoldable pub set-code : Edition → List ℕ → List ℕ → ℕ → List ℕ → ℕ
 set-code e b name flags value = and-then (asked-code e b name flags) (room-code (attr-fork e b) name flags value)

@@ -5,6 +5,7 @@ use mathlib.Core.Bool.{Bool, cond, _&&_}
 use mathlib.Core.List.{List, [], _∷_, _++_}
 use lib.Dec.{eqb, leb}
 use lib.ListN.{length, replicate}
+use Rattle.be.specs.Codes.{otherwise}
 use Rattle.be.specs.Lists.{every}
 use Rattle.be.specs.Bytes.{byte, field, part, to-be}
 use Rattle.name.specs.Name.{legal-attr-name}
@@ -54,33 +55,37 @@ abbrev pub flags-legal-of : Entry → Bool
 flags-legal-of x = legal-flags (x .flags)
 
 -- 4 SPAN: fork under 4 bytes, totsize under 4 or over the fork
-unfoldable pub span-good : List ℕ → Bool
-span-good f = leb header (length f) && (leb header (totsize f) && leb (totsize f) (length f))
+unfoldable pub span-ok : List ℕ → Bool
+span-ok f = leb header (length f) && (leb header (totsize f) && leb (totsize f) (length f))
 
 -- 5 TILE: count entries use exactly totsize bytes
-unfoldable pub tile-good : List ℕ → Bool
-tile-good f = tiled f (totsize f) (count f) header
+unfoldable pub tile-ok : List ℕ → Bool
+tile-ok f = tiled f (totsize f) (count f) header
 
 -- 6 NAME: a stored name breaks the rules
-unfoldable pub names-good : List ℕ → Bool
-names-good f = every name-legal-of (stored f)
+unfoldable pub names-ok : List ℕ → Bool
+names-ok f = every name-legal-of (stored f)
 
 -- 7 NUMBER: an attribute's flags are wrong
-unfoldable pub flags-good : List ℕ → Bool
-flags-good f = every flags-legal-of (stored f)
+unfoldable pub flags-ok : List ℕ → Bool
+flags-ok f = every flags-legal-of (stored f)
 
 -- 6 and 7 of these entries, by number (inner: no public promise cites it)
 abbrev pub own-code : List Entry → ℕ
-own-code xs = cond (every name-legal-of xs) (cond (every flags-legal-of xs) 0 7) 6
+own-code xs = otherwise (every name-legal-of xs) 6 (otherwise (every flags-legal-of xs) 7 0)
 
 -- 10 TWICE: same name and flags
-unfoldable pub twice-good : List ℕ → Bool
-twice-good f = distinct (stored f)
+unfoldable pub once-ok : List ℕ → Bool
+once-ok f = distinct (stored f)
 
 -- the first test that fails, by its number; 0 when none does
 unfoldable pub fork-code : List ℕ → ℕ
 fork-code f =
-    cond (span-good f) (cond (tile-good f) (cond (names-good f) (cond (flags-good f) (cond (twice-good f) 0 10) 7) 6) 5) 4
+    otherwise (span-ok f) 4 (
+    otherwise (tile-ok f) 5 (
+    otherwise (names-ok f) 6 (
+    otherwise (flags-ok f) 7 (
+    otherwise (once-ok f) 10 0))))
 
 -- where the entry with this name and flags starts, among n entries from a place on; their end when none has them
 unfoldable pub seek : List ℕ → List ℕ → ℕ → ℕ → ℕ → ℕ

@@ -14,7 +14,7 @@ use Rattle.dinode.specs.Core.{attr-start, attr-fork}
 use Rattle.attr_sf.specs.Entry.{Entry, entry, legal-flags, is-key, others}
 use Rattle.attr_sf.specs.Fork.{header, stored, count, totsize, entry-at}
 use Rattle.attr_sf.specs.Walk.{walk, places, live-step, end-step}
-use Rattle.attr_sf.specs.Calls.{attr-code, asked-code, attr-at, looked-up, code-of, part-of, found-code, set-code, after-remove, after-set}
+use Rattle.attr_sf.specs.Calls.{attr-code, asked-code, attr-at, looked-up, place-code, part-of, found-code, set-code, after-remove, after-set}
 use Rattle.attr_sf.specs.declared.Walked.the-variants.{Stepped}
 use Rattle.attr_sf.specs.declared.Place.the-variants.{Refused}
 
@@ -43,7 +43,7 @@ pub record Set (e : Edition) (b name : List ℕ) (flags : ℕ) (value c : List �
   -- every other attribute is as before, in order, and the new one stands at the end
   pub rest : stored (attr-fork e c) ≡ others name flags (stored (attr-fork e b)) ++ (entry flags name value ∷ [])
   -- the lookup finds it, and gives exactly the value
-  pub there : code-of (looked-up e c name flags) ≡ 0
+  pub there : place-code (looked-up e c name flags) ≡ 0
   pub given : part-of c (looked-up e c name flags) ≡ value
 
 -- what a slice holds is bytes, always
@@ -57,7 +57,7 @@ Set-law = (e : Edition) → Sane e → (b name : List ℕ) (flags : ℕ) (value 
 
 -- a set or a removal of one attribute changes no other lookup's answer
 pub record Alike (e : Edition) (b c m : List ℕ) (h : ℕ) : Type 0 where
-  pub number : code-of (looked-up e c m h) ≡ code-of (looked-up e b m h)
+  pub number : place-code (looked-up e c m h) ≡ place-code (looked-up e b m h)
   pub value : part-of c (looked-up e c m h) ≡ part-of b (looked-up e b m h)
 
 abbrev pub Unmoved-law : Type 0
@@ -84,7 +84,7 @@ pub record Found (e : Edition) (b name : List ℕ) (flags : ℕ) : Type 0 where
   pub value : part-of b (looked-up e b name flags) ≡ mid .value
 
 abbrev pub Found-law : Type 0
-Found-law = (e : Edition) (b name : List ℕ) (flags : ℕ) → code-of (looked-up e b name flags) ≡ 0 → Found e b name flags
+Found-law = (e : Edition) (b name : List ℕ) (flags : ℕ) → place-code (looked-up e b name flags) ≡ 0 → Found e b name flags
 
 -- an absent answer means that no stored entry has the name and the flags
 abbrev pub Absent-law : Type 0

@@ -4,10 +4,11 @@ use Prim.Native.Nat.{ℕ, zero, suc, _+_}
 use mathlib.Core.Bool.{Bool, true, false, cond, _||_}
 use mathlib.Core.List.{List, [], _∷_}
 use lib.Dec.{eqb}
+use Rattle.be.specs.Codes.{and-then, otherwise}
 use Rattle.edition.specs.declared.Edition.{Edition}
 use Rattle.dinode.specs.Core.{attr-start, attr-fork}
 use Rattle.attr_sf.specs.Fork.{header, totsize, count, size-at}
-use Rattle.attr_sf.specs.Calls.{and-then, attr-code, attr-at}
+use Rattle.attr_sf.specs.Calls.{attr-code, attr-at}
 use Rattle.attr_sf.specs.declared.Seen.{Seen}
 use Rattle.attr_sf.specs.declared.Seen.the-variants.{Live, End}
 use Rattle.attr_sf.specs.declared.Step.{Step}
@@ -21,7 +22,7 @@ stands f place (suc n) at = eqb place at || stands f place n (at + size-at f at)
 
 -- 11 ASKED: the walk place is not legal, judged after the tests
 unfoldable pub step-code : Edition → List ℕ → ℕ → ℕ
-step-code e b place = and-then (attr-code e b) (cond (stands (attr-fork e b) place (count (attr-fork e b)) header) 0 11)
+step-code e b place = and-then (attr-code e b) (otherwise (stands (attr-fork e b) place (count (attr-fork e b)) header) 11 0)
 
 -- a step at an entry of the fork that starts at s
 unfoldable pub live-step : ℕ → List ℕ → ℕ → Step
@@ -42,9 +43,9 @@ unfoldable pub walked : Edition → List ℕ → ℕ → Walked
 walked e b place = cond (eqb (attr-code e b) 0) (walked-in (attr-start e b) (attr-fork e b) place) (Refused (attr-code e b))
 
 -- a step's number, 0 where it is done
-abbrev pub step-number : Walked → ℕ
-step-number (Stepped s) = 0
-step-number (Refused k) = k
+abbrev pub walked-code : Walked → ℕ
+walked-code (Stepped s) = 0
+walked-code (Refused k) = k
 
 -- whether a walk goes on after an answer, and from where
 abbrev pub is-live : Seen → Bool

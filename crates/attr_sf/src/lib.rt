@@ -8,8 +8,8 @@ ghost use Rattle.be.specs.Lists.{some-of};
 ghost use Rattle.edition.specs.Edition.{v4, Sane};
 ghost use Rattle.attr_sf.specs.Entry.{entry, entry-bytes, legal-flags, legal-key, is-key, distinct, others};
 ghost use Rattle.attr_sf.specs.Fork.{header, totsize, stored, size-at, entry-at, entries, tiled, name-legal-of, flags-legal-of, own-code, fork-code, seek, place-of};
-ghost use Rattle.attr_sf.specs.Calls.{attr-code, asked-code, fork-if, found-in, looked-up, code-of, start-of, length-of, part-of, held-code, found-code, room-code, set-code, set-entries, fork-changed, after-remove, after-set};
-ghost use Rattle.attr_sf.specs.Walk.{stands, live-step, walked-in, walked, step-code, step-number};
+ghost use Rattle.attr_sf.specs.Calls.{attr-code, asked-code, fork-if, found-in, looked-up, place-code, start-of, length-of, part-of, held-code, found-code, room-code, set-code, set-entries, fork-changed, after-remove, after-set};
+ghost use Rattle.attr_sf.specs.Walk.{stands, live-step, walked-in, walked, step-code, walked-code};
 ghost use Rattle.attr_sf.specs.Plan.{plan-of};
 use dinode::Fork;
 use edition::Edition;
@@ -104,7 +104,7 @@ fn tiles(f: &[u8], n: usize, end: usize) -> bool
 }
 
 // Whether the entry at a place has a legal name.
-fn name_good(f: &[u8], at: usize) -> bool
+fn name_ok(f: &[u8], at: usize) -> bool
     requires { ⌜ at + size-at (now f) at ≤ length (now f) ⌝ }
     ensures { λ r. ⌜ r ≡ name-legal-of (entry-at (now (f .entry)) at) ⌝ }
 {
@@ -114,7 +114,7 @@ fn name_good(f: &[u8], at: usize) -> bool
 }
 
 // Whether its flags are legal.
-fn flags_good(f: &[u8], at: usize) -> bool
+fn flags_ok(f: &[u8], at: usize) -> bool
     requires { ⌜ at + 3 ≤ length (now f) ⌝ }
     ensures { λ r. ⌜ r ≡ flags-legal-of (entry-at (now (f .entry)) at) ⌝ }
 {
@@ -143,10 +143,10 @@ fn faults(f: &[u8], n: usize, end: usize) -> usize
     let mut at = HEADER;
     let mut flagged = true;
     while 0 < left {
-        if !name_good(f, at) {
+        if !name_ok(f, at) {
             return 6;
         }
-        flagged = flagged & flags_good(f, at);
+        flagged = flagged & flags_ok(f, at);
         at += size(f, at);
         left -= 1;
     }
@@ -322,7 +322,7 @@ fn look<'a, 'b>(e: Edition, b: &'a [u8], name: &'b [u8], flags: usize) -> Place
 
 // Looks an attribute up: where its value lies in the inode, or the refusal.
 pub fn lookup<'a, 'b>(b: &'a [u8], name: &'b [u8], flags: usize) -> Place
-    ensures { λ r. ⌜ (r ≡ looked-up v4 (now (b .entry)) (now (name .entry)) flags) × (code-of r ≡ found-code v4 (now (b .entry)) (now (name .entry)) flags) ⌝ }
+    ensures { λ r. ⌜ (r ≡ looked-up v4 (now (b .entry)) (now (name .entry)) flags) × (place-code r ≡ found-code v4 (now (b .entry)) (now (name .entry)) flags) ⌝ }
 {
     look(V4::edition(), b, name, flags)
 }
@@ -414,7 +414,7 @@ fn walk_on(e: Edition, b: &[u8], place: usize) -> Walked
 
 // One step of the walk over an inode's attributes, from a place that is counted from the fork's start.
 pub fn step_at(b: &[u8], place: usize) -> Walked
-    ensures { λ r. ⌜ (r ≡ walked v4 (now (b .entry)) place) × (step-number r ≡ step-code v4 (now (b .entry)) place) ⌝ }
+    ensures { λ r. ⌜ (r ≡ walked v4 (now (b .entry)) place) × (walked-code r ≡ step-code v4 (now (b .entry)) place) ⌝ }
 {
     walk_on(V4::edition(), b, place)
 }

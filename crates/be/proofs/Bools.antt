@@ -1,9 +1,9 @@
 -- Tests as facts: what a test that passes shows, over Bools and over the elements of a list.
 -- Assumes nothing.
-use mathlib.Core.Bool.{Bool, true, false, _&&_, true≢false, false≢true}
-use mathlib.Core.Path.{_≡_, refl, sym, _∙_}
+use mathlib.Core.Bool.{Bool, true, false, _&&_, _||_, true≢false, false≢true}
+use mathlib.Core.Path.{_≡_, refl, sym, _∙_, ap}
 use mathlib.Core.List.{List, [], _∷_, _++_}
-use Rattle.be.specs.Lists.{every}
+use Rattle.be.specs.Lists.{every, keep}
 
 pub and-left : (a b : Bool) → (a && b) ≡ true → a ≡ true
 and-left true b h = refl
@@ -16,6 +16,33 @@ and-right false b h = absurd (false≢true h)
 pub and-both : (a b : Bool) → a ≡ true → b ≡ true → (a && b) ≡ true
 and-both true b p q = q
 and-both false b p q = p
+
+pub not-left : (a b : Bool) → a ≡ false → (a && b) ≡ false
+not-left a b h = rw h
+
+pub not-right : (a b : Bool) → b ≡ false → (a && b) ≡ false
+not-right true b h = h
+not-right false b h = refl
+
+pub or-left : (a b : Bool) → a ≡ true → (a || b) ≡ true
+or-left a b h = rw h
+
+pub or-right : (a b : Bool) → b ≡ true → (a || b) ≡ true
+or-right true b h = refl
+or-right false b h = h
+
+-- one of two holds: where it is not the first, it is the second
+pub or-second : (a b : Bool) → (a || b) ≡ true → a ≡ false → b ≡ true
+or-second true b h q = absurd (true≢false q)
+or-second false b h q = h
+
+pub neither : (a b : Bool) → (a || b) ≡ false → (a ≡ false) × (b ≡ false)
+neither true b h = absurd (true≢false h)
+neither false b h = (refl, h)
+
+pub or-nothing : (a : Bool) → (a || false) ≡ a
+or-nothing true = refl
+or-nothing false = refl
 
 pub clash : {a : Bool} → a ≡ true → a ≡ false → ⊥
 clash p q = true≢false (sym p ∙ q)
@@ -38,3 +65,8 @@ module _ {A : Type 0} (p : A → Bool) where
   pub every-append : (xs ys : List A) → every p (xs ++ ys) ≡ (every p xs && every p ys)
   every-append [] ys = refl
   every-append (x ∷ xs) ys = by-cases (p x) (λ h. rw h (every-append xs ys)) (λ h. rw h refl)
+
+  pub keep-append : (xs ys : List A) → keep p (xs ++ ys) ≡ keep p xs ++ keep p ys
+  keep-append [] ys = refl
+  keep-append (x ∷ xs) ys =
+      by-cases (p x) (λ q. rw q (ap (λ (l : List A). x ∷ l) (keep-append xs ys))) (λ q. rw q (keep-append xs ys))

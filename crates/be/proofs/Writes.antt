@@ -90,6 +90,10 @@ put-next (z ∷ zs) (suc p) zero (x ∷ xs) ys h = ap (λ (l : List ℕ). x ∷ 
 put-next (z ∷ zs) zero (suc o) xs ys h = absurd (omega arith)
 put-next (z ∷ zs) (suc p) (suc o) xs ys h = ap (λ (l : List ℕ). z ∷ l) (put-next zs p o xs ys (omega arith))
 
+-- the same, as they are made
+pub put-then : (b c d : List ℕ) (o p : ℕ) (xs ys : List ℕ) → c ≡ put b o xs → d ≡ put c p ys → p ≡ o + length xs → d ≡ put b o (xs ++ ys)
+put-then b c d o p xs ys h k q = rw (k, h) (put-next b p o xs ys (sym q))
+
 -- writes apart from each other may be made in either order
 pub put-comm : (b : List ℕ) (a : ℕ) (xs : List ℕ) (o : ℕ) (ys : List ℕ) → a + length xs ≤ o → put (put b a xs) o ys ≡ put (put b o ys) a xs
 unfolding put
@@ -109,6 +113,19 @@ put-again (z ∷ zs) zero [] (y ∷ ys) h = refl
 put-again (z ∷ zs) zero (x ∷ xs) [] h = absurd (omega arith)
 put-again (z ∷ zs) zero (x ∷ xs) (y ∷ ys) h = ap (λ (l : List ℕ). y ∷ l) (put-again zs 0 xs ys (omega arith))
 put-again (z ∷ zs) (suc o) xs ys h = ap (λ (l : List ℕ). z ∷ l) (put-again zs o xs ys h)
+
+-- a write that covers an earlier one
+pub put-over : (b : List ℕ) (o p : ℕ) (xs ys : List ℕ) → o ≤ p → p + length ys ≤ o + length xs → put (put b p ys) o xs ≡ put b o xs
+unfolding put
+put-over [] o p xs ys h l = refl
+put-over (z ∷ zs) zero zero [] [] h l = refl
+put-over (z ∷ zs) zero zero [] (y ∷ ys) h l = absurd (omega arith)
+put-over (z ∷ zs) zero zero (x ∷ xs) [] h l = refl
+put-over (z ∷ zs) zero zero (x ∷ xs) (y ∷ ys) h l = ap (λ (m : List ℕ). x ∷ m) (put-over zs 0 0 xs ys h (omega arith))
+put-over (z ∷ zs) zero (suc p) [] ys h l = absurd (omega arith)
+put-over (z ∷ zs) zero (suc p) (x ∷ xs) ys h l = ap (λ (m : List ℕ). x ∷ m) (put-over zs 0 p xs ys (omega arith) (omega arith))
+put-over (z ∷ zs) (suc o) zero xs ys h l = absurd (omega arith)
+put-over (z ∷ zs) (suc o) (suc p) xs ys h l = ap (λ (m : List ℕ). z ∷ m) (put-over zs o p xs ys (omega arith) (omega arith))
 
 -- a number of n + m bytes, written as one of n bytes and one of m
 pub put-halves : (b : List ℕ) (o n m v : ℕ) → put (put b o (to-be n (v / 256 ^ m))) (o + n) (to-be m v) ≡ put b o (to-be (n + m) v)

@@ -11,7 +11,7 @@ use borrow.Author.Tests.{eqb-true, eqb-false, leb-true}
 use Rattle.be.specs.Bytes.{byte}
 use Rattle.edition.specs.declared.Edition.{Edition}
 use Rattle.be.proofs.Bools.{by-cases, and-right}
-use Rattle.dinode.specs.Core.{inode-size, version-good, magic-good, kind-good, inode-code, directory-code, attributes-code, directory-good, attributes-good, attr-start}
+use Rattle.dinode.specs.Core.{inode-size, version-ok, magic-ok, kind-ok, inode-code, directory-code, attributes-code, directory-ok, attributes-ok, attr-start}
 
 or-cases : {P : Type 0} (a b : Bool) → (a || b) ≡ true → (a ≡ true → P) → (b ≡ true → P) → P
 or-cases true b h f g = f refl
@@ -36,12 +36,12 @@ module _ (e : Edition) (b : List ℕ) where
   -- its length is one of the four
   pub sound-size : inode-code e b ≡ 0 → (256 ≤ length b) × (length b ≤ 2048)
   unfolding inode-code
-  sound-size h = size-long (length b) (passed (inode-size (length b)) (magic-good b) (kind-good e b) h .0)
+  sound-size h = size-long (length b) (passed (inode-size (length b)) (magic-ok b) (kind-ok e b) h .0)
 
   -- the attribute fork starts within it
   pub sound-fits : inode-code e b ≡ 0 → e .literal + 8 * byte 82 b ≤ length b
-  unfolding inode-code kind-good attr-start
-  sound-fits h = leb-true _ _ (and-right (version-good e (byte 4 b)) _ (passed (inode-size (length b)) (magic-good b) (kind-good e b) h .2))
+  unfolding inode-code kind-ok attr-start
+  sound-fits h = leb-true _ _ (and-right (version-ok e (byte 4 b)) _ (passed (inode-size (length b)) (magic-ok b) (kind-ok e b) h .2))
 
 -- two tests one after the other
 first-passed : (n : ℕ) (d : Bool) → cond (eqb n 0) (cond d 0 3) n ≡ 0 → (n ≡ 0) × (d ≡ true)
@@ -56,8 +56,8 @@ first-passed n d h = by-cases (eqb n 0) (λ q. (eqb-true n 0 q, go d (rw q at h)
 
 pub directory-sound : (e : Edition) (b : List ℕ) → directory-code e b ≡ 0 → inode-code e b ≡ 0
 unfolding directory-code
-directory-sound e b h = first-passed (inode-code e b) (directory-good b) h .0
+directory-sound e b h = first-passed (inode-code e b) (directory-ok b) h .0
 
 pub attributes-sound : (e : Edition) (b : List ℕ) → attributes-code e b ≡ 0 → inode-code e b ≡ 0
 unfolding attributes-code
-attributes-sound e b h = first-passed (inode-code e b) (attributes-good b) h .0
+attributes-sound e b h = first-passed (inode-code e b) (attributes-ok b) h .0

@@ -5,6 +5,7 @@ use mathlib.Core.Bool.{Bool, cond, not, _&&_, _||_}
 use mathlib.Core.List.{List}
 use lib.Dec.{eqb, leb}
 use lib.ListN.{length, drop}
+use Rattle.be.specs.Codes.{otherwise, and-then}
 use Rattle.be.specs.Bytes.{byte, field, part}
 use Rattle.edition.specs.declared.Edition.{Edition}
 use Rattle.dinode.specs.declared.Core.{Core}
@@ -50,44 +51,52 @@ unfoldable pub attr-fork : Edition → List ℕ → List ℕ
 attr-fork e b = drop (attr-start e b) b
 
 -- 2 MAGIC
-unfoldable pub magic-good : List ℕ → Bool
-magic-good b = eqb (field 0 2 b) 0x494e
+unfoldable pub magic-ok : List ℕ → Bool
+magic-ok b = eqb (field 0 2 b) 0x494e
 
 -- 3 KIND: version not 1 or 2 (the edition's own)
-unfoldable pub version-good : Edition → ℕ → Bool
-version-good e v = leb (e .oldest) v && leb v (e .newest)
+unfoldable pub version-ok : Edition → ℕ → Bool
+version-ok e v = leb (e .oldest) v && leb v (e .newest)
 
 -- 3 KIND, of any inode: the version, and 100 + 8 × forkoff (the edition's literal area) not beyond the end
-unfoldable pub kind-good : Edition → List ℕ → Bool
-kind-good e b = version-good e (byte 4 b) && leb (attr-start e b) (length b)
+unfoldable pub kind-ok : Edition → List ℕ → Bool
+kind-ok e b = version-ok e (byte 4 b) && leb (attr-start e b) (length b)
 
 -- 3 KIND, for directories: mode / 4,096 is 4 and format is 1 (local)
-unfoldable pub directory-good : List ℕ → Bool
-directory-good b = eqb (field 2 2 b / 4096) 4 && eqb (byte 5 b) 1
+unfoldable pub directory-ok : List ℕ → Bool
+directory-ok b = eqb (field 2 2 b / 4096) 4 && eqb (byte 5 b) 1
 
 -- 3 KIND, for attributes: aformat is 1 and forkoff is not 0
-unfoldable pub attributes-good : List ℕ → Bool
-attributes-good b = eqb (byte 83 b) 1 && not (eqb (byte 82 b) 0)
+unfoldable pub attributes-ok : List ℕ → Bool
+attributes-ok b = eqb (byte 83 b) 1 && not (eqb (byte 82 b) 0)
 
 -- the first test of an inode that fails, by its number; 0 when none does
 unfoldable pub inode-code : Edition → List ℕ → ℕ
-inode-code e b = cond (inode-size (length b)) (cond (magic-good b) (cond (kind-good e b) 0 3) 2) 1
+inode-code e b =
+    otherwise (inode-size (length b)) 1 (
+    otherwise (magic-ok b) 2 (
+    otherwise (kind-ok e b) 3 0))
 
 -- the code of the tests so far, or 3 when a call asks more of the inode and that does not hold
 abbrev pub and-kind : ℕ → Bool → ℕ
-and-kind n good = cond (eqb n 0) (cond good 0 3) n
+and-kind n good = and-then n (otherwise good 3 0)
 
 -- the code of an inode that has to be a local directory
 unfoldable pub directory-code : Edition → List ℕ → ℕ
-directory-code e b = and-kind (inode-code e b) (directory-good b)
+directory-code e b = and-kind (inode-code e b) (directory-ok b)
 
 -- of one that has to have local attributes
 unfoldable pub attributes-code : Edition → List ℕ → ℕ
-attributes-code e b = and-kind (inode-code e b) (attributes-good b)
+attributes-code e b = and-kind (inode-code e b) (attributes-ok b)
 
 -- what the test of an inode answers
 unfoldable pub tested : Edition → List ℕ → Tested
 tested e b = cond (eqb (inode-code e b) 0) (Sound (core-of b)) (Tested-refused (inode-code e b))
+
+-- its number, 0 when it hands the fields out
+unfoldable pub tested-code : Tested → ℕ
+tested-code (Sound c) = 0
+tested-code (Tested-refused k) = k
 
 -- what the directory calls are told of the data fork
 unfoldable pub directory-fork : Edition → List ℕ → Fork

@@ -3,7 +3,7 @@ ghost use mathlib.Core.Path.{_≡_};
 ghost use Prim.Native.Nat.{_≤_};
 ghost use lib.ListN.{length};
 ghost use Rattle.edition.specs.Edition.{v4, Sane};
-ghost use Rattle.dinode.specs.Core.{core-of, inode-size, version-good, directory-good, attributes-good, inode-code, directory-code, attributes-code, tested, directory-fork, attributes-fork};
+ghost use Rattle.dinode.specs.Core.{core-of, inode-size, version-ok, directory-ok, attributes-ok, inode-code, directory-code, attributes-code, tested, tested-code, directory-fork, attributes-fork};
 use edition::Edition;
 use edition::V4;
 
@@ -39,7 +39,7 @@ fn sized(n: usize) -> bool
 
 // Whether the edition has inodes of this version.
 fn versioned(e: Edition, v: usize) -> bool
-    ensures { λ r. ⌜ r ≡ version-good e v ⌝ }
+    ensures { λ r. ⌜ r ≡ version-ok e v ⌝ }
 {
     (e.oldest <= v) & (v <= e.newest)
 }
@@ -89,7 +89,7 @@ pub fn code(e: Edition, b: &[u8]) -> usize
 
 // Tests any bytes as an inode of the V4 edition, and hands the fields out.
 pub fn test(b: &[u8]) -> Tested
-    ensures { λ r. ⌜ r ≡ tested v4 (now (b .entry)) ⌝ }
+    ensures { λ r. ⌜ (r ≡ tested v4 (now (b .entry))) × (tested-code r ≡ inode-code v4 (now (b .entry))) ⌝ }
 {
     let n = code(V4::edition(), b);
     if n == 0 {
@@ -101,7 +101,7 @@ pub fn test(b: &[u8]) -> Tested
 // Whether the inode is a local directory's.
 fn directory(b: &[u8]) -> bool
     requires { ⌜ 100 ≤ length (now b) ⌝ }
-    ensures { λ r. ⌜ r ≡ directory-good (now (b .entry)) ⌝ }
+    ensures { λ r. ⌜ r ≡ directory-ok (now (b .entry)) ⌝ }
 {
     (be::be16(b, 2) / 4096 == 4) & (be::be8(b, 5) == 1)
 }
@@ -109,7 +109,7 @@ fn directory(b: &[u8]) -> bool
 // Whether the inode has local attributes.
 fn attributes(b: &[u8]) -> bool
     requires { ⌜ 100 ≤ length (now b) ⌝ }
-    ensures { λ r. ⌜ r ≡ attributes-good (now (b .entry)) ⌝ }
+    ensures { λ r. ⌜ r ≡ attributes-ok (now (b .entry)) ⌝ }
 {
     (be::be8(b, 83) == 1) & (be::be8(b, 82) != 0)
 }

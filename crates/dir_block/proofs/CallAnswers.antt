@@ -12,7 +12,7 @@ use Rattle.dir_rules.specs.declared.Walked.the-variants.{Refused as Walked-refu
 use Rattle.dir_rules.specs.Block.{records, data-end}
 use Rattle.dir_rules.specs.Verdict.{verdict, Accepted}
 use Rattle.dir_rules.specs.Lookup.{Sought, sought, number-at, lookup, lookup-refusal}
-use Rattle.dir_rules.specs.Walk.{is-place, walk-step, walk-refusal}
+use Rattle.dir_rules.specs.Walk.{is-place, walk-step, step-code}
 
 module _ (e : Edition) (b n : List ℕ) where
   pub lookup-block : (verdict e b ≡ 0 → ⊥) → Refused (verdict e b) ≡ lookup e b n
@@ -34,9 +34,9 @@ module _ (e : Edition) (b n : List ℕ) where
 
 module _ (e : Edition) (b : List ℕ) (p : ℕ) where
   pub step-block : (verdict e b ≡ 0 → ⊥) → Walked-refused (verdict e b) ≡ walk-step e b p
-  unfolding walk-step walk-refusal
+  unfolding walk-step step-code
   step-block h = rw (ne-eqb (verdict e b) 0 h, ne-eqb (verdict e b) 0 h) refl
 
   pub step-asked : Accepted e b → is-place p (data-end b) (records e b) ≡ false → Walked-refused 11 ≡ walk-step e b p
-  unfolding walk-step walk-refusal
+  unfolding walk-step step-code
   step-asked a l = rw (a, l) refl

@@ -7,8 +7,8 @@ ghost use Rattle.be.specs.Bytes.{byte};
 ghost use Rattle.edition.specs.Edition.{v4, Sane};
 ghost use Rattle.name.specs.Name.{legal-name, same-name};
 ghost use Rattle.dir_rules.specs.Block.{records, data-end, count-of, slots};
-ghost use Rattle.dir_rules.specs.Lookup.{sought, name-at, lookup};
-ghost use Rattle.dir_rules.specs.Walk.{is-place, walk-step};
+ghost use Rattle.dir_rules.specs.Lookup.{sought, name-at, lookup, lookup-code, looked-code};
+ghost use Rattle.dir_rules.specs.Walk.{is-place, walk-step, step-code, walked-code};
 ghost use Rattle.dir_laws.specs.Pass.{Place, Steps};
 ghost use Rattle.dir_laws.specs.Tiled.{Ready};
 ghost use Rattle.dir_laws.specs.SlotPlaces.{all-below, all-from};
@@ -147,7 +147,7 @@ fn lookup_in(e: Edition, b: &[u8], name: &[u8]) -> Looked
 
 // The lookup of a name in a block of the V4 edition.
 pub fn lookup(b: &[u8], name: &[u8]) -> Looked
-    ensures { λ r. ⌜ r ≡ lookup v4 (now (b .entry)) (now (name .entry)) ⌝ }
+    ensures { λ r. ⌜ (r ≡ lookup v4 (now (b .entry)) (now (name .entry))) × (looked-code r ≡ lookup-code v4 (now (b .entry)) (now (name .entry))) ⌝ }
 {
     lookup_in(V4::edition(), b, name)
 }
@@ -218,7 +218,7 @@ fn step_in(e: Edition, b: &[u8], p: usize) -> Walked
 
 // One step of the walk over a block of the V4 edition.
 pub fn step(b: &[u8], p: usize) -> Walked
-    ensures { λ r. ⌜ r ≡ walk-step v4 (now (b .entry)) p ⌝ }
+    ensures { λ r. ⌜ (r ≡ walk-step v4 (now (b .entry)) p) × (walked-code r ≡ step-code v4 (now (b .entry)) p) ⌝ }
 {
     step_in(V4::edition(), b, p)
 }

@@ -8,22 +8,16 @@ use mathlib.Core.List.{List}
 use lib.Dec.{eqb}
 use borrow.Author.Tests.{eq-eqb, ne-eqb, eqb-true, eqb-false}
 use Rattle.be.proofs.Bools.{by-cases}
+use Rattle.be.specs.Codes.{otherwise}
 use Rattle.edition.specs.declared.Edition.{Edition}
 use Rattle.name.specs.Name.{legal-name, legal-number, fixed-name}
-use Rattle.dir_rules.specs.Verdict.{verdict, otherwise}
+use Rattle.dir_rules.specs.Verdict.{verdict}
 use Rattle.dir_rules.specs.Lookup.{sought}
 use Rattle.dir_rules.specs.Room.{has-room}
 use Rattle.dir_rules.specs.Change.{insert-code, insert-block, remove-code, remove-block}
 use Rattle.dir_edit.specs.Refusal.{refusal-of}
 
 -- ---- the chain
-
-pub not-left : (a b : Bool) → a ≡ false → (a && b) ≡ false
-not-left a b q = rw q
-
-pub not-right : (a b : Bool) → b ≡ false → (a && b) ≡ false
-not-right true b q = q
-not-right false b q = refl
 
 pub by-test : (t r : ℕ) (legal fixed : Bool) → (t ≡ 0 → ⊥) → refusal-of t legal fixed r ≡ t
 unfolding refusal-of

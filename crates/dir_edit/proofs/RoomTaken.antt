@@ -7,13 +7,14 @@ use mathlib.Core.List.{List, [], _∷_, _++_}
 use lib.ListN.{length}
 use Rattle.be.specs.Lists.{without-first, keep}
 use Rattle.be.specs.Bytes.{written}
+use Rattle.be.specs.Codes.{otherwise}
 use Rattle.edition.specs.declared.Edition.{Edition}
 use Rattle.edition.specs.Edition.{entry-size, Sane}
 use Rattle.dir_rules.specs.Record.{size, gap-writes, gaps}
 use Rattle.dir_rules.specs.Block.{slots, slot, stale-of, is-stale, is-live, records}
 use Rattle.name.specs.Name.{hash-of, legal-name, legal-number, fixed-name}
 use Rattle.dir_rules.specs.Lookup.{sought}
-use Rattle.dir_rules.specs.Verdict.{pair, otherwise}
+use Rattle.dir_rules.specs.Verdict.{pair}
 use Rattle.dir_rules.specs.Room.{has-room, room, other-gaps, longest}
 use Rattle.dir_rules.specs.Change.{index-writes, insert-slot, entry-writes, insert-writes, changed, insert-code, insert-block}
 use Rattle.dir_rules.proofs.EachCall.{insert-code-is}

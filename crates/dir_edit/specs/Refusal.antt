@@ -3,8 +3,8 @@
 use Prim.Native.Nat.{ℕ}
 use mathlib.Core.Bool.{Bool, not}
 use lib.Dec.{eqb}
-use Rattle.dir_rules.specs.Verdict.{otherwise}
+use Rattle.be.specs.Codes.{otherwise, and-then}
 
 -- the block's verdict t; 11 ASKED: the request is not legal; 12 FIXED; then the rest
 unfoldable pub refusal-of : ℕ → Bool → Bool → ℕ → ℕ
-refusal-of t legal fixed rest = otherwise (eqb t 0) t (otherwise legal 11 (otherwise (not fixed) 12 rest))
+refusal-of t legal fixed rest = and-then t (otherwise legal 11 (otherwise (not fixed) 12 rest))

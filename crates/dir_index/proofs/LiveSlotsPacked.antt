@@ -15,11 +15,10 @@ use Rattle.be.specs.Bytes.{be, part, field, put, to-be, written}
 use Rattle.edition.specs.declared.Edition.{Edition}
 use Rattle.dir_rules.specs.Block.{Slot, slot, slots, slots-in, slot-bytes, data-end, count-of, stale-of, is-live}
 use Rattle.dir_rules.specs.Change.{index-writes, insert-slot}
-use Rattle.be.proofs.Bools.{by-cases, every-head, every-tail, every-cons}
-use Rattle.be.proofs.Writes.{put-nothing, length-put, put-next, part-before, part-inside}
+use Rattle.be.proofs.Bools.{by-cases, every-head, every-tail, every-cons, keep-append}
+use Rattle.be.proofs.Writes.{put-nothing, length-put, put-next, part-before, part-inside, put-over}
 use Rattle.be.proofs.Numbers.{length-to-be}
 use Rattle.dir_rules.proofs.BlockParts.{length-slot-bytes, length-slots-in}
-use Rattle.dir_rules.proofs.OneMore.{keep-append}
 use Rattle.dir_rules.proofs.ChangeAccepted.{length-insert, length-live}
 use Rattle.edition.specs.Edition.{Sane}
 use Rattle.dir_rules.proofs.RemoveWrites.{slot-bytes-append}
@@ -127,18 +126,6 @@ pack-end b o k = ap₂ (λ (x y : ℕ). keep is-live (slots-in x (drop y b))) (o
     omega-add o = omega arith
 
 -- ---- writes over others
-
-put-over : (b : List ℕ) (o p : ℕ) (xs ys : List ℕ) → o ≤ p → p + length ys ≤ o + length xs → put (put b p ys) o xs ≡ put b o xs
-unfolding put
-put-over [] o p xs ys h l = refl
-put-over (z ∷ zs) zero zero [] [] h l = refl
-put-over (z ∷ zs) zero zero [] (y ∷ ys) h l = absurd (omega arith)
-put-over (z ∷ zs) zero zero (x ∷ xs) [] h l = refl
-put-over (z ∷ zs) zero zero (x ∷ xs) (y ∷ ys) h l = ap (λ (m : List ℕ). x ∷ m) (put-over zs 0 0 xs ys h (omega arith))
-put-over (z ∷ zs) zero (suc p) [] ys h l = absurd (omega arith)
-put-over (z ∷ zs) zero (suc p) (x ∷ xs) ys h l = ap (λ (m : List ℕ). x ∷ m) (put-over zs 0 p xs ys (omega arith) (omega arith))
-put-over (z ∷ zs) (suc o) zero xs ys h l = absurd (omega arith)
-put-over (z ∷ zs) (suc o) (suc p) xs ys h l = ap (λ (m : List ℕ). z ∷ m) (put-over zs o p xs ys (omega arith) (omega arith))
 
 slots-before : (b : List ℕ) (k o w : ℕ) (xs : List ℕ) → o + 8 * k ≤ w → slots-in k (drop o (put b w xs)) ≡ slots-in k (drop o b)
 slots-before b zero o w xs h = slots-zero (drop o (put b w xs)) ∙ sym (slots-zero (drop o b))

@@ -14,8 +14,7 @@ use Rattle.dir_rules.specs.Record.{Rec, size, besides}
 use Rattle.dir_rules.specs.Room.{longest}
 use Rattle.dir_rules.specs.Verdict.{Pair, pair}
 use Rattle.dir_rules.specs.Change.{best-of}
-use Rattle.be.proofs.Bools.{by-cases, every-head, every-tail, every-cons}
-use Rattle.dir_rules.proofs.OneMore.{keep-append}
+use Rattle.be.proofs.Bools.{by-cases, every-head, every-tail, every-cons, keep-append}
 use Rattle.dir_rules.proofs.GoodParts.{every-longest}
 use Rattle.dir_laws.specs.BestSoFar.{ins}
 

@@ -4,10 +4,10 @@ use Prim.Native.Nat.{ℕ}
 use mathlib.Core.Bool.{true, false}
 use mathlib.Core.Path.{_≡_, sym, _∙_}
 use mathlib.Core.List.{List}
+use Rattle.be.specs.Codes.{otherwise}
 use Rattle.edition.specs.declared.Edition.{Edition}
 use Rattle.name.specs.Name.{legal-name, fixed-name}
 use Rattle.dir_rules.specs.Lookup.{sought}
-use Rattle.dir_rules.specs.Verdict.{otherwise}
 use Rattle.dir_rules.specs.Change.{changed, remove-code, remove-block, remove-writes}
 use Rattle.edition.specs.Edition.{Sane}
 use Rattle.dir_rules.proofs.EachCall.{remove-code-is}

@@ -74,9 +74,6 @@ module _ (e : Edition) (b : List ℕ) (r : Ready e b) where
   pub run-rest : (i : ℕ) → i ≤ count-of b → drop i (slots b) ≡ run-of b i (count-of b - i)
   run-rest i h = sym (take-all (count-of b - i) (drop i (slots b)) (simp length-drop (omega (arith, length-slots e b r))))
 
-  pub run-long : (i k : ℕ) → i + k ≤ count-of b → length (run-of b i k) ≡ k
-  run-long i k h = simp (length-take, length-drop) (omega (arith, length-slots e b r))
-
 -- the bytes of one slot
 pub one-slot : (h a : ℕ) → slot-bytes (slot h a ∷ []) ≡ to-be 4 h ++ to-be 4 a
 unfolding slot-bytes
@@ -93,20 +90,6 @@ slot-long h a = simp (length-append, length-to-be)
 pub slot-stored : (o p h a : ℕ) (b b₁ b₂ : List ℕ) → o + 4 ≡ p → b₁ ≡ put b o (to-be 4 h) → b₂ ≡ put b₁ p (to-be 4 a) → b₂ ≡ put b o (to-be 4 h ++ to-be 4 a)
 slot-stored o p h a b b₁ b₂ q e₁ e₂ =
     e₂ ∙ ap (λ (l : List ℕ). put l p (to-be 4 a)) e₁ ∙ put-next b p o (to-be 4 h) (to-be 4 a) (ap (λ (k : ℕ). o + k) (length-to-be 4 h) ∙ q)
-
--- ---- the index as one write: its slots, then the tail's two numbers
-
-pub index-stored : (n L st : ℕ) (ss : List Slot) (b b₁ b₂ b₃ : List ℕ) → length ss ≡ L → 8 + 8 * L ≤ n
-    → b₁ ≡ put b (n - 8 - 8 * L) (slot-bytes ss) → b₂ ≡ put b₁ (n - 8) (to-be 4 L) → b₃ ≡ put b₂ (n - 4) (to-be 4 st)
-    → b₃ ≡ written b (index-writes n ss st)
-unfolding written
-index-stored n L st ss b b₁ b₂ b₃ q h e₁ e₂ e₃ =
-    let sb : List ℕ = slot-bytes ss in
-    let l : length (slot-bytes ss) ≡ 8 * L = length-slot-bytes ss ∙ ap (λ (k : ℕ). 8 * k) q in
-    let t : b₃ ≡ put b₁ (n - 8) (to-be 4 L ++ to-be 4 st) = slot-stored (n - 8) (n - 4) L st b₁ b₂ b₃ (omega arith) e₂ e₃ in
-    t ∙ ap (λ (c : List ℕ). put c (n - 8) (to-be 4 L ++ to-be 4 st)) e₁
-    ∙ put-next b (n - 8) (n - 8 - 8 * L) (slot-bytes ss) (to-be 4 L ++ to-be 4 st) (omega (arith, l))
-    ∙ ap (λ (k : ℕ). put b (n - 8 - 8 * k) (slot-bytes ss ++ (to-be 4 k ++ to-be 4 st))) (sym q)
 
 -- ---- where the new slot stands
 

@@ -12,6 +12,7 @@ use lib.Seq.{drop-drop, getD-drop}
 use borrow.Author.Tests.{eq-eqb, ne-eqb}
 use Rattle.be.specs.Lists.{every}
 use Rattle.be.specs.Bytes.{be, be-from, field}
+use Rattle.be.proofs.Bools.{keep-append}
 use Rattle.edition.specs.declared.Edition.{Edition}
 use Rattle.edition.specs.Edition.{entry-size}
 use Rattle.dir_rules.specs.Record.{Rec, rec, size, is-gap, gap-start, says, gaps}
@@ -20,10 +21,9 @@ use Rattle.dir_rules.specs.Verdict.{Pair, pair}
 use Rattle.dir_rules.specs.Change.{best-of}
 use Rattle.dir_rules.specs.Room.{last-of, touching}
 use Rattle.dir_rules.proofs.CutJoin.{Laid, laid-front}
-use Rattle.dir_rules.proofs.OneMore.{keep-append}
 use Rattle.dir_laws.specs.Tiled.{Tiled}
 use Rattle.dir_laws.specs.BestSoFar.{ins}
-use Rattle.dir_laws.specs.Pass.{Passed, Scanned}
+use Rattle.dir_laws.specs.Pass.{Passing, Scanned}
 use Rattle.dir_laws.proofs.BestGrows.{best-more, elsewhere}
 use Rattle.dir_laws.proofs.RecordSteps.{Here, here, none-left, laid-elsewhere, last-more}
 
@@ -42,9 +42,6 @@ gaps-entry : (xs : List Rec) (y : Rec) → is-gap y ≡ false → gaps (xs ++ (y
 gaps-entry xs y g = keep-append is-gap xs (y ∷ []) ∙ ap (λ (l : List Rec). gaps xs ++ l) (rw g) ∙ append-nil (gaps xs)
 
 -- what the code reads at o
-pub gap-read : (b : List ℕ) (o : ℕ) → gap-start (drop o b) ≡ eqb (field o 2 b) 65535
-gap-read b o = refl
-
 pub says-gap : (e : Edition) (b : List ℕ) (o : ℕ) → gap-start (drop o b) ≡ true → says e (drop o b) ≡ field (o + 2) 2 b
 unfolding says
 says-gap e b o g = rw g (ap (λ (l : List ℕ). be (take 2 l)) (drop-drop 2 o b))
@@ -53,11 +50,11 @@ pub says-entry : (e : Edition) (b : List ℕ) (o : ℕ) → gap-start (drop o b)
 unfolding says
 says-entry e b o g = rw g (ap (entry-size e) (getD-drop o b 8 0))
 
-pub seen-as : {e : Edition} {b : List ℕ} {o o′ : ℕ} {ps ps′ : List Pair} {u u′ k k′ : ℕ} → Passed e b o ps u k → o′ ≡ o → ps′ ≡ ps → u′ ≡ u → k′ ≡ k → Passed e b o′ ps′ u′ k′
+pub seen-as : {e : Edition} {b : List ℕ} {o o′ : ℕ} {ps ps′ : List Pair} {u u′ k k′ : ℕ} → Passing e b o ps u k → o′ ≡ o → ps′ ≡ ps → u′ ≡ u → k′ ≡ k → Passing e b o′ ps′ u′ k′
 seen-as s p q r w = rw (p, q, r, w) s
 
 module _ (e : Edition) (b : List ℕ) (t : Tiled e b) where
-  pub seen-start : Passed e b (e .header) (pair 0 0 ∷ pair 0 0 ∷ pair 0 0 ∷ []) (e .header) 0
+  pub seen-start : Passing e b (e .header) (pair 0 0 ∷ pair 0 0 ∷ pair 0 0 ∷ []) (e .header) 0
   unfolding best-of touching last-of be be-from
   seen-start = record { before = []; behind = records e b; all = refl; place = add-zero (e .header); best = refl; touch-off = touches .0; touch-size = touches .1; touch-end = add-zero (e .header); touch-from = omega arith; touch-mod = refl }
     where
@@ -66,19 +63,19 @@ module _ (e : Edition) (b : List ℕ) (t : Tiled e b) where
 
   -- a record more
   pub record On (o : ℕ) (ps : List Pair) (n : ℕ) (qs : List Pair) (u k : ℕ) : Type 0 where
-    pub seen : Passed e b (o + n) qs u k
+    pub seen : Passing e b (o + n) qs u k
     pub on : 8 ≤ n
     pub fits : o + n ≤ data-end b
 
   -- the record at o, if the data goes on
-  next : (o : ℕ) (ps : List Pair) (u k : ℕ) (s : Passed e b o ps u k) → o < data-end b → (y : Rec) × (ys : List Rec) × (s .behind ≡ y ∷ ys) × Here e b t (s .before) y ys o
+  next : (o : ℕ) (ps : List Pair) (u k : ℕ) (s : Passing e b o ps u k) → o < data-end b → (y : Rec) × (ys : List Rec) × (s .behind ≡ y ∷ ys) × Here e b t (s .before) y ys o
   next o ps u k s h = go (s .behind) refl
     where
       go : (zs : List Rec) → s .behind ≡ zs → (y : Rec) × (ys : List Rec) × (s .behind ≡ y ∷ ys) × Here e b t (s .before) y ys o
       go [] q = absurd (omega (arith, none-left e b t (s .before) o (s .all ∙ ap (λ (l : List Rec). s .before ++ l) q) (s .place)))
       go (y ∷ ys) q = (y, ys, q, here e b t (s .before) y ys o (s .all ∙ ap (λ (l : List Rec). s .before ++ l) q) (s .place))
 
-  pub seen-gap : (o : ℕ) (ps : List Pair) (u k n : ℕ) → Passed e b o ps u k → o < data-end b → field o 2 b ≡ 65535 → field (o + 2) 2 b ≡ n
+  pub seen-gap : (o : ℕ) (ps : List Pair) (u k n : ℕ) → Passing e b o ps u k → o < data-end b → field o 2 b ≡ 65535 → field (o + 2) 2 b ≡ n
       → On o ps n (ins (pair o n) ps) o n
   seen-gap o ps u k n s h g f =
       let w = next o ps u k s h in
@@ -109,7 +106,7 @@ module _ (e : Edition) (b : List ℕ) (t : Tiled e b) where
         fits = omega (arith, v .fits, n′);
       }
 
-  pub seen-entry : (o : ℕ) (ps : List Pair) (u k n : ℕ) → Passed e b o ps u k → o < data-end b → (field o 2 b ≡ 65535 → ⊥) → entry-size e (getD b (o + 8) 0) ≡ n
+  pub seen-entry : (o : ℕ) (ps : List Pair) (u k n : ℕ) → Passing e b o ps u k → o < data-end b → (field o 2 b ≡ 65535 → ⊥) → entry-size e (getD b (o + 8) 0) ≡ n
       → On o ps n ps (o + n) 0
   seen-entry o ps u k n s h g f =
       let w = next o ps u k s h in
@@ -136,7 +133,7 @@ module _ (e : Edition) (b : List ℕ) (t : Tiled e b) where
         fits = omega (arith, v .fits, n′);
       }
 
-  pub seen-end : (o : ℕ) (ps : List Pair) (u k : ℕ) → Passed e b o ps u k → data-end b ≤ o → Scanned e b ps u k
+  pub seen-end : (o : ℕ) (ps : List Pair) (u k : ℕ) → Passing e b o ps u k → data-end b ≤ o → Scanned e b ps u k
   seen-end o ps u k s h = go (s .behind) refl
     where
       go : (zs : List Rec) → s .behind ≡ zs → Scanned e b ps u k

@@ -17,7 +17,7 @@ use Rattle.dir_rules.specs.Change.{best-of}
 use Rattle.dir_rules.proofs.CutJoin.{join}
 
 -- at offset o: the table of the gaps passed is ps, and the gap that ends at o starts at u and is k long (none: u is o, and k is 0)
-pub record Passed (e : Edition) (b : List ℕ) (o : ℕ) (ps : List Pair) (u k : ℕ) : Type 0 where
+pub record Passing (e : Edition) (b : List ℕ) (o : ℕ) (ps : List Pair) (u k : ℕ) : Type 0 where
   pub before : List Rec
   pub behind : List Rec
   pub all : records e b ≡ before ++ behind

@@ -5,11 +5,13 @@ use native.Mathlib.Omega.{arith}
 use mathlib.Core.Bool.{Bool, true, false}
 use mathlib.Core.Path.{_≡_, refl}
 use mathlib.Core.List.{List}
+use Rattle.be.proofs.Codes.{passes}
 use Rattle.be.specs.Lists.{every}
+use Rattle.be.specs.Codes.{otherwise}
 use Rattle.edition.specs.declared.Edition.{Edition}
 use Rattle.dir_rules.specs.Record.{Rec, whole, apart, entries, gaps}
 use Rattle.dir_rules.specs.Block.{records, slots, stale-of}
-use Rattle.dir_rules.specs.Verdict.{verdict, otherwise, Accepted, size-ok, magic-ok, span-ok, tile-ok, names-ok, numbers-ok, index-ok, best-ok, best-pairs, once-ok}
+use Rattle.dir_rules.specs.Verdict.{verdict, Accepted, size-ok, magic-ok, span-ok, tile-ok, names-ok, numbers-ok, index-ok, best-ok, best-pairs, once-ok}
 use Rattle.be.proofs.Bools.{and-left, and-right, and-both}
 
 pub record Passed (e : Edition) (b : List ℕ) : Type 0 where
@@ -22,11 +24,6 @@ pub record Passed (e : Edition) (b : List ℕ) : Type 0 where
   pub index : index-ok e (records e b) (slots b) (stale-of b) ≡ true
   pub best : best-ok (best-pairs e b) (gaps (records e b)) ≡ true
   pub once : once-ok e (entries (records e b)) ≡ true
-
--- a test in a chain of refusals
-pub passes : (t : Bool) (n rest : ℕ) → otherwise t (suc n) rest ≡ 0 → (t ≡ true) × (rest ≡ 0)
-passes true n rest h = (refl, h)
-passes false n rest h = absurd (omega arith)
 
 pub passed : (e : Edition) (b : List ℕ) → Accepted e b → Passed e b
 unfolding verdict

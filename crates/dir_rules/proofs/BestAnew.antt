@@ -13,7 +13,7 @@ use Rattle.dir_rules.specs.declared.Looked.{Looked}
 use Rattle.dir_rules.specs.Record.{gaps}
 use Rattle.dir_rules.specs.Block.{records}
 use Rattle.dir_rules.specs.Verdict.{best-pairs}
-use Rattle.dir_rules.specs.Lookup.{lookup, looked-number}
+use Rattle.dir_rules.specs.Lookup.{lookup, looked-code}
 use Rattle.dir_rules.specs.Change.{best-table, insert-code, remove-code}
 use Rattle.dir_rules.specs.Calls.{Call, look-up, insert, remove, done, found-or, done-or, reply, after}
 use Rattle.dir_rules.specs.Book.{is-done}
@@ -22,7 +22,7 @@ use Rattle.dir_rules.specs.Claims.{Best-right}
 use Rattle.dir_rules.proofs.EachCall.{refused-not-done, insert-done, remove-done}
 
 found-not-done : (a : Looked) → is-done (found-or a) ≡ false
-found-not-done a = by-cases (eqb (looked-number a) 0) (λ z. rw z refl) (λ z. rw z refl)
+found-not-done a = by-cases (eqb (looked-code a) 0) (λ z. rw z refl) (λ z. rw z refl)
 
 done-is-0 : (k : ℕ) → done-or k ≡ done → k ≡ 0
 done-is-0 k q = by-cases (eqb k 0) (λ z. eqb-true k 0 z) (λ z. absurd (clash (ap is-done q) (refused-not-done k z)))

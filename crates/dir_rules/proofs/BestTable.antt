@@ -16,7 +16,7 @@ use Rattle.dir_rules.specs.Record.{Rec, size, besides}
 use Rattle.dir_rules.specs.Verdict.{Pair, pair, pairs-in, best-ok, is-gap-of}
 use Rattle.dir_rules.specs.Room.{longest}
 use Rattle.dir_rules.specs.Change.{best-of, pair-bytes}
-use Rattle.be.proofs.Bools.{and-both, by-cases, every-cons}
+use Rattle.be.proofs.Bools.{and-both, by-cases, every-cons, or-left, or-right}
 use Rattle.be.proofs.Numbers.{length-to-be, be-to-be}
 
 -- the longest is at least as long as each
@@ -29,13 +29,6 @@ longest-every (g ∷ gs) n h =
     every-cons (λ r. leb (size r) n) g gs (le-leb _ _ h′) (longest-every gs n (omega (arith, leb-true (size (longest gs)) (size g) q))))
     (λ q. let h′ : size (longest gs) ≤ n = rw q at h in
     every-cons (λ r. leb (size r) n) g gs (le-leb (size g) n (omega (arith, leb-false (size (longest gs)) (size g) q))) (longest-every gs n h′))
-
-or-left : (a b : Bool) → a ≡ true → (a || b) ≡ true
-or-left a b h = rw h
-
-pub or-right : (a b : Bool) → b ≡ true → (a || b) ≡ true
-or-right true b h = refl
-or-right false b h = h
 
 -- a test that passes at the longest passes at some
 pub longest-some : (t : Rec → Bool) (g : Rec) (gs : List Rec) → t (longest (g ∷ gs)) ≡ true → some-of t (g ∷ gs) ≡ true

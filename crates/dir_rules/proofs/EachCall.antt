@@ -9,6 +9,8 @@ use mathlib.Core.List.{List, _∷_}
 use lib.Dec.{eqb, leb}
 use lib.ListN.{length}
 use borrow.Author.Tests.{eqb-true, not-true, leb-true, le-leb, leb-false}
+use Rattle.be.specs.Codes.{otherwise}
+use Rattle.be.proofs.Codes.{passes}
 use Rattle.name.proofs.Legality.{legal-bounds, number-bounds}
 use Rattle.edition.proofs.Sizes.{entry-size-mono}
 use Rattle.be.specs.Lists.{every, some-of, same, without-first}
@@ -18,7 +20,7 @@ use Rattle.edition.specs.Edition.{entry-size, Sane}
 use Rattle.name.specs.Name.{legal-name, legal-number, fixed-name, same-name, dot, dotdot}
 use Rattle.dir_rules.specs.Record.{Rec, size, entries, gaps, name}
 use Rattle.dir_rules.specs.Block.{records, stale-of}
-use Rattle.dir_rules.specs.Verdict.{otherwise, Accepted, names-ok, name-ok, entry-at}
+use Rattle.dir_rules.specs.Verdict.{Accepted, names-ok, name-ok, entry-at}
 use Rattle.dir_rules.specs.Lookup.{lookup, lookup-refusal, sought, number-at}
 use Rattle.dir_rules.specs.Room.{some-stale, room, longest, has-room}
 use Rattle.dir_rules.specs.Change.{insert-writes, insert-code, insert-block, remove-writes, remove-code, remove-block}
@@ -37,7 +39,6 @@ use Rattle.dir_rules.proofs.InsertCases.{Inserted, insert-any}
 use Rattle.dir_rules.proofs.LookupFinds.{Removed, hit-of, spot, spot-name, number-found, removed-of}
 use Rattle.dir_rules.proofs.StaysBytes.{bytes-changed, all-insert, all-remove}
 use Rattle.dir_rules.proofs.EveryList.{Steps}
-use Rattle.dir_rules.proofs.Acceptance.{passes}
 
 pub number-lt : (i : ℕ) → legal-number i ≡ true → i < 2 ^ 56
 number-lt i h = number-bounds i h .1

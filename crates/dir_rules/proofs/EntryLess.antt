@@ -13,7 +13,7 @@ use Rattle.name.specs.Name.{legal-name, legal-number, hash-of, fixed-name, dot,
 use Rattle.dir_rules.specs.Record.{Rec, apart, entries, name, number}
 use Rattle.dir_rules.specs.Block.{Slot, slot, is-stale, is-live}
 use Rattle.dir_rules.specs.Verdict.{names-ok, numbers-ok, once-ok, name-ok, entry-at, has-slot}
-use Rattle.be.proofs.Bools.{and-left, and-right, and-both, every-head, every-tail, every-cons}
+use Rattle.be.proofs.Bools.{and-left, and-right, and-both, every-head, every-tail, every-cons, or-second}
 use Rattle.dir_rules.proofs.SlotCounts.{Apart, at-addr}
 use Rattle.dir_rules.proofs.SlotOrder.{From}
 use Rattle.dir_rules.proofs.IndexedEntries.{Indexed, Slotted, slotted, →slotted, at-both, addr-of}
@@ -61,10 +61,6 @@ module _ (e : Edition) (us : List Slot) (s : Slot) (vs : List Slot) where
         each = each-stays (xs ++ ys) a (and-right (has-slot e (us ++ s ∷ vs) x) (every (has-slot e (us ++ s ∷ vs)) (xs ++ ys)) (sym (every-mid (has-slot e (us ++ s ∷ vs)) xs x ys) ∙ i .each));
       }
 
-or-false : (a b : Bool) → (a || b) ≡ true → a ≡ false → b ≡ true
-or-false true b h q = absurd (true≢false q)
-or-false false b h q = h
-
 beq-false : (a b : Bool) → Bool·beq a b ≡ true → a ≡ false → b ≡ false
 beq-false true b h q = absurd (true≢false q)
 beq-false false true h q = absurd (false≢true h)
@@ -99,11 +95,11 @@ good-remove e rs rs′ xs x ys us s vs st g a ap′ old new fx =
     let o1 : eqb (x .off) (e .header + 16) ≡ false =
     beq-false (same (name x) dotdot) (eqb (x .off) (e .header + 16)) (and-right (l && p) q nx) (or-none-right (same (name x) dot) (same (name x) dotdot) fx) in
     let d0 : some-of (λ r. eqb (r .off) (e .header)) (xs ++ ys) ≡ true =
-    or-false (eqb (x .off) (e .header)) (some-of (λ r. eqb (r .off) (e .header)) (xs ++ ys))
+    or-second (eqb (x .off) (e .header)) (some-of (λ r. eqb (r .off) (e .header)) (xs ++ ys))
     (sym (some-mid (λ (r : Rec). eqb (r .off) (e .header)) xs x ys)
     ∙ subst (λ (es : List Rec). some-of (λ r. eqb (r .off) (e .header)) es ≡ true) old (and-right nm h0 (and-left (nm && h0) h1 (g .names)))) o0 in
     let d1 : some-of (λ r. eqb (r .off) (e .header + 16)) (xs ++ ys) ≡ true =
-    or-false (eqb (x .off) (e .header + 16)) (some-of (λ r. eqb (r .off) (e .header + 16)) (xs ++ ys))
+    or-second (eqb (x .off) (e .header + 16)) (some-of (λ r. eqb (r .off) (e .header + 16)) (xs ++ ys))
     (sym (some-mid (λ (r : Rec). eqb (r .off) (e .header + 16)) xs x ys)
     ∙ subst (λ (es : List Rec). some-of (λ r. eqb (r .off) (e .header + 16)) es ≡ true) old (and-right (nm && h0) h1 (g .names))) o1 in
     let us′ : (legal-number (number x) && every (λ r. legal-number (number r)) (xs ++ ys)) ≡ true =

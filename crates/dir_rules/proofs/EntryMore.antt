@@ -18,7 +18,7 @@ use Rattle.dir_rules.specs.Record.{Rec, rec, apart, entries, is-entry, n
 use Rattle.dir_rules.specs.Block.{Slot, slot}
 use Rattle.dir_rules.specs.Verdict.{names-ok, numbers-ok, name-ok, entry-at}
 use Rattle.dir_rules.specs.Change.{insert-slot}
-use Rattle.be.proofs.Bools.{and-left, and-right, and-both}
+use Rattle.be.proofs.Bools.{and-left, and-right, and-both, or-right, neither}
 use Rattle.be.proofs.Numbers.{be-to-be, length-to-be}
 use Rattle.dir_rules.proofs.CutJoin.{Laid}
 use Rattle.dir_rules.proofs.SlotCounts.{Apart}
@@ -26,7 +26,6 @@ use Rattle.dir_rules.proofs.IndexedEntries.{Kept, indexed-insert, addr-
 use Rattle.dir_rules.proofs.OneMore.{every-mid, some-mid, once-mid}
 use Rattle.dir_rules.proofs.RecordPlaces.{Split, some-split, every-at, every-map, apart-keep, apart-front}
 use Rattle.dir_rules.proofs.GoodParts.{Good}
-use Rattle.dir_rules.proofs.BestTable.{or-right}
 
 -- the name and the number of a new entry
 pub entry-name : (e : Edition) (o i : ℕ) (n : List ℕ) → name (rec o (entry-bytes e o i n)) ≡ n
@@ -42,14 +41,6 @@ entry-number e o i n h =
     let q : entry-bytes e o i n ≡ to-be 8 i ++ ((length n ∷ n) ++ (pd ++ to-be 2 o)) =
     append-assoc (to-be 8 i ++ (length n ∷ n)) pd (to-be 2 o) ∙ append-assoc (to-be 8 i) (length n ∷ n) (pd ++ to-be 2 o) in
     ap be (ap (take 8) q ∙ take-at (to-be 8 i) ((length n ∷ n) ++ (pd ++ to-be 2 o)) 8 (length-to-be 8 i)) ∙ be-to-be 8 i h
-
-or-false-left : (a b : Bool) → (a || b) ≡ false → a ≡ false
-or-false-left true b h = h
-or-false-left false b h = refl
-
-or-false-right : (a b : Bool) → (a || b) ≡ false → b ≡ false
-or-false-right true b h = absurd (true≢false h)
-or-false-right false b h = h
 
 -- an entry elsewhere has another offset
 other-off : (x : Rec) (es : List Rec) (o : ℕ) → Apart (addr-of x ∷ map addr-of es) → some-of (λ r. eqb (r .off) o) es ≡ true → eqb (x .off) o ≡ false
@@ -69,8 +60,8 @@ module _ (e : Edition) (xs : List Rec) (x : Rec) (ys : List Rec) (a : Apart (add
   grown-name h k =
       rw (
         lg,
-        or-false-left (same (name x) dot) (same (name x) dotdot) fx,
-        or-false-right (same (name x) dot) (same (name x) dotdot) fx,
+        neither (same (name x) dot) (same (name x) dotdot) fx .0,
+        neither (same (name x) dot) (same (name x) dotdot) fx .1,
         other-off x (xs ++ ys) (e .header) a h,
         other-off x (xs ++ ys) (e .header + 16) a k,
       )

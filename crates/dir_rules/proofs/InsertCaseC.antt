@@ -6,6 +6,7 @@ use mathlib.Core.Bool.{Bool, true, false}
 use mathlib.Core.Path.{_≡_, sym, _∙_, ap, ap₂, subst}
 use mathlib.Core.List.{List, [], _∷_, _++_, append-assoc, append-nil}
 use lib.ListN.{length, take, drop, length-append, length-take, length-drop, take-append-drop}
+use Rattle.be.proofs.Bools.{keep-append}
 use Rattle.name.proofs.Hashing.{hash-lt}
 use Rattle.be.specs.Bytes.{bytes, written, Write}
 use Rattle.edition.specs.declared.Edition.{Edition}
@@ -20,7 +21,6 @@ use Rattle.dir_rules.proofs.BlockParts.{build, Fit, tail-bytes}
 use Rattle.dir_rules.proofs.WritesLeave.{written-append, gap-written, index-written, free, Gapful, length-free, free-laid}
 use Rattle.be.proofs.Writes.{length-written}
 use Rattle.dir_rules.proofs.IndexedEntries.{kept-all}
-use Rattle.dir_rules.proofs.OneMore.{keep-append}
 use Rattle.dir_rules.proofs.GoodParts.{Good}
 use Rattle.dir_rules.proofs.InsertWrites.{placed, entered}
 use Rattle.edition.proofs.Sizes.{entry-size-eights}

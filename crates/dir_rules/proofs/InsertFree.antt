@@ -6,6 +6,7 @@ use mathlib.Core.Bool.{true, false}
 use mathlib.Core.Path.{_≡_, refl, sym, _∙_, ap}
 use mathlib.Core.List.{List, [], _∷_, _++_, append-assoc, append-nil}
 use lib.ListN.{length, take, drop, length-append, length-take, length-drop, take-append-drop}
+use Rattle.be.proofs.Bools.{keep-append}
 use Rattle.name.proofs.Hashing.{hash-lt}
 use Rattle.be.specs.Lists.{some-of, keep, tally, without-first}
 use Rattle.be.specs.Bytes.{bytes, to-be, written, Write}
@@ -21,7 +22,6 @@ use Rattle.edition.proofs.Sizes.{entry-size-eights}
 use Rattle.dir_rules.proofs.CutJoin.{join, Laid, laid-front}
 use Rattle.dir_rules.proofs.BlockParts.{build, Fit, SlotsFit, tail-bytes, length-slot-bytes}
 use Rattle.dir_rules.proofs.IndexedEntries.{Kept, kept-less-one, kept-all, kept-live}
-use Rattle.dir_rules.proofs.OneMore.{keep-append}
 use Rattle.dir_rules.proofs.GoodParts.{Good, tally-length}
 use Rattle.dir_rules.proofs.InsertWrites.{inserted}
 use Rattle.dir_rules.proofs.InsertGood.{new-records, new-apart, new-laid, new-good, gapful}

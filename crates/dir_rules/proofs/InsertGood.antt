@@ -6,6 +6,7 @@ use mathlib.Core.Bool.{true, false}
 use mathlib.Core.Path.{_≡_, refl, _∙_, ap, subst}
 use mathlib.Core.List.{List, [], _∷_, _++_}
 use lib.ListN.{length, drop, length-drop}
+use Rattle.be.proofs.Bools.{keep-append}
 use Rattle.edition.proofs.Sizes.{entry-size-eights}
 use Rattle.be.specs.Lists.{some-of}
 use Rattle.be.specs.Bytes.{be, be-from}
@@ -18,7 +19,6 @@ use Rattle.dir_rules.specs.Change.{insert-slot}
 use Rattle.dir_rules.proofs.CutJoin.{join, Laid, laid-append}
 use Rattle.dir_rules.proofs.WritesLeave.{free, Gapful, gap-raw, entry-no-gap}
 use Rattle.dir_rules.proofs.IndexedEntries.{Kept}
-use Rattle.dir_rules.proofs.OneMore.{keep-append}
 use Rattle.dir_rules.proofs.GoodParts.{Good}
 use Rattle.dir_rules.proofs.EntryMore.{good-insert, entry-name, entry-number}
 use Rattle.dir_rules.proofs.InsertWrites.{placed, placed-laid, length-placed}

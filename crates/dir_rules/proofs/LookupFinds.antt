@@ -11,6 +11,7 @@ use lib.ListN.{length, length-append}
 use borrow.Author.Tests.{eqb-true, not-true}
 use Rattle.be.specs.Lists.{every, some-of}
 use Rattle.be.specs.Bytes.{bytes, to-be, Write, write}
+use Rattle.be.proofs.Bools.{keep-append}
 use Rattle.edition.specs.declared.Edition.{Edition}
 use Rattle.edition.specs.Edition.{entry-size, Sane}
 use Rattle.name.specs.Name.{hash-of, same-name, fixed-name}
@@ -23,7 +24,6 @@ use Rattle.dir_rules.proofs.CutJoin.{join, Laid, join-append}
 use Rattle.dir_rules.proofs.WritesLeave.{free, gap-raw, length-gap-raw}
 use Rattle.dir_rules.proofs.InsertGood.{gap-raw-gap}
 use Rattle.dir_rules.proofs.IndexedEntries.{addr-of}
-use Rattle.dir_rules.proofs.OneMore.{keep-append}
 use Rattle.dir_rules.proofs.RecordPlaces.{Split, every-at}
 use Rattle.dir_rules.proofs.SearchFinds.{First, seek-hit, seek-first, Owner, match-owner, hit-is}
 use Rattle.dir_rules.proofs.PartsAddUp.{entry-long}

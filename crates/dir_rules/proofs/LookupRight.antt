@@ -20,13 +20,20 @@ use Rattle.dir_rules.specs.declared.Looked.the-variants.{Found, Absent}
 use Rattle.dir_rules.specs.Record.{Rec, entries, name, number}
 use Rattle.dir_rules.specs.Block.{Slot, records, slots, stale-of, is-live}
 use Rattle.dir_rules.specs.Verdict.{Accepted}
-use Rattle.dir_rules.specs.Lookup.{candidate, match, step-if, seek, sought, name-at, number-at, bears, up-to, names-compared, lookup, lookup-refusal, looked-number}
+use Rattle.dir_rules.specs.Lookup.{candidate, match, step-if, seek, sought, name-at, number-at, bears, up-to, names-compared, lookup, lookup-refusal, lookup-code, looked-code}
 use Rattle.dir_rules.specs.Claims.{borne, Lookup-right}
 use Rattle.dir_rules.proofs.RecordPlaces.{Split, split-cons, some-at, some-split}
 use Rattle.dir_rules.proofs.SearchFinds.{Owner, owner, read-at}
 use Rattle.dir_rules.proofs.AcceptedParts.{good-of, apart-of, reads-of}
 use Rattle.dir_rules.proofs.BooksAgree.{one-number}
 use Rattle.dir_rules.proofs.LookupFinds.{hit-of, spot, spot-name, number-found}
+
+-- a lookup's number
+pub lookup-is : (e : Edition) (b n : List ℕ) → looked-code (lookup e b n) ≡ lookup-code e b n
+unfolding lookup lookup-code
+lookup-is e b n =
+    by-cases (eqb (lookup-refusal e b n) 0)
+    (λ q. by-cases (sought e b n .hit) (λ h. rw (q, h) refl) (λ h. rw (q, h) refl)) (λ q. rw q refl)
 
 -- a candidate is counted, any other slot is not
 counted : (t : Bool) (c m : ℕ) → step-if t c + m ≡ c + (cond t 1 0 + m)
@@ -101,13 +108,13 @@ module _ (e : Edition) (sane : Sane e) (b : List ℕ) (h : bytes b ≡ true) (a 
     looked-absent q = rw (a, l, hit-of e sane b h a n ∙ q, compared-right) refl
 
     -- 0 where some live entry bears the name, else 13
-    looked-exactly : looked-number (lookup e b n) ≡ cond (borne e b n) 0 13
+    looked-exactly : looked-code (lookup e b n) ≡ cond (borne e b n) 0 13
     looked-exactly =
         by-cases (borne e b n)
         (λ q. let t : (t : Split (entries (records e b))) × (same-name e n (name (t .here)) ≡ true) =
         some-split (λ r. same-name e n (name r)) (entries (records e b)) q in
-        rw q (ap looked-number (looked-found (t .0 .before) (t .0 .here) (t .0 .behind) (t .0 .is) (t .1))))
-        (λ q. rw q (ap looked-number (looked-absent q)))
+        rw q (ap looked-code (looked-found (t .0 .before) (t .0 .here) (t .0 .behind) (t .0 .is) (t .1))))
+        (λ q. rw q (ap looked-code (looked-absent q)))
 
 pub lookup-right : (e : Edition) → Sane e → Lookup-right e
 unfolding Lookup-right

@@ -52,11 +52,6 @@ module _ {A : Type 0} where
   length-mid [] x ys = refl
   length-mid (z ∷ xs) x ys = ap suc (length-mid xs x ys)
 
-  pub keep-append : (p : A → Bool) (xs ys : List A) → keep p (xs ++ ys) ≡ keep p xs ++ keep p ys
-  keep-append p [] ys = refl
-  keep-append p (x ∷ xs) ys =
-      by-cases (p x) (λ q. rw q (ap (λ (l : List A). x ∷ l) (keep-append p xs ys))) (λ q. rw q (keep-append p xs ys))
-
   pub some-none : (p : A → Bool) (xs : List A) → some-of p xs ≡ false → every (λ x. not (p x)) xs ≡ true
   some-none p [] h = refl
   some-none p (x ∷ xs) h = by-cases (p x) (λ q. absurd (true≢false (rw q at h))) (λ q. rw q (some-none p xs (rw q at h)))

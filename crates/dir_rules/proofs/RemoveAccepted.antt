@@ -16,13 +16,12 @@ use Rattle.dir_rules.specs.Record.{Rec, size, is-gap, is-entry, entries,
 use Rattle.dir_rules.specs.Block.{is-stale, Slot, slot, slot-bytes, records, slots, stale-of, data-end}
 use Rattle.dir_rules.specs.Verdict.{Accepted}
 use Rattle.dir_rules.specs.Change.{changed, gap-start-before, gap-end-after}
-use Rattle.be.proofs.Bools.{by-cases}
+use Rattle.be.proofs.Bools.{by-cases, keep-append}
 use Rattle.dir_rules.proofs.CutJoin.{join, Laid, join-append, laid-append, laid-front, laid-back}
 use Rattle.dir_rules.proofs.BlockParts.{build, Fit, SlotsFit, tail-bytes}
 use Rattle.dir_rules.proofs.WritesLeave.{free, Gapful, length-free, free-laid}
 use Rattle.dir_rules.proofs.SlotCounts.{Apart}
 use Rattle.dir_rules.proofs.IndexedEntries.{addr-of}
-use Rattle.dir_rules.proofs.OneMore.{keep-append}
 use Rattle.dir_rules.proofs.RecordPlaces.{Split, apart-front}
 use Rattle.dir_rules.proofs.GoodParts.{Good, tally-length}
 use Rattle.dir_rules.proofs.EntryLess.{good-remove}

@@ -8,7 +8,7 @@ use mathlib.Core.Path.{_≡_, refl, sym, _∙_, ap, ap₂, subst}
 use mathlib.Core.List.{List, [], _∷_, _++_, map, append-assoc, append-nil}
 use lib.Dec.{eqb, ltb}
 use lib.ListN.{length, length-append, take}
-use borrow.Author.Tests.{eq-eqb, ne-eqb, lt-ltb}
+use borrow.Author.Tests.{eq-eqb, eqb-true, ne-eqb, lt-ltb}
 use Rattle.be.specs.Lists.{some-of}
 use Rattle.be.specs.Bytes.{bytes, part}
 use Rattle.edition.specs.declared.Edition.{Edition}
@@ -17,14 +17,19 @@ use Rattle.dir_rules.specs.Block.{records, data-end}
 use Rattle.dir_rules.specs.Verdict.{Accepted}
 use Rattle.dir_rules.specs.declared.Walked.{Walked}
 use Rattle.dir_rules.specs.declared.Walked.the-variants.{Stepped, Refused}
-use Rattle.dir_rules.specs.Walk.{record-at, step-over, step-end, is-place, walk-refusal, walk-step, walked-next, walk}
+use Rattle.dir_rules.specs.Walk.{record-at, step-over, step-end, is-place, step-code, walk-step, walked-code, walked-next, walk}
 use Rattle.dir_rules.specs.Claims.{climbs, Walks, Walk-right}
-use Rattle.be.proofs.Bools.{and-both}
+use Rattle.be.proofs.Bools.{and-both, by-cases}
 use Rattle.dir_rules.proofs.CutJoin.{join, Laid, join-append, laid-back}
 use Rattle.dir_rules.proofs.RecordPlaces.{some-at, part-there}
 use Rattle.edition.specs.Edition.{v4, Sane}
 use Rattle.edition.proofs.Sizes.{v4-sane}
 use Rattle.dir_rules.proofs.AcceptedParts.{fit-of, index-bytes, block-around, end-of-data}
+
+-- a step's number
+pub step-is : (e : Edition) (b : List ℕ) (p : ℕ) → walked-code (walk-step e b p) ≡ step-code e b p
+unfolding walk-step
+step-is e b p = by-cases (eqb (step-code e b p) 0) (λ q. rw q (sym (eqb-true _ _ q))) (λ q. rw q refl)
 
 at-laid : (e : Edition) (o : ℕ) (xs : List Rec) (y : Rec) (ys : List Rec) → Laid e o (xs ++ y ∷ ys) → record-at (o + length (join xs)) (xs ++ y ∷ ys) ≡ y
 unfolding record-at
@@ -46,7 +51,7 @@ climbs-laid e o (r ∷ s ∷ rs) l =
 
 module _ (e : Edition) (sane : Sane e) (b : List ℕ) (h : bytes b ≡ true) (a : Accepted e b) where
   pub step-at : (xs : List Rec) (y : Rec) (ys : List Rec) → records e b ≡ xs ++ y ∷ ys → walk-step e b (e .header + length (join xs)) ≡ Stepped (step-over y)
-  unfolding walk-step walk-refusal
+  unfolding walk-step step-code
   step-at xs y ys q =
       let p : ℕ = e .header + length (join xs) in
       let l : Laid e (e .header) (xs ++ y ∷ ys) = subst (λ (r : List Rec). Laid e (e .header) r) q (fit-of e sane b h a .laid) in
@@ -61,7 +66,7 @@ module _ (e : Edition) (sane : Sane e) (b : List ℕ) (h : bytes b ≡ true) (a 
 
   -- at the data's end a step says end again
   pub at-end : walk-step e b (data-end b) ≡ Stepped (step-end (data-end b))
-  unfolding walk-step walk-refusal
+  unfolding walk-step step-code
   at-end = rw (a, eq-eqb (data-end b) (data-end b) refl) refl
 
   walk-from : (xs ys : List Rec) → records e b ≡ xs ++ ys
@@ -95,7 +100,7 @@ module _ (e : Edition) (sane : Sane e) (b : List ℕ) (h : bytes b ≡ true) (a 
       ap (part (r .off + 9) (namelen r)) around ∙ part-there e hd tl r (l .1) g far
 
   elsewhere : (p : ℕ) → is-place p (data-end b) (records e b) ≡ false → walk-step e b p ≡ Refused 11
-  unfolding walk-step walk-refusal
+  unfolding walk-step step-code
   elsewhere p q = rw (a, q) refl
 
   pub walks : Walks e b

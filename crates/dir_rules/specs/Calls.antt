@@ -6,7 +6,7 @@ use mathlib.Core.List.{List}
 use lib.Dec.{eqb}
 use Rattle.edition.specs.declared.Edition.{Edition}
 use Rattle.dir_rules.specs.declared.Looked.{Looked}
-use Rattle.dir_rules.specs.Lookup.{lookup, looked-number, looked-inode}
+use Rattle.dir_rules.specs.Lookup.{lookup, looked-code, looked-inode}
 use Rattle.dir_rules.specs.Change.{insert-code, insert-block, remove-code, remove-block}
 
 pub data Call : Type 0 where
@@ -26,7 +26,7 @@ call-name (remove n) = n
 
 -- the answer, the names compared left out
 abbrev pub found-or : Looked → Reply
-found-or a = cond (eqb (looked-number a) 0) (found (looked-inode a)) (refuse (looked-number a))
+found-or a = cond (eqb (looked-code a) 0) (found (looked-inode a)) (refuse (looked-code a))
 
 abbrev pub done-or : ℕ → Reply
 done-or k = cond (eqb k 0) done (refuse k)

@@ -8,12 +8,13 @@ use lib.Dec.{eqb, leb}
 use lib.ListN.{length}
 use Rattle.be.specs.Lists.{keep, without-first}
 use Rattle.be.specs.Bytes.{to-be, Write, write, written}
+use Rattle.be.specs.Codes.{otherwise, and-then}
 use Rattle.edition.specs.declared.Edition.{Edition}
 use Rattle.edition.specs.Edition.{entry-size}
 use Rattle.name.specs.Name.{hash-of, legal-name, legal-number, fixed-name}
 use Rattle.dir_rules.specs.Record.{Rec, size, gaps, besides, entry-bytes, gap-writes}
 use Rattle.dir_rules.specs.Block.{records, slots, Slot, slot, slot-bytes, is-stale, is-live, stale-of, data-end}
-use Rattle.dir_rules.specs.Verdict.{verdict, otherwise, Pair, pair}
+use Rattle.dir_rules.specs.Verdict.{verdict, Pair, pair}
 use Rattle.dir_rules.specs.Lookup.{sought}
 use Rattle.dir_rules.specs.Room.{Room, room, longest, other-gaps, case-a, case-b, case-c, has-room}
 
@@ -110,7 +111,7 @@ module _ (e : Edition) (b n : List ℕ) (i : ℕ) where
   -- the block's refusal; 11 ASKED: name or number not legal; 12 FIXED; 14 EXISTS; 15 NOROOM
   unfoldable pub insert-code : ℕ
   insert-code =
-      otherwise (eqb (verdict e b) 0) (verdict e b) (
+      and-then (verdict e b) (
       otherwise (legal-name e n && legal-number i) 11 (
       otherwise (not (fixed-name n)) 12 (
       otherwise (not (sought e b n .hit)) 14 (
@@ -143,7 +144,7 @@ module _ (e : Edition) (b n : List ℕ) where
   -- the block's refusal; 11 ASKED: name not legal; 12 FIXED; 13 ABSENT
   unfoldable pub remove-code : ℕ
   remove-code =
-      otherwise (eqb (verdict e b) 0) (verdict e b) (
+      and-then (verdict e b) (
       otherwise (legal-name e n) 11 (
       otherwise (not (fixed-name n)) 12 (
       otherwise (sought e b n .hit) 13 0)))

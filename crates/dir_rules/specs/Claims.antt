@@ -16,7 +16,7 @@ use Rattle.dir_rules.specs.declared.Walked.the-variants.{Stepped, Refuse
 use Rattle.dir_rules.specs.Record.{Rec, is-gap, entries, gaps, name, number, tag}
 use Rattle.dir_rules.specs.Block.{records, data-end, Slot}
 use Rattle.dir_rules.specs.Verdict.{Accepted, rising, best-pairs}
-use Rattle.dir_rules.specs.Lookup.{lookup, looked-number, names-compared}
+use Rattle.dir_rules.specs.Lookup.{lookup, looked-code, names-compared}
 use Rattle.dir_rules.specs.Change.{best-table, insert-slot}
 use Rattle.dir_rules.specs.Calls.{Call, done, reply, after}
 use Rattle.dir_rules.specs.Demand.{call-bytes}
@@ -32,7 +32,7 @@ pub record Looks-up (e : Edition) (b n : List ℕ) : Type 0 where
   pub found : (xs : List Rec) (r : Rec) (ys : List Rec) → entries (records e b) ≡ xs ++ r ∷ ys → same-name e n (name r) ≡ true
       → lookup e b n ≡ Found (number r) (names-compared e b n)
   pub absent : borne e b n ≡ false → lookup e b n ≡ Absent (names-compared e b n)
-  pub exactly : looked-number (lookup e b n) ≡ cond (borne e b n) 0 13
+  pub exactly : looked-code (lookup e b n) ≡ cond (borne e b n) 0 13
 
 unfoldable pub Lookup-right : Edition → Type 0
 Lookup-right e = (b n : List ℕ) → bytes b ≡ true → Accepted e b → legal-name e n ≡ true → Looks-up e b n

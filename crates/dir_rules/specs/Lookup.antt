@@ -6,12 +6,13 @@ use mathlib.Core.List.{List, [], _∷_}
 use lib.Dec.{eqb}
 use Rattle.be.specs.Lists.{tally}
 use Rattle.be.specs.Bytes.{byte, field, part}
+use Rattle.be.specs.Codes.{otherwise, and-then}
 use Rattle.edition.specs.declared.Edition.{Edition}
 use Rattle.name.specs.Name.{hash-of, same-name, legal-name}
 use Rattle.dir_rules.specs.declared.Looked.{Looked}
 use Rattle.dir_rules.specs.declared.Looked.the-variants.{Found, Absent, Refused}
 use Rattle.dir_rules.specs.Block.{Slot, slots, is-live}
-use Rattle.dir_rules.specs.Verdict.{verdict, otherwise}
+use Rattle.dir_rules.specs.Verdict.{verdict}
 
 -- the name and the inode number of the entry at offset o
 abbrev pub name-at : List ℕ → ℕ → List ℕ
@@ -67,7 +68,7 @@ names-compared e b n = tally (candidate (hash-of e n)) (up-to (bears e b n) (slo
 
 -- the refusal before the search: of the block, or 11 ASKED
 unfoldable pub lookup-refusal : Edition → List ℕ → List ℕ → ℕ
-lookup-refusal e b n = otherwise (eqb (verdict e b) 0) (verdict e b) (otherwise (legal-name e n) 11 0)
+lookup-refusal e b n = and-then (verdict e b) (otherwise (legal-name e n) 11 0)
 
 abbrev pub looked-of : List ℕ → Sought → Looked
 looked-of b s = cond (s .hit) (Found (number-at b (s .at)) (s .compared)) (Absent (s .compared))
@@ -77,11 +78,15 @@ unfoldable pub lookup : Edition → List ℕ → List ℕ → Looked
 lookup e b n =
     cond (eqb (lookup-refusal e b n) 0) (looked-of b (sought e b n)) (Refused (lookup-refusal e b n))
 
+-- a lookup's number: 0 when found
+unfoldable pub lookup-code : Edition → List ℕ → List ℕ → ℕ
+lookup-code e b n = and-then (lookup-refusal e b n) (otherwise (sought e b n .hit) 13 0)
+
 -- the paper's number and values of each case of an answer: 0 when found; a refusal has its number only, 13 also the names compared
-abbrev pub looked-number : Looked → ℕ
-looked-number (Found i c) = 0
-looked-number (Absent c) = 13
-looked-number (Refused k) = k
+abbrev pub looked-code : Looked → ℕ
+looked-code (Found i c) = 0
+looked-code (Absent c) = 13
+looked-code (Refused k) = k
 
 abbrev pub looked-inode : Looked → ℕ
 looked-inode (Found i c) = i

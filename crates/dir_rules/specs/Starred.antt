@@ -14,7 +14,7 @@ use Rattle.name.specs.Starred.{Row, row, right, hash-rows}
 use Rattle.dir_rules.specs.Record.{Rec, says, cut, whole, apart, size, gaps, entry-bytes, gap-writes}
 use Rattle.dir_rules.specs.Block.{records, slots, slots-in, slot, slot-bytes, count-of, stale-of, data-end}
 use Rattle.dir_rules.specs.Verdict.{best-pairs, pairs-in, verdict, size-ok, magic-ok, span-ok, tile-ok, names-ok, numbers-ok, index-ok, rising, best-ok, once-ok}
-use Rattle.dir_rules.specs.Lookup.{seek, sought, lookup, lookup-refusal, looked-number, looked-inode, looked-compared}
+use Rattle.dir_rules.specs.Lookup.{seek, sought, lookup, lookup-refusal, looked-code, looked-inode, looked-compared}
 use Rattle.dir_rules.specs.Room.{longest, last-of, touching, room, has-room, case-a, case-b}
 use Rattle.dir_rules.specs.Change.{pair-bytes, best-of, with-best, changed, index-writes, insert-slot, writes-a, writes-b, writes-c, writes-d, insert-writes, insert-code, insert-block, gap-start-before, gap-end-after, remove-writes, remove-code, remove-block}
 
@@ -40,7 +40,7 @@ shape b = verdict v4 b ∷ count-of b ∷ stale-of b ∷ places (gaps (records v
 unfoldable pub answer : List ℕ → List ℕ → List ℕ
 answer b n =
     let a = lookup v4 b n in
-    looked-number a ∷ looked-inode a ∷ looked-compared a ∷ sought v4 b n .at ∷ []
+    looked-code a ∷ looked-inode a ∷ looked-compared a ∷ sought v4 b n .at ∷ []
 
 -- what an insert of n answers, and the block it leaves
 unfoldable pub inserted : List ℕ → List ℕ → List ℕ

@@ -6,6 +6,7 @@ use mathlib.Core.Path.{_≡_}
 use mathlib.Core.List.{List, [], _∷_}
 use lib.Dec.{eqb, leb}
 use lib.ListN.{length, drop}
+use Rattle.be.specs.Codes.{otherwise}
 use Rattle.be.specs.Lists.{every, some-of, tally, same}
 use Rattle.be.specs.Bytes.{field}
 use Rattle.edition.specs.declared.Edition.{Edition}
@@ -100,9 +101,6 @@ best-ok (p ∷ ps) (g ∷ gs) =
 unfoldable pub once-ok : Edition → List Rec → Bool
 once-ok e [] = true
 once-ok e (r ∷ rs) = not (some-of (λ s. same-name e (name r) (name s)) rs) && once-ok e rs
-
-abbrev pub otherwise : Bool → ℕ → ℕ → ℕ
-otherwise t n rest = cond t rest n
 
 -- tests run in number order; each takes the earlier ones as passed
 unfoldable pub verdict : Edition → List ℕ → ℕ

@@ -5,6 +5,7 @@ use mathlib.Core.Bool.{Bool, cond, _||_}
 use mathlib.Core.List.{List, [], _∷_}
 use lib.Dec.{eqb}
 use Rattle.be.specs.Lists.{some-of}
+use Rattle.be.specs.Codes.{otherwise, and-then}
 use Rattle.edition.specs.declared.Edition.{Edition}
 use Rattle.dir_rules.specs.declared.Entry.{Entry}
 use Rattle.dir_rules.specs.declared.Seen.{Seen}
@@ -14,7 +15,7 @@ use Rattle.dir_rules.specs.declared.Walked.{Walked}
 use Rattle.dir_rules.specs.declared.Walked.the-variants.{Stepped, Refused}
 use Rattle.dir_rules.specs.Record.{Rec, rec, size, is-gap, number, namelen}
 use Rattle.dir_rules.specs.Block.{records, data-end}
-use Rattle.dir_rules.specs.Verdict.{verdict, otherwise}
+use Rattle.dir_rules.specs.Verdict.{verdict}
 
 -- a live entry: its number, and its name as a part of the block, which starts after number and namelen
 abbrev pub entry-of : Rec → Entry
@@ -40,22 +41,22 @@ record-at o (r ∷ rs) = cond (eqb (r .off) o) r (record-at o rs)
 abbrev pub is-place : ℕ → ℕ → List Rec → Bool
 is-place p u rs = eqb p u || some-of (λ r. eqb (r .off) p) rs
 
--- the refusal of the block, or 11 ASKED: any other place
-unfoldable pub walk-refusal : Edition → List ℕ → ℕ → ℕ
-walk-refusal e b p =
-    otherwise (eqb (verdict e b) 0) (verdict e b) (otherwise (is-place p (data-end b) (records e b)) 11 0)
+-- a step's number: the block's, or 11 ASKED for any other place
+unfoldable pub step-code : Edition → List ℕ → ℕ → ℕ
+step-code e b p =
+    and-then (verdict e b) (otherwise (is-place p (data-end b) (records e b)) 11 0)
 
 -- one step: live entry, gap or end, together with where the walk now stands
 unfoldable pub walk-step : Edition → List ℕ → ℕ → Walked
 walk-step e b p =
-    cond (eqb (walk-refusal e b p) 0)
+    cond (eqb (step-code e b p) 0)
     (Stepped (cond (eqb p (data-end b)) (step-end p) (step-over (record-at p (records e b)))))
-    (Refused (walk-refusal e b p))
+    (Refused (step-code e b p))
 
 -- the paper's number and values of each case of an answer; a refusal has its number only
-abbrev pub walked-number : Walked → ℕ
-walked-number (Stepped s) = 0
-walked-number (Refused k) = k
+abbrev pub walked-code : Walked → ℕ
+walked-code (Stepped s) = 0
+walked-code (Refused k) = k
 
 abbrev pub walked-next : Walked → ℕ
 walked-next (Stepped s) = s .next

@@ -9,7 +9,7 @@ ghost use Rattle.dir_rules.specs.Verdict.{pair};
 ghost use Rattle.dir_rules.specs.Change.{with-best, pair-bytes};
 ghost use Rattle.dir_laws.specs.Tiled.{Tiled};
 ghost use Rattle.dir_laws.specs.BestSoFar.{ins};
-ghost use Rattle.dir_laws.specs.Pass.{Passed, Scanned};
+ghost use Rattle.dir_laws.specs.Pass.{Passing, Scanned};
 ghost use Rattle.dir_scan.specs.Table.{table};
 use edition::Edition;
 
@@ -74,9 +74,9 @@ fn with_entry(s: Scan, o: usize, n: usize) -> Scan
 // Over one record.
 fn step(e: Edition, b: &[u8], s: Scan) -> Scan
     requires { ⌜ Sane e × Tiled e (now b) ⌝ }
-    requires { ⌜ Passed e (now b) (s .at) (table s) (s .tat) (s .tlen) ⌝ }
+    requires { ⌜ Passing e (now b) (s .at) (table s) (s .tat) (s .tlen) ⌝ }
     requires { ⌜ s .at < data-end (now b) ⌝ }
-    ensures { λ r. ⌜ Passed e (now (b .entry)) (r .at) (table r) (r .tat) (r .tlen) × ((s .at < r .at) × (r .at ≤ data-end (now (b .entry)))) ⌝ }
+    ensures { λ r. ⌜ Passing e (now (b .entry)) (r .at) (table r) (r .tat) (r .tlen) × ((s .at < r .at) × (r .at ≤ data-end (now (b .entry)))) ⌝ }
 {
     let o = s.at;
     let k = be::be16(b, o);

@@ -41,36 +41,36 @@ pub field-broad : (wides o r : ℕ) (u : List ℕ) → (wides ≡ 0 → ⊥) →
 field-broad wides o r u h q = q ∙ ap (λ (w : ℕ). field o w u) (broad wides h)
 
 -- a file type, where the edition has none and where it has one
-module _ (ed : Edition) (z : ed .ftype ≡ 0) (o : ℕ) where
-  pub kind-none : (u : List ℕ) → 0 ≡ field o (ed .ftype) u
+module _ (e : Edition) (z : e .ftype ≡ 0) (o : ℕ) where
+  pub kind-none : (u : List ℕ) → 0 ≡ field o (e .ftype) u
   unfolding be be-from
   kind-none u = rw z refl
 
-module _ (ed : Edition) (s : Sane ed) (z : ed .ftype ≡ 0 → ⊥) (o : ℕ) where
-  pub kind-one : ed .ftype ≡ 1
-  kind-one = go (ed .ftype) (s .ftype-most) z
+module _ (e : Edition) (s : Sane e) (z : e .ftype ≡ 0 → ⊥) (o : ℕ) where
+  pub kind-one : e .ftype ≡ 1
+  kind-one = go (e .ftype) (s .ftype-most) z
     where
       go : (k : ℕ) → k ≤ 1 → (k ≡ 0 → ⊥) → k ≡ 1
       go zero h f = absurd (f refl)
       go (suc k) h f = omega arith
 
-  pub kind-in : (n : ℕ) → o + ed .ftype ≤ n → o < n
+  pub kind-in : (n : ℕ) → o + e .ftype ≤ n → o < n
   kind-in n h = omega (arith, kind-one)
 
-  pub kind-some : (u : List ℕ) (r : ℕ) → r ≡ byte o u → r ≡ field o (ed .ftype) u
+  pub kind-some : (u : List ℕ) (r : ℕ) → r ≡ byte o u → r ≡ field o (e .ftype) u
   kind-some u r h = h ∙ sym (field-1 u o) ∙ ap (λ (k : ℕ). field o k u) (sym kind-one)
 
-one-long : (ed : Edition) (w : ℕ) (d : List ℕ) → enough ed w 1 d ≡ true → long-in ed w d ≤ length d
+one-long : (e : Edition) (w : ℕ) (d : List ℕ) → enough e w 1 d ≡ true → long-in e w d ≤ length d
 unfolding enough
-one-long ed w d h = leb-true _ _ (and-left _ _ h)
+one-long e w d h = leb-true _ _ (and-left _ _ h)
 
-pub one-in : (ed : Edition) (w p : ℕ) (u : List ℕ) → enough ed w 1 (drop p u) ≡ true → p + 3 + getD u p 0 + (ed .ftype + w) ≤ length u
-one-in ed w p u h =
-    let a : long-in ed w (drop p u) ≤ length u - p = rw length-drop at (one-long ed w (drop p u) h) in
-    omega (arith, long-at-is ed w u p)
+pub one-in : (e : Edition) (w p : ℕ) (u : List ℕ) → enough e w 1 (drop p u) ≡ true → p + 3 + getD u p 0 + (e .ftype + w) ≤ length u
+one-in e w p u h =
+    let a : long-in e w (drop p u) ≤ length u - p = rw length-drop at (one-long e w (drop p u) h) in
+    omega (arith, long-at-is e w u p)
 
-pub one-starts : (ed : Edition) (w p : ℕ) (u : List ℕ) → enough ed w 1 (drop p u) ≡ true → p < length u
-one-starts ed w p u h = omega (arith, one-in ed w p u h)
+pub one-starts : (e : Edition) (w p : ℕ) (u : List ℕ) → enough e w 1 (drop p u) ≡ true → p < length u
+one-starts e w p u h = omega (arith, one-in e w p u h)
 
-pub one-ends : (ed : Edition) (w p n : ℕ) (u : List ℕ) → enough ed w 1 (drop p u) ≡ true → n ≡ getD u p 0 → p + 3 + n + (ed .ftype + w) ≤ length u
-one-ends ed w p n u h q = omega (arith, one-in ed w p u h)
+pub one-ends : (e : Edition) (w p n : ℕ) (u : List ℕ) → enough e w 1 (drop p u) ≡ true → n ≡ getD u p 0 → p + 3 + n + (e .ftype + w) ≤ length u
+one-ends e w p n u h q = omega (arith, one-in e w p u h)

@@ -1,4 +1,3 @@
-pub mod Chains
 pub mod Run
 pub mod Leaves
 pub mod Listed

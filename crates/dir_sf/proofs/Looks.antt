@@ -17,7 +17,7 @@ use Rattle.name.specs.Name.{legal-name, same-name}
 use Rattle.dir_sf.specs.declared.Looked.the-variants.{Found, Refused}
 use Rattle.dir_sf.specs.Entry.{Entry, width-of, long-in, entry-in, entries-in, enough, start-of}
 use Rattle.dir_sf.specs.Fork.{Readable, entries, holds, count-of}
-use Rattle.dir_sf.specs.Change.{Hits, seek, number-in, lookup-code, lookup-number}
+use Rattle.dir_sf.specs.Change.{Hits, seek, number-in, lookup-code, lookup-inode}
 use Rattle.dir_sf.specs.Inode.{as-looked, looked}
 use Rattle.dir_sf.proofs.Names.{absent-number}
 use Rattle.dir_sf.proofs.Tests.{seek-holds}
@@ -110,7 +110,7 @@ module _ (e : Edition) (n : List ℕ) (p : ℕ) (xs : List Entry) (t₁ : Bool) 
 
     module _ (g₂ : t₂ ≡ false) (t₃ : Bool) (h₃ : t₃ ≡ same n (46 ∷ 46 ∷ [])) where
       pub look-parent : (j : ℕ) → t₃ ≡ true → j ≡ p → Found j ≡ looked e n p xs
-      unfolding looked as-looked lookup-code lookup-number
+      unfolding looked as-looked lookup-code lookup-inode
       look-parent j f q = sym (rw (sym h₁ ∙ not-false t₁ g₁, sym h₂ ∙ g₂, sym h₃ ∙ f, q) refl)
 
       pub look-13 : (t₄ : Bool) → t₃ ≡ false → t₄ ≡ holds e n xs → t₄ ≡ false → Refused 13 ≡ looked e n p xs
@@ -118,5 +118,5 @@ module _ (e : Edition) (n : List ℕ) (p : ℕ) (xs : List Entry) (t₁ : Bool) 
       look-13 t₄ f h q = sym (rw (sym h₁ ∙ not-false t₁ g₁, sym h₂ ∙ g₂, sym h₃ ∙ f, sym h ∙ q) refl)
 
       pub look-found : (t₄ : Bool) (j : ℕ) → t₃ ≡ false → t₄ ≡ holds e n xs → t₄ ≡ true → j ≡ number-in e n xs → Found j ≡ looked e n p xs
-      unfolding looked as-looked lookup-code lookup-number
+      unfolding looked as-looked lookup-code lookup-inode
       look-found t₄ j f h q k = sym (rw (sym h₁ ∙ not-false t₁ g₁, sym h₂ ∙ g₂, sym h₃ ∙ f, sym h ∙ q, k) refl)

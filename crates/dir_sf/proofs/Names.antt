@@ -8,7 +8,7 @@ use borrow.Author.Tests.{not-true}
 use Rattle.edition.specs.declared.Edition.{Edition}
 use Rattle.name.specs.Name.{same-name}
 use Rattle.name.proofs.Same.{same-name-trans}
-use Rattle.be.proofs.Bools.{and-left, and-right, by-cases, clash}
+use Rattle.be.proofs.Bools.{and-left, and-right, by-cases, clash, or-right, neither}
 use Rattle.dir_sf.specs.Entry.{Entry}
 use Rattle.dir_sf.specs.Fork.{holds, once-ok}
 use Rattle.dir_sf.specs.Change.{number-in}
@@ -17,14 +17,6 @@ use Rattle.dir_sf.specs.Change.{number-in}
 pub fails : (a b : Bool) → (a ≡ true → b ≡ true) → b ≡ false → a ≡ false
 fails true b f h = absurd (clash (f refl) h)
 fails false b f h = refl
-
-pub or-right : (a b : Bool) → b ≡ true → (a || b) ≡ true
-or-right true b h = refl
-or-right false b h = h
-
-pub or-false : (a b : Bool) → (a || b) ≡ false → (a ≡ false) × (b ≡ false)
-or-false true b h = absurd (true≢false h)
-or-false false b h = (refl, h)
 
 -- two names that are the same are held alike
 pub holds-same : (e : Edition) (m n : List ℕ) (xs : List Entry) → same-name e m n ≡ true → holds e n xs ≡ true → holds e m xs ≡ true
@@ -43,7 +35,7 @@ pub absent-number : (e : Edition) (n : List ℕ) (xs : List Entry) → holds e n
 unfolding holds number-in
 absent-number e n [] h = refl
 absent-number e n (x ∷ xs) h =
-    let o = or-false (same-name e n (x .name)) _ h in
+    let o = neither (same-name e n (x .name)) _ h in
     rw (o .0) (absent-number e n xs (o .1))
 
 pub once-head : (e : Edition) (x : Entry) (xs : List Entry) → once-ok e (x ∷ xs) ≡ true → holds e (x .name) xs ≡ false

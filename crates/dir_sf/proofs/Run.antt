@@ -43,42 +43,42 @@ entries-snoc e w i d = rw add-one (go e w i d)
         ∙ ap (λ (l : List ℕ). entries-in e w i (drop (long-in e w d) d) ++ (entry-in e w l ∷ [])) (drop-drop (start-of e w i (drop (long-in e w d) d)) (long-in e w d) d))
 
 -- i of the k entries from `at` on are passed, and the next one starts at p
-pub record Run (ed : Edition) (w : ℕ) (u : List ℕ) (at k i p : ℕ) : Type 0 where
+pub record Run (e : Edition) (w : ℕ) (u : List ℕ) (at k i p : ℕ) : Type 0 where
   pub upto : i ≤ k
-  pub place : p ≡ at + start-of ed w i (drop at u)
-  pub left : enough ed w (k - i) (drop p u) ≡ true
+  pub place : p ≡ at + start-of e w i (drop at u)
+  pub left : enough e w (k - i) (drop p u) ≡ true
   pub inside : p ≤ length u
 
-left-step : (ed : Edition) (w k : ℕ) (d : List ℕ) → 0 < k → enough ed w k d ≡ true → (long-in ed w d ≤ length d) × (enough ed w (k - 1) (drop (long-in ed w d) d) ≡ true)
+left-step : (e : Edition) (w k : ℕ) (d : List ℕ) → 0 < k → enough e w k d ≡ true → (long-in e w d ≤ length d) × (enough e w (k - 1) (drop (long-in e w d) d) ≡ true)
 unfolding enough
-left-step ed w zero d h f = absurd (omega arith)
-left-step ed w (suc k) d h f =
+left-step e w zero d h f = absurd (omega arith)
+left-step e w (suc k) d h f =
     let q : k ≡ suc k - 1 = omega arith in
-    (leb-true _ _ (and-left _ _ f), subst (λ (j : ℕ). enough ed w j (drop (long-in ed w d) d) ≡ true) q (and-right (leb (long-in ed w d) (length d)) _ f))
+    (leb-true _ _ (and-left _ _ f), subst (λ (j : ℕ). enough e w j (drop (long-in e w d) d) ≡ true) q (and-right (leb (long-in e w d) (length d)) _ f))
 
-long-least : (ed : Edition) (w : ℕ) (d : List ℕ) → 3 + getD d 0 0 + w ≤ long-in ed w d
+long-least : (e : Edition) (w : ℕ) (d : List ℕ) → 3 + getD d 0 0 + w ≤ long-in e w d
 unfolding long-in
-long-least ed w d = omega arith
+long-least e w d = omega arith
 
-entries-cons : (ed : Edition) (w k : ℕ) (d : List ℕ) → entries-in ed w (suc k) d ≡ entry-in ed w d ∷ entries-in ed w k (drop (long-in ed w d) d)
+entries-cons : (e : Edition) (w k : ℕ) (d : List ℕ) → entries-in e w (suc k) d ≡ entry-in e w d ∷ entries-in e w k (drop (long-in e w d) d)
 unfolding entries-in
-entries-cons ed w k d = refl
+entries-cons e w k d = refl
 
-module _ (ed : Edition) (w : ℕ) (u : List ℕ) (at k i p : ℕ) (r : Run ed w u at k i p) (h : i < k) where
-  pub run-in : p + long-in ed w (drop p u) ≤ length u
+module _ (e : Edition) (w : ℕ) (u : List ℕ) (at k i p : ℕ) (r : Run e w u at k i p) (h : i < k) where
+  pub run-in : p + long-in e w (drop p u) ≤ length u
   run-in =
-      let s = left-step ed w (k - i) (drop p u) (omega arith) (r .left) in
-      let a : long-in ed w (drop p u) ≤ length u - p = rw length-drop at (s .0) in
-      omega (arith, long-least ed w (drop p u), r .inside)
+      let s = left-step e w (k - i) (drop p u) (omega arith) (r .left) in
+      let a : long-in e w (drop p u) ≤ length u - p = rw length-drop at (s .0) in
+      omega (arith, long-least e w (drop p u), r .inside)
 
-  pub run-next : (q : ℕ) → q ≡ long-in ed w (drop p u) → Run ed w u at k (i + 1) (p + q)
-  run-next q e =
-      let s = left-step ed w (k - i) (drop p u) (omega arith) (r .left) in
+  pub run-next : (q : ℕ) → q ≡ long-in e w (drop p u) → Run e w u at k (i + 1) (p + q)
+  run-next q e₀ =
+      let s = left-step e w (k - i) (drop p u) (omega arith) (r .left) in
       let n : k - i - 1 ≡ k - (i + 1) = omega arith in
-      let d : drop (long-in ed w (drop p u)) (drop p u) ≡ drop (p + q) u = drop-drop (long-in ed w (drop p u)) p u ∙ ap (λ (j : ℕ). drop (p + j) u) (sym e) in
-      let a : drop (start-of ed w i (drop at u)) (drop at u) ≡ drop p u =
-      drop-drop (start-of ed w i (drop at u)) at u ∙ ap (λ (j : ℕ). drop j u) (sym (r .place)) in
-      let b : long-in ed w (drop (start-of ed w i (drop at u)) (drop at u)) ≡ q = ap (long-in ed w) a ∙ sym e in
+      let d : drop (long-in e w (drop p u)) (drop p u) ≡ drop (p + q) u = drop-drop (long-in e w (drop p u)) p u ∙ ap (λ (j : ℕ). drop (p + j) u) (sym e₀) in
+      let a : drop (start-of e w i (drop at u)) (drop at u) ≡ drop p u =
+      drop-drop (start-of e w i (drop at u)) at u ∙ ap (λ (j : ℕ). drop j u) (sym (r .place)) in
+      let b : long-in e w (drop (start-of e w i (drop at u)) (drop at u)) ≡ q = ap (long-in e w) a ∙ sym e₀ in
       record {
         upto = omega arith;
         place = rw start-snoc (omega (arith, r .place));
@@ -87,25 +87,25 @@ module _ (ed : Edition) (w : ℕ) (u : List ℕ) (at k i p : ℕ) (r : Run ed w 
       }
 
   -- the entries that are left: the next one, and the others
-  pub run-entries : (q : ℕ) → q ≡ long-in ed w (drop p u)
-      → entries-in ed w (k - i) (drop p u) ≡ entry-in ed w (drop p u) ∷ entries-in ed w (k - (i + 1)) (drop (p + q) u)
-  run-entries q e =
+  pub run-entries : (q : ℕ) → q ≡ long-in e w (drop p u)
+      → entries-in e w (k - i) (drop p u) ≡ entry-in e w (drop p u) ∷ entries-in e w (k - (i + 1)) (drop (p + q) u)
+  run-entries q e₀ =
       let n : k - i ≡ suc (k - (i + 1)) = omega arith in
-      let d : drop (long-in ed w (drop p u)) (drop p u) ≡ drop (p + q) u = drop-drop (long-in ed w (drop p u)) p u ∙ ap (λ (j : ℕ). drop (p + j) u) (sym e) in
-      ap (λ (j : ℕ). entries-in ed w j (drop p u)) n ∙ entries-cons ed w (k - (i + 1)) (drop p u)
-      ∙ ap (λ (l : List ℕ). entry-in ed w (drop p u) ∷ entries-in ed w (k - (i + 1)) l) d
+      let d : drop (long-in e w (drop p u)) (drop p u) ≡ drop (p + q) u = drop-drop (long-in e w (drop p u)) p u ∙ ap (λ (j : ℕ). drop (p + j) u) (sym e₀) in
+      ap (λ (j : ℕ). entries-in e w j (drop p u)) n ∙ entries-cons e w (k - (i + 1)) (drop p u)
+      ∙ ap (λ (l : List ℕ). entry-in e w (drop p u) ∷ entries-in e w (k - (i + 1)) l) d
 
   -- the entries that are passed, and the next one
-  pub run-passed : entries-in ed w (i + 1) (drop at u) ≡ entries-in ed w i (drop at u) ++ (entry-in ed w (drop p u) ∷ [])
+  pub run-passed : entries-in e w (i + 1) (drop at u) ≡ entries-in e w i (drop at u) ++ (entry-in e w (drop p u) ∷ [])
   run-passed =
-      let a : drop (start-of ed w i (drop at u)) (drop at u) ≡ drop p u =
-      drop-drop (start-of ed w i (drop at u)) at u ∙ ap (λ (j : ℕ). drop j u) (sym (r .place)) in
-      entries-snoc ed w i (drop at u) ∙ ap (λ (l : List ℕ). entries-in ed w i (drop at u) ++ (entry-in ed w l ∷ [])) a
+      let a : drop (start-of e w i (drop at u)) (drop at u) ≡ drop p u =
+      drop-drop (start-of e w i (drop at u)) at u ∙ ap (λ (j : ℕ). drop j u) (sym (r .place)) in
+      entries-snoc e w i (drop at u) ∙ ap (λ (l : List ℕ). entries-in e w i (drop at u) ++ (entry-in e w l ∷ [])) a
 
 -- the start
-pub run-start : (ed : Edition) (w : ℕ) (u : List ℕ) (at k : ℕ) → at ≤ length u → enough ed w k (drop at u) ≡ true → Run ed w u at k 0 at
+pub run-start : (e : Edition) (w : ℕ) (u : List ℕ) (at k : ℕ) → at ≤ length u → enough e w k (drop at u) ≡ true → Run e w u at k 0 at
 unfolding start-of
-run-start ed w u at k h f =
+run-start e w u at k h f =
     let n : k - 0 ≡ k = omega arith in
     record { upto = omega arith; place = omega arith; left = rw n f; inside = h }
 
@@ -114,27 +114,27 @@ run-start ed w u at k h f =
 pub name-byte : (u : List ℕ) (p : ℕ) → getD (drop p u) 0 0 ≡ getD u p 0
 name-byte u p = getD-drop p u 0 0 ∙ ap (λ (j : ℕ). getD u j 0) (add-zero p)
 
-pub long-at-is : (ed : Edition) (w : ℕ) (u : List ℕ) (p : ℕ) → long-in ed w (drop p u) ≡ 3 + getD u p 0 + (ed .ftype + w)
+pub long-at-is : (e : Edition) (w : ℕ) (u : List ℕ) (p : ℕ) → long-in e w (drop p u) ≡ 3 + getD u p 0 + (e .ftype + w)
 unfolding long-in
-long-at-is ed w u p = rw (name-byte u p) (omega arith)
+long-at-is e w u p = rw (name-byte u p) (omega arith)
 
-pub tag-at-is : (ed : Edition) (w : ℕ) (u : List ℕ) (p : ℕ) → entry-in ed w (drop p u) .tag ≡ field (p + 1) 2 u
+pub tag-at-is : (e : Edition) (w : ℕ) (u : List ℕ) (p : ℕ) → entry-in e w (drop p u) .tag ≡ field (p + 1) 2 u
 unfolding entry-in
-tag-at-is ed w u p = rw (drop-drop 1 p u) refl
+tag-at-is e w u p = rw (drop-drop 1 p u) refl
 
-pub name-at-is : (ed : Edition) (w : ℕ) (u : List ℕ) (p : ℕ) → entry-in ed w (drop p u) .name ≡ part (p + 3) (getD u p 0) u
+pub name-at-is : (e : Edition) (w : ℕ) (u : List ℕ) (p : ℕ) → entry-in e w (drop p u) .name ≡ part (p + 3) (getD u p 0) u
 unfolding entry-in
-name-at-is ed w u p = rw (drop-drop 3 p u, name-byte u p) refl
+name-at-is e w u p = rw (drop-drop 3 p u, name-byte u p) refl
 
-pub inode-at-is : (ed : Edition) (w : ℕ) (u : List ℕ) (p : ℕ) → entry-in ed w (drop p u) .inode ≡ field (p + 3 + getD u p 0 + ed .ftype) w u
+pub inode-at-is : (e : Edition) (w : ℕ) (u : List ℕ) (p : ℕ) → entry-in e w (drop p u) .inode ≡ field (p + 3 + getD u p 0 + e .ftype) w u
 unfolding entry-in
-inode-at-is ed w u p =
-    let q : p + (3 + getD (drop p u) 0 0 + ed .ftype) ≡ p + 3 + getD u p 0 + ed .ftype = omega (arith, name-byte u p) in
-    rw (drop-drop (3 + getD (drop p u) 0 0 + ed .ftype) p u, q) refl
+inode-at-is e w u p =
+    let q : p + (3 + getD (drop p u) 0 0 + e .ftype) ≡ p + 3 + getD u p 0 + e .ftype = omega (arith, name-byte u p) in
+    rw (drop-drop (3 + getD (drop p u) 0 0 + e .ftype) p u, q) refl
 
-pub kind-at-is : (ed : Edition) (w : ℕ) (u : List ℕ) (p : ℕ) → entry-in ed w (drop p u) .kind ≡ field (p + 3 + getD u p 0) (ed .ftype) u
+pub kind-at-is : (e : Edition) (w : ℕ) (u : List ℕ) (p : ℕ) → entry-in e w (drop p u) .kind ≡ field (p + 3 + getD u p 0) (e .ftype) u
 unfolding entry-in
-kind-at-is ed w u p =
+kind-at-is e w u p =
     let q : p + (3 + getD (drop p u) 0 0) ≡ p + 3 + getD u p 0 = omega (arith, name-byte u p) in
     rw (drop-drop (3 + getD (drop p u) 0 0) p u, q) refl
 
@@ -179,29 +179,29 @@ entries-drop e w (suc j) (suc k) d h =
 
 -- ---- the run, as the loops have it
 
-pub run-one : (ed : Edition) (w : ℕ) (u : List ℕ) (at k i p : ℕ) → Run ed w u at k i p → i < k → enough ed w 1 (drop p u) ≡ true
-run-one ed w u at k i p r h = enough-fewer ed w 1 (k - i) (drop p u) (omega arith) (r .left)
+pub run-one : (e : Edition) (w : ℕ) (u : List ℕ) (at k i p : ℕ) → Run e w u at k i p → i < k → enough e w 1 (drop p u) ≡ true
+run-one e w u at k i p r h = enough-fewer e w 1 (k - i) (drop p u) (omega arith) (r .left)
 
-pub run-on : (ed : Edition) (w : ℕ) (u : List ℕ) (at k i p n v : ℕ) → Run ed w u at k i p → i < k → n ≡ getD u p 0 → v ≡ ed .ftype + w → Run ed w u at k (i + 1) (p + 3 + n + v)
-run-on ed w u at k i p n v r h q e =
+pub run-on : (e : Edition) (w : ℕ) (u : List ℕ) (at k i p n v : ℕ) → Run e w u at k i p → i < k → n ≡ getD u p 0 → v ≡ e .ftype + w → Run e w u at k (i + 1) (p + 3 + n + v)
+run-on e w u at k i p n v r h q e₀ =
     let a : p + (3 + n + v) ≡ p + 3 + n + v = omega arith in
-    subst (λ (j : ℕ). Run ed w u at k (i + 1) j) a (run-next ed w u at k i p r h (3 + n + v) (omega (arith, long-at-is ed w u p)))
+    subst (λ (j : ℕ). Run e w u at k (i + 1) j) a (run-next e w u at k i p r h (3 + n + v) (omega (arith, long-at-is e w u p)))
 
 -- the entries that are left: the next one, and the others
-pub run-rest : (ed : Edition) (w : ℕ) (u : List ℕ) (at k i p n v : ℕ) → Run ed w u at k i p → i < k → n ≡ getD u p 0 → v ≡ ed .ftype + w
-    → entries-in ed w (k - i) (drop p u) ≡ entry-in ed w (drop p u) ∷ entries-in ed w (k - (i + 1)) (drop (p + 3 + n + v) u)
-run-rest ed w u at k i p n v r h q e =
+pub run-rest : (e : Edition) (w : ℕ) (u : List ℕ) (at k i p n v : ℕ) → Run e w u at k i p → i < k → n ≡ getD u p 0 → v ≡ e .ftype + w
+    → entries-in e w (k - i) (drop p u) ≡ entry-in e w (drop p u) ∷ entries-in e w (k - (i + 1)) (drop (p + 3 + n + v) u)
+run-rest e w u at k i p n v r h q e₀ =
     let a : p + (3 + n + v) ≡ p + 3 + n + v = omega arith in
-    subst (λ (j : ℕ). entries-in ed w (k - i) (drop p u) ≡ entry-in ed w (drop p u) ∷ entries-in ed w (k - (i + 1)) (drop j u)) a
-    (run-entries ed w u at k i p r h (3 + n + v) (omega (arith, long-at-is ed w u p)))
+    subst (λ (j : ℕ). entries-in e w (k - i) (drop p u) ≡ entry-in e w (drop p u) ∷ entries-in e w (k - (i + 1)) (drop j u)) a
+    (run-entries e w u at k i p r h (3 + n + v) (omega (arith, long-at-is e w u p)))
 
 -- none are left
-pub run-over : (ed : Edition) (w : ℕ) (u : List ℕ) (k i p : ℕ) → k ≤ i → entries-in ed w (k - i) (drop p u) ≡ []
+pub run-over : (e : Edition) (w : ℕ) (u : List ℕ) (k i p : ℕ) → k ≤ i → entries-in e w (k - i) (drop p u) ≡ []
 unfolding entries-in
-run-over ed w u k i p h = let a : k - i ≡ 0 = omega arith in rw a refl
+run-over e w u k i p h = let a : k - i ≡ 0 = omega arith in rw a refl
 
-pub run-whole : (ed : Edition) (w : ℕ) (u : List ℕ) (at k : ℕ) → entries-in ed w k (drop at u) ≡ entries-in ed w (k - 0) (drop at u)
-run-whole ed w u at k = let a : k - 0 ≡ k = omega arith in rw a refl
+pub run-whole : (e : Edition) (w : ℕ) (u : List ℕ) (at k : ℕ) → entries-in e w k (drop at u) ≡ entries-in e w (k - 0) (drop at u)
+run-whole e w u at k = let a : k - 0 ≡ k = omega arith in rw a refl
 
 -- the bytes before entry j lie in d
 pub start-in : (e : Edition) (w j k : ℕ) (d : List ℕ) → j ≤ k → enough e w k d ≡ true → start-of e w j d ≤ length d
@@ -215,8 +215,8 @@ start-in e w (suc j) (suc k) d h f =
     omega arith
 
 -- the run up to entry j, where j and its place are known
-pub run-at : (ed : Edition) (w : ℕ) (u : List ℕ) (at k j p : ℕ) → at ≤ length u → enough ed w k (drop at u) ≡ true → j ≤ k → p ≡ at + start-of ed w j (drop at u) → Run ed w u at k j p
-run-at ed w u at k j p h f l q =
-    let a : drop (start-of ed w j (drop at u)) (drop at u) ≡ drop p u = drop-drop (start-of ed w j (drop at u)) at u ∙ ap (λ (i : ℕ). drop i u) (sym q) in
-    let s : start-of ed w j (drop at u) ≤ length u - at = rw length-drop at (start-in ed w j k (drop at u) l f) in
-    record { upto = l; place = q; left = rw a at (enough-after ed w j k (drop at u) l f); inside = omega arith }
+pub run-at : (e : Edition) (w : ℕ) (u : List ℕ) (at k j p : ℕ) → at ≤ length u → enough e w k (drop at u) ≡ true → j ≤ k → p ≡ at + start-of e w j (drop at u) → Run e w u at k j p
+run-at e w u at k j p h f l q =
+    let a : drop (start-of e w j (drop at u)) (drop at u) ≡ drop p u = drop-drop (start-of e w j (drop at u)) at u ∙ ap (λ (i : ℕ). drop i u) (sym q) in
+    let s : start-of e w j (drop at u) ≤ length u - at = rw length-drop at (start-in e w j k (drop at u) l f) in
+    record { upto = l; place = q; left = rw a at (enough-after e w j k (drop at u) l f); inside = omega arith }

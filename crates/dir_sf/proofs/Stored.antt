@@ -7,7 +7,7 @@ use mathlib.Core.List.{List, [], _∷_, _++_}
 use lib.Dec.{eqb}
 use borrow.Author.Tests.{eqb-true, not-true}
 use Rattle.be.specs.Lists.{every, same}
-use Rattle.be.proofs.Bools.{by-cases, and-left, and-right}
+use Rattle.be.proofs.Bools.{by-cases, and-left, and-right, or-right, neither}
 use Rattle.edition.specs.declared.Edition.{Edition}
 use Rattle.edition.specs.Edition.{Sane}
 use Rattle.name.specs.Name.{legal-name, same-name, fixed-name, dot, dotdot}
@@ -15,20 +15,20 @@ use Rattle.name.proofs.Same.{same-name-refl, same-name-sym}
 use Rattle.dir_sf.specs.declared.Looked.the-variants.{Found, Refused}
 use Rattle.dir_sf.specs.Entry.{Entry}
 use Rattle.dir_sf.specs.Fork.{parent, entries, holds, once-ok, names-ok, name-ok}
-use Rattle.dir_sf.specs.Change.{number-in, lookup-code, lookup-number}
-use Rattle.dir_sf.specs.Inode.{used, verdict, as-looked, looked, looked-code, looked-number, lookup-answer}
+use Rattle.dir_sf.specs.Change.{number-in, lookup-code, lookup-inode}
+use Rattle.dir_sf.specs.Inode.{used, verdict, as-looked, looked, looked-code, looked-inode, lookup-answer}
 use Rattle.dir_sf.specs.Laws.{Looked-says, Lookup-stored, Lookup-absent, Lookup-parent}
-use Rattle.dir_sf.proofs.Names.{or-right, or-false, fails, once-head, once-tail}
+use Rattle.dir_sf.proofs.Names.{fails, once-head, once-tail}
 use Rattle.dir_sf.proofs.Tested.{used-passes, names-known, once-known}
 
 pub looked-says : Looked-says
-unfolding Looked-says as-looked looked-code looked-number
+unfolding Looked-says as-looked looked-code looked-inode
 looked-says code i = (by-cases (eqb code 0) (λ q. rw q (sym (eqb-true code 0 q))) (λ q. rw q refl), refl)
 
 -- not "." and not ".."
 not-fixed : (n : List ℕ) → fixed-name n ≡ false → (same n dot ≡ false) × (same n dotdot ≡ false)
 unfolding fixed-name
-not-fixed n h = or-false (same n dot) (same n dotdot) h
+not-fixed n h = neither (same n dot) (same n dotdot) h
 
 -- a name among the entries
 held-at : (e : Edition) (ys zs : List Entry) (x : Entry) → holds e (x .name) (ys ++ (x ∷ zs)) ≡ true
@@ -39,8 +39,8 @@ held-at e (y ∷ ys) zs x = or-right (same-name e (x .name) (y .name)) _ (held-a
 -- stands there once, so that its number is the first found
 apart : (e : Edition) (n : List ℕ) (ys zs : List Entry) (x : Entry) → holds e n (ys ++ (x ∷ zs)) ≡ false → same-name e n (x .name) ≡ false
 unfolding holds
-apart e n [] zs x h = or-false (same-name e n (x .name)) _ h .0
-apart e n (y ∷ ys) zs x h = apart e n ys zs x (or-false (same-name e n (y .name)) _ h .1)
+apart e n [] zs x h = neither (same-name e n (x .name)) _ h .0
+apart e n (y ∷ ys) zs x h = apart e n ys zs x (neither (same-name e n (y .name)) _ h .1)
 
 number-at : (e : Edition) (ys zs : List Entry) (x : Entry) → once-ok e (ys ++ (x ∷ zs)) ≡ true → number-in e (x .name) (ys ++ (x ∷ zs)) ≡ x .inode
 unfolding number-in
@@ -56,7 +56,7 @@ name-at e (y ∷ ys) zs x h = name-at e ys zs x (and-right (name-ok e y) _ h)
 module _ (e : Edition) (sane : Sane e) (told : ℕ) (b : List ℕ) (v : verdict e told b ≡ 0) where
   absent : (n : List ℕ) → legal-name e n ≡ true → fixed-name n ≡ false
       → lookup-answer e told b n ≡ cond (holds e n (entries e (used e b))) (Found (number-in e n (entries e (used e b)))) (Refused 13)
-  unfolding lookup-answer looked as-looked lookup-code lookup-number
+  unfolding lookup-answer looked as-looked lookup-code lookup-inode
   absent n h f =
       let d = not-fixed n f in
       rw (v, h, d .0, d .1) (by-cases (holds e n (entries e (used e b))) (λ q. rw q refl) (λ q. rw q refl))
@@ -70,7 +70,7 @@ module _ (e : Edition) (sane : Sane e) (told : ℕ) (b : List ℕ) (v : verdict 
       ∙ rw (q, held-at e ys zs x, number-at e ys zs x o) refl
 
   to-parent : lookup-answer e told b dotdot ≡ Found (parent (used e b))
-  unfolding lookup-answer looked as-looked lookup-code lookup-number legal-name
+  unfolding lookup-answer looked as-looked lookup-code lookup-inode legal-name
   to-parent = rw v refl
 
 module _ (e : Edition) (sane : Sane e) where

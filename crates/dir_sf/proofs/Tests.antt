@@ -27,187 +27,187 @@ and-false : (a : Bool) → (a && false) ≡ false
 and-false true = refl
 and-false false = refl
 
-tiles-on : (ed : Edition) (w told all low k : ℕ) (d : List ℕ) → long-in ed w d ≤ length d → entry-in ed w d .tag % 8 ≡ 0 → low ≤ entry-in ed w d .tag
-    → tiles ed w told all low (suc k) d ≡ tiles ed w told all (next-tag ed (entry-in ed w d)) k (drop (long-in ed w d) d)
+tiles-on : (e : Edition) (w told all low k : ℕ) (d : List ℕ) → long-in e w d ≤ length d → entry-in e w d .tag % 8 ≡ 0 → low ≤ entry-in e w d .tag
+    → tiles e w told all low (suc k) d ≡ tiles e w told all (next-tag e (entry-in e w d)) k (drop (long-in e w d) d)
 unfolding tiles filled entries-in tags-ok end-tag
-tiles-on ed w told all low k d h m l = rw (le-leb _ _ h, eq-eqb _ _ m, le-leb _ _ l) refl
+tiles-on e w told all low k d h m l = rw (le-leb _ _ h, eq-eqb _ _ m, le-leb _ _ l) refl
 
-tiles-short : (ed : Edition) (w told all low k : ℕ) (d : List ℕ) → length d < long-in ed w d → tiles ed w told all low (suc k) d ≡ false
+tiles-short : (e : Edition) (w told all low k : ℕ) (d : List ℕ) → length d < long-in e w d → tiles e w told all low (suc k) d ≡ false
 unfolding tiles filled
-tiles-short ed w told all low k d h = rw (lt-leb _ _ h) refl
+tiles-short e w told all low k d h = rw (lt-leb _ _ h) refl
 
-tiles-odd : (ed : Edition) (w told all low k : ℕ) (d : List ℕ) → (entry-in ed w d .tag % 8 ≡ 0 → ⊥) → tiles ed w told all low (suc k) d ≡ false
+tiles-odd : (e : Edition) (w told all low k : ℕ) (d : List ℕ) → (entry-in e w d .tag % 8 ≡ 0 → ⊥) → tiles e w told all low (suc k) d ≡ false
 unfolding tiles tags-ok entries-in
-tiles-odd ed w told all low k d h = rw (ne-eqb _ _ h, and-false (filled ed w (suc k) d)) refl
+tiles-odd e w told all low k d h = rw (ne-eqb _ _ h, and-false (filled e w (suc k) d)) refl
 
-tiles-low : (ed : Edition) (w told all low k : ℕ) (d : List ℕ) → entry-in ed w d .tag < low → tiles ed w told all low (suc k) d ≡ false
+tiles-low : (e : Edition) (w told all low k : ℕ) (d : List ℕ) → entry-in e w d .tag < low → tiles e w told all low (suc k) d ≡ false
 unfolding tiles tags-ok entries-in
-tiles-low ed w told all low k d h = rw (lt-leb _ _ h, and-false (eqb (entry-in ed w d .tag % 8) 0), and-false (filled ed w (suc k) d)) refl
+tiles-low e w told all low k d h = rw (lt-leb _ _ h, and-false (eqb (entry-in e w d .tag % 8) 0), and-false (filled e w (suc k) d)) refl
 
-pub record Tile (ed : Edition) (w told : ℕ) (u : List ℕ) (at k i p low : ℕ) : Type 0 where
+pub record Tile (e : Edition) (w told : ℕ) (u : List ℕ) (at k i p low : ℕ) : Type 0 where
   pub upto : i ≤ k
   pub inside : p ≤ length u
   pub small : low ≤ 65815
   pub few : k < 256
-  pub rest : tiles ed w told k (ed .first) k (drop at u) ≡ tiles ed w told k low (k - i) (drop p u)
+  pub rest : tiles e w told k (e .first) k (drop at u) ≡ tiles e w told k low (k - i) (drop p u)
 
-pub tile-start : (ed : Edition) (w told : ℕ) (u : List ℕ) (at k : ℕ) → Sane ed → at ≤ length u → k < 256 → Tile ed w told u at k 0 at (ed .first)
-tile-start ed w told u at k sane h f =
+pub tile-start : (e : Edition) (w told : ℕ) (u : List ℕ) (at k : ℕ) → Sane e → at ≤ length u → k < 256 → Tile e w told u at k 0 at (e .first)
+tile-start e w told u at k sane h f =
     let a : k - 0 ≡ k = omega arith in
-    record { upto = omega arith; inside = h; small = omega (arith, sane .first-after, sane .header-most); few = f; rest = ap (λ (j : ℕ). tiles ed w told k (ed .first) j (drop at u)) (sym a) }
+    record { upto = omega arith; inside = h; small = omega (arith, sane .first-after, sane .header-most); few = f; rest = ap (λ (j : ℕ). tiles e w told k (e .first) j (drop at u)) (sym a) }
 
-module _ (ed : Edition) (w told : ℕ) (u : List ℕ) (at k i p low : ℕ) (t : Tile ed w told u at k i p low) (h : i < k) where
+module _ (e : Edition) (w told : ℕ) (u : List ℕ) (at k i p low : ℕ) (t : Tile e w told u at k i p low) (h : i < k) where
   more : k - i ≡ suc (k - (i + 1))
   more = omega arith
 
-  at-next : tiles ed w told k (ed .first) k (drop at u) ≡ tiles ed w told k low (suc (k - (i + 1))) (drop p u)
-  at-next = t .rest ∙ ap (λ (j : ℕ). tiles ed w told k low j (drop p u)) more
+  at-next : tiles e w told k (e .first) k (drop at u) ≡ tiles e w told k low (suc (k - (i + 1))) (drop p u)
+  at-next = t .rest ∙ ap (λ (j : ℕ). tiles e w told k low j (drop p u)) more
 
-  pub tile-none : (v : ℕ) → v ≡ ed .ftype + w → length u - p < 3 + v → false ≡ tiles ed w told k (ed .first) k (drop at u)
-  tile-none v e l =
-      let a : length (drop p u) < long-in ed w (drop p u) = simp length-drop (omega (arith, long-at-is ed w u p)) in
-      sym (at-next ∙ tiles-short ed w told k low (k - (i + 1)) (drop p u) a)
+  pub tile-none : (v : ℕ) → v ≡ e .ftype + w → length u - p < 3 + v → false ≡ tiles e w told k (e .first) k (drop at u)
+  tile-none v e₀ l =
+      let a : length (drop p u) < long-in e w (drop p u) = simp length-drop (omega (arith, long-at-is e w u p)) in
+      sym (at-next ∙ tiles-short e w told k low (k - (i + 1)) (drop p u) a)
 
-  pub tile-short : (n v : ℕ) → n ≡ getD u p 0 → v ≡ ed .ftype + w → length u - p < 3 + n + v → false ≡ tiles ed w told k (ed .first) k (drop at u)
-  tile-short n v q e l =
-      let a : length (drop p u) < long-in ed w (drop p u) = simp length-drop (omega (arith, long-at-is ed w u p)) in
-      sym (at-next ∙ tiles-short ed w told k low (k - (i + 1)) (drop p u) a)
+  pub tile-short : (n v : ℕ) → n ≡ getD u p 0 → v ≡ e .ftype + w → length u - p < 3 + n + v → false ≡ tiles e w told k (e .first) k (drop at u)
+  tile-short n v q e₀ l =
+      let a : length (drop p u) < long-in e w (drop p u) = simp length-drop (omega (arith, long-at-is e w u p)) in
+      sym (at-next ∙ tiles-short e w told k low (k - (i + 1)) (drop p u) a)
 
-  pub tile-odd : (tag : ℕ) → tag ≡ field (p + 1) 2 u → (tag % 8 ≡ 0 → ⊥) → false ≡ tiles ed w told k (ed .first) k (drop at u)
+  pub tile-odd : (tag : ℕ) → tag ≡ field (p + 1) 2 u → (tag % 8 ≡ 0 → ⊥) → false ≡ tiles e w told k (e .first) k (drop at u)
   tile-odd tag q l =
-      let a : entry-in ed w (drop p u) .tag ≡ tag = tag-at-is ed w u p ∙ sym q in
-      sym (at-next ∙ tiles-odd ed w told k low (k - (i + 1)) (drop p u) (λ z. l (ap (λ (j : ℕ). j % 8) (sym a) ∙ z)))
+      let a : entry-in e w (drop p u) .tag ≡ tag = tag-at-is e w u p ∙ sym q in
+      sym (at-next ∙ tiles-odd e w told k low (k - (i + 1)) (drop p u) (λ z. l (ap (λ (j : ℕ). j % 8) (sym a) ∙ z)))
 
-  pub tile-low : (tag : ℕ) → tag ≡ field (p + 1) 2 u → tag < low → false ≡ tiles ed w told k (ed .first) k (drop at u)
+  pub tile-low : (tag : ℕ) → tag ≡ field (p + 1) 2 u → tag < low → false ≡ tiles e w told k (e .first) k (drop at u)
   tile-low tag q l =
-      let a : entry-in ed w (drop p u) .tag ≡ tag = tag-at-is ed w u p ∙ sym q in
-      sym (at-next ∙ tiles-low ed w told k low (k - (i + 1)) (drop p u) (omega arith))
+      let a : entry-in e w (drop p u) .tag ≡ tag = tag-at-is e w u p ∙ sym q in
+      sym (at-next ∙ tiles-low e w told k low (k - (i + 1)) (drop p u) (omega arith))
 
-  next-is : (n tag e : ℕ) → p + 3 + n + (ed .ftype + w) ≤ length u → n ≡ getD u p 0 → tag ≡ field (p + 1) 2 u → e ≡ entry-size ed n → next-tag ed (entry-in ed w (drop p u)) ≡ tag + e
+  next-is : (n tag e₀ : ℕ) → p + 3 + n + (e .ftype + w) ≤ length u → n ≡ getD u p 0 → tag ≡ field (p + 1) 2 u → e₀ ≡ entry-size e n → next-tag e (entry-in e w (drop p u)) ≡ tag + e₀
   unfolding next-tag
-  next-is n tag e l q f g =
-      let a : entry-in ed w (drop p u) .tag ≡ tag = tag-at-is ed w u p ∙ sym f in
-      let b : length (entry-in ed w (drop p u) .name) ≡ n = rw (name-at-is ed w u p) (simp (length-take, length-drop) (omega arith)) in
-      ap₂ (λ (x y : ℕ). x + entry-size ed y) a b ∙ ap (λ (y : ℕ). tag + y) (sym g)
+  next-is n tag e₀ l q f g =
+      let a : entry-in e w (drop p u) .tag ≡ tag = tag-at-is e w u p ∙ sym f in
+      let b : length (entry-in e w (drop p u) .name) ≡ n = rw (name-at-is e w u p) (simp (length-take, length-drop) (omega arith)) in
+      ap₂ (λ (x y : ℕ). x + entry-size e y) a b ∙ ap (λ (y : ℕ). tag + y) (sym g)
 
-  pub tile-on : (n v tag e : ℕ) → n ≡ getD u p 0 → v ≡ ed .ftype + w → 3 + n + v ≤ length u - p → tag ≡ field (p + 1) 2 u → tag < 65536 → tag % 8 ≡ 0 → low ≤ tag
-      → e ≡ entry-size ed n → e < 280 → Tile ed w told u at k (i + 1) (p + 3 + n + v) (tag + e)
-  tile-on n v tag e q f l g s m b c r =
-      let a : entry-in ed w (drop p u) .tag ≡ tag = tag-at-is ed w u p ∙ sym g in
-      let lg : long-in ed w (drop p u) ≤ length (drop p u) = simp length-drop (omega (arith, long-at-is ed w u p)) in
-      let z : p + long-in ed w (drop p u) ≡ p + 3 + n + v = omega (arith, long-at-is ed w u p) in
-      let d : drop (long-in ed w (drop p u)) (drop p u) ≡ drop (p + 3 + n + v) u =
-      drop-drop (long-in ed w (drop p u)) p u ∙ ap (λ (j : ℕ). drop j u) z in
+  pub tile-on : (n v tag e₀ : ℕ) → n ≡ getD u p 0 → v ≡ e .ftype + w → 3 + n + v ≤ length u - p → tag ≡ field (p + 1) 2 u → tag < 65536 → tag % 8 ≡ 0 → low ≤ tag
+      → e₀ ≡ entry-size e n → e₀ < 280 → Tile e w told u at k (i + 1) (p + 3 + n + v) (tag + e₀)
+  tile-on n v tag e₀ q f l g s m b c r =
+      let a : entry-in e w (drop p u) .tag ≡ tag = tag-at-is e w u p ∙ sym g in
+      let lg : long-in e w (drop p u) ≤ length (drop p u) = simp length-drop (omega (arith, long-at-is e w u p)) in
+      let z : p + long-in e w (drop p u) ≡ p + 3 + n + v = omega (arith, long-at-is e w u p) in
+      let d : drop (long-in e w (drop p u)) (drop p u) ≡ drop (p + 3 + n + v) u =
+      drop-drop (long-in e w (drop p u)) p u ∙ ap (λ (j : ℕ). drop j u) z in
       record {
         upto = omega arith;
         inside = omega (arith, t .inside);
         small = omega arith;
         few = t .few;
-        rest = at-next ∙ tiles-on ed w told k low (k - (i + 1)) (drop p u) lg (ap (λ (j : ℕ). j % 8) a ∙ m) (omega arith)
-            ∙ ap₂ (λ (x : ℕ) (y : List ℕ). tiles ed w told k x (k - (i + 1)) y) (next-is n tag e (omega (arith, t .inside)) q g c) d;
+        rest = at-next ∙ tiles-on e w told k low (k - (i + 1)) (drop p u) lg (ap (λ (j : ℕ). j % 8) a ∙ m) (omega arith)
+            ∙ ap₂ (λ (x : ℕ) (y : List ℕ). tiles e w told k x (k - (i + 1)) y) (next-is n tag e₀ (omega (arith, t .inside)) q g c) d;
       }
 
-tiles-end : (ed : Edition) (w told all low : ℕ) (d : List ℕ) → tiles ed w told all low 0 d ≡ (eqb (length d) 0 && leb (low + 8 * (all + 2) + 8) told)
+tiles-end : (e : Edition) (w told all low : ℕ) (d : List ℕ) → tiles e w told all low 0 d ≡ (eqb (length d) 0 && leb (low + 8 * (all + 2) + 8) told)
 unfolding tiles filled entries-in tags-ok end-tag in-block
-tiles-end ed w told all low d = by-cases (eqb (length d) 0) (λ q. rw q refl) (λ q. rw q refl)
+tiles-end e w told all low d = by-cases (eqb (length d) 0) (λ q. rw q refl) (λ q. rw q refl)
 
-module _ (ed : Edition) (w told : ℕ) (u : List ℕ) (at k i p low : ℕ) (t : Tile ed w told u at k i p low) (h : k ≤ i) where
-  at-end : tiles ed w told k (ed .first) k (drop at u) ≡ (eqb (length (drop p u)) 0 && leb (low + 8 * (k + 2) + 8) told)
+module _ (e : Edition) (w told : ℕ) (u : List ℕ) (at k i p low : ℕ) (t : Tile e w told u at k i p low) (h : k ≤ i) where
+  at-end : tiles e w told k (e .first) k (drop at u) ≡ (eqb (length (drop p u)) 0 && leb (low + 8 * (k + 2) + 8) told)
   at-end =
       let a : k - i ≡ 0 = omega arith in
-      t .rest ∙ ap (λ (j : ℕ). tiles ed w told k low j (drop p u)) a ∙ tiles-end ed w told k low (drop p u)
+      t .rest ∙ ap (λ (j : ℕ). tiles e w told k low j (drop p u)) a ∙ tiles-end e w told k low (drop p u)
 
-  pub tile-over : (p ≡ length u → ⊥) → false ≡ tiles ed w told k (ed .first) k (drop at u)
+  pub tile-over : (p ≡ length u → ⊥) → false ≡ tiles e w told k (e .first) k (drop at u)
   tile-over n =
       let a : length (drop p u) ≡ 0 → ⊥ = λ z. n (omega (arith, t .inside, sym (length-drop p u) ∙ z)) in
       sym (at-end ∙ rw (ne-eqb _ _ a) refl)
 
-  pub tile-done : p ≡ length u → leb (low + 8 * (k + 2) + 8) told ≡ tiles ed w told k (ed .first) k (drop at u)
+  pub tile-done : p ≡ length u → leb (low + 8 * (k + 2) + 8) told ≡ tiles e w told k (e .first) k (drop at u)
   tile-done q =
       let a : length (drop p u) ≡ 0 = length-drop p u ∙ omega arith in
       sym (at-end ∙ rw (eq-eqb _ _ a) refl)
 
 -- ---- a test of every entry
 
-pub record Every (ed : Edition) (q : Entry → Bool) (w : ℕ) (u : List ℕ) (at k i p : ℕ) : Type 0 where
-  pub run : Run ed w u at k i p
-  pub rest : every q (entries-in ed w k (drop at u)) ≡ every q (entries-in ed w (k - i) (drop p u))
+pub record Every (e : Edition) (q : Entry → Bool) (w : ℕ) (u : List ℕ) (at k i p : ℕ) : Type 0 where
+  pub run : Run e w u at k i p
+  pub rest : every q (entries-in e w k (drop at u)) ≡ every q (entries-in e w (k - i) (drop p u))
 
-module _ (ed : Edition) (q : Entry → Bool) (w : ℕ) (u : List ℕ) (at k : ℕ) where
-  pub every-start : at ≤ length u → enough ed w k (drop at u) ≡ true → Every ed q w u at k 0 at
-  every-start h f = record { run = run-start ed w u at k h f; rest = ap (every q) (run-whole ed w u at k) }
+module _ (e : Edition) (q : Entry → Bool) (w : ℕ) (u : List ℕ) (at k : ℕ) where
+  pub every-start : at ≤ length u → enough e w k (drop at u) ≡ true → Every e q w u at k 0 at
+  every-start h f = record { run = run-start e w u at k h f; rest = ap (every q) (run-whole e w u at k) }
 
-  pub every-on : (i p n v : ℕ) → Every ed q w u at k i p → i < k → n ≡ getD u p 0 → v ≡ ed .ftype + w → q (entry-in ed w (drop p u)) ≡ true → Every ed q w u at k (i + 1) (p + 3 + n + v)
+  pub every-on : (i p n v : ℕ) → Every e q w u at k i p → i < k → n ≡ getD u p 0 → v ≡ e .ftype + w → q (entry-in e w (drop p u)) ≡ true → Every e q w u at k (i + 1) (p + 3 + n + v)
   every-on i p n v s h a b t =
-      record { run = run-on ed w u at k i p n v (s .run) h a b; rest = s .rest ∙ ap (every q) (run-rest ed w u at k i p n v (s .run) h a b) ∙ rw t refl }
+      record { run = run-on e w u at k i p n v (s .run) h a b; rest = s .rest ∙ ap (every q) (run-rest e w u at k i p n v (s .run) h a b) ∙ rw t refl }
 
-  pub every-stop : (i p n : ℕ) → Every ed q w u at k i p → i < k → n ≡ getD u p 0 → q (entry-in ed w (drop p u)) ≡ false → every q (entries-in ed w k (drop at u)) ≡ false
-  every-stop i p n s h a t = s .rest ∙ ap (every q) (run-rest ed w u at k i p n (ed .ftype + w) (s .run) h a refl) ∙ rw t refl
+  pub every-stop : (i p n : ℕ) → Every e q w u at k i p → i < k → n ≡ getD u p 0 → q (entry-in e w (drop p u)) ≡ false → every q (entries-in e w k (drop at u)) ≡ false
+  every-stop i p n s h a t = s .rest ∙ ap (every q) (run-rest e w u at k i p n (e .ftype + w) (s .run) h a refl) ∙ rw t refl
 
-  pub every-done : (i p : ℕ) → Every ed q w u at k i p → k ≤ i → every q (entries-in ed w k (drop at u)) ≡ true
-  every-done i p s h = s .rest ∙ ap (every q) (run-over ed w u k i p h)
+  pub every-done : (i p : ℕ) → Every e q w u at k i p → k ≤ i → every q (entries-in e w k (drop at u)) ≡ true
+  every-done i p s h = s .rest ∙ ap (every q) (run-over e w u k i p h)
 
 -- NAME
 abbrev pub Named : Edition → ℕ → List ℕ → ℕ → ℕ → ℕ → ℕ → Type 0
-Named ed = Every ed (name-ok ed)
+Named e = Every e (name-ok e)
 
-read-name : (ed : Edition) (w : ℕ) (u : List ℕ) (p n : ℕ) → n ≡ getD u p 0 → take (p + 3 + n - (p + 3)) (drop (p + 3) u) ≡ entry-in ed w (drop p u) .name
-read-name ed w u p n q =
+read-name : (e : Edition) (w : ℕ) (u : List ℕ) (p n : ℕ) → n ≡ getD u p 0 → take (p + 3 + n - (p + 3)) (drop (p + 3) u) ≡ entry-in e w (drop p u) .name
+read-name e w u p n q =
     let l : p + 3 + n - (p + 3) ≡ getD u p 0 = omega arith in
-    rw (name-at-is ed w u p, l) refl
+    rw (name-at-is e w u p, l) refl
 
-module _ (ed : Edition) (w : ℕ) (u : List ℕ) (at k i p n : ℕ) (t : Bool) where
+module _ (e : Edition) (w : ℕ) (u : List ℕ) (at k i p n : ℕ) (t : Bool) where
   name-is : n ≡ getD u p 0
-      → t ≡ (legal-name ed (take (p + 3 + n - (p + 3)) (drop (p + 3) u)) && not (fixed-name (take (p + 3 + n - (p + 3)) (drop (p + 3) u))))
-      → t ≡ name-ok ed (entry-in ed w (drop p u))
-  name-is a b = b ∙ ap (λ (s : List ℕ). legal-name ed s && not (fixed-name s)) (read-name ed w u p n a)
+      → t ≡ (legal-name e (take (p + 3 + n - (p + 3)) (drop (p + 3) u)) && not (fixed-name (take (p + 3 + n - (p + 3)) (drop (p + 3) u))))
+      → t ≡ name-ok e (entry-in e w (drop p u))
+  name-is a b = b ∙ ap (λ (s : List ℕ). legal-name e s && not (fixed-name s)) (read-name e w u p n a)
 
-  pub named-stop : Every ed (name-ok ed) w u at k i p → i < k → n ≡ getD u p 0
-      → t ≡ (legal-name ed (take (p + 3 + n - (p + 3)) (drop (p + 3) u)) && not (fixed-name (take (p + 3 + n - (p + 3)) (drop (p + 3) u))))
-      → not t ≡ true → false ≡ names-ok ed (entries-in ed w k (drop at u))
+  pub named-stop : Every e (name-ok e) w u at k i p → i < k → n ≡ getD u p 0
+      → t ≡ (legal-name e (take (p + 3 + n - (p + 3)) (drop (p + 3) u)) && not (fixed-name (take (p + 3 + n - (p + 3)) (drop (p + 3) u))))
+      → not t ≡ true → false ≡ names-ok e (entries-in e w k (drop at u))
   unfolding names-ok
-  named-stop s h a b f = sym (every-stop ed (name-ok ed) w u at k i p n s h a (sym (name-is a b) ∙ not-true t f))
+  named-stop s h a b f = sym (every-stop e (name-ok e) w u at k i p n s h a (sym (name-is a b) ∙ not-true t f))
 
-  pub named-on : (v : ℕ) → Every ed (name-ok ed) w u at k i p → i < k → n ≡ getD u p 0 → v ≡ ed .ftype + w
-      → t ≡ (legal-name ed (take (p + 3 + n - (p + 3)) (drop (p + 3) u)) && not (fixed-name (take (p + 3 + n - (p + 3)) (drop (p + 3) u))))
-      → not t ≡ false → Every ed (name-ok ed) w u at k (i + 1) (p + 3 + n + v)
-  named-on v s h a e b f = every-on ed (name-ok ed) w u at k i p n v s h a e (sym (name-is a b) ∙ not-false t f)
+  pub named-on : (v : ℕ) → Every e (name-ok e) w u at k i p → i < k → n ≡ getD u p 0 → v ≡ e .ftype + w
+      → t ≡ (legal-name e (take (p + 3 + n - (p + 3)) (drop (p + 3) u)) && not (fixed-name (take (p + 3 + n - (p + 3)) (drop (p + 3) u))))
+      → not t ≡ false → Every e (name-ok e) w u at k (i + 1) (p + 3 + n + v)
+  named-on v s h a e₀ b f = every-on e (name-ok e) w u at k i p n v s h a e₀ (sym (name-is a b) ∙ not-false t f)
 
-pub named-done : (ed : Edition) (w : ℕ) (u : List ℕ) (at k i p : ℕ) → Every ed (name-ok ed) w u at k i p → k ≤ i → true ≡ names-ok ed (entries-in ed w k (drop at u))
+pub named-done : (e : Edition) (w : ℕ) (u : List ℕ) (at k i p : ℕ) → Every e (name-ok e) w u at k i p → k ≤ i → true ≡ names-ok e (entries-in e w k (drop at u))
 unfolding names-ok
-named-done ed w u at k i p s h = sym (every-done ed (name-ok ed) w u at k i p s h)
+named-done e w u at k i p s h = sym (every-done e (name-ok e) w u at k i p s h)
 
-pub storable-is : (ed : Edition) (a b : Bool) (s : List ℕ) → a ≡ legal-name ed s → b ≡ fixed-name s → (a && not b) ≡ (legal-name ed s && not (fixed-name s))
-storable-is ed a b s h k = ap₂ (λ (x y : Bool). x && not y) h k
+pub storable-is : (e : Edition) (a b : Bool) (s : List ℕ) → a ≡ legal-name e s → b ≡ fixed-name s → (a && not b) ≡ (legal-name e s && not (fixed-name s))
+storable-is e a b s h k = ap₂ (λ (x y : Bool). x && not y) h k
 
 -- NUMBER
 abbrev pub number-ok : Entry → Bool
 number-ok x = legal-number (x .inode)
 
-module _ (ed : Edition) (w : ℕ) (u : List ℕ) (at k i p n j : ℕ) (t : Bool) where
-  number-is : n ≡ getD u p 0 → j ≡ field (p + 3 + n + ed .ftype) w u → t ≡ legal-number j → t ≡ number-ok (entry-in ed w (drop p u))
+module _ (e : Edition) (w : ℕ) (u : List ℕ) (at k i p n j : ℕ) (t : Bool) where
+  number-is : n ≡ getD u p 0 → j ≡ field (p + 3 + n + e .ftype) w u → t ≡ legal-number j → t ≡ number-ok (entry-in e w (drop p u))
   number-is a b c =
-      let m : p + 3 + n + ed .ftype ≡ p + 3 + getD u p 0 + ed .ftype = omega arith in
-      c ∙ ap legal-number (b ∙ ap (λ (z : ℕ). field z w u) m ∙ sym (inode-at-is ed w u p))
+      let m : p + 3 + n + e .ftype ≡ p + 3 + getD u p 0 + e .ftype = omega arith in
+      c ∙ ap legal-number (b ∙ ap (λ (z : ℕ). field z w u) m ∙ sym (inode-at-is e w u p))
 
-  pub numbered-stop : (parent : ℕ) → Every ed number-ok w u at k i p → i < k → n ≡ getD u p 0 → j ≡ field (p + 3 + n + ed .ftype) w u → t ≡ legal-number j → not t ≡ true
-      → false ≡ numbers-ok parent (entries-in ed w k (drop at u))
+  pub numbered-stop : (parent : ℕ) → Every e number-ok w u at k i p → i < k → n ≡ getD u p 0 → j ≡ field (p + 3 + n + e .ftype) w u → t ≡ legal-number j → not t ≡ true
+      → false ≡ numbers-ok parent (entries-in e w k (drop at u))
   unfolding numbers-ok
   numbered-stop parent s h a b c f =
-      sym (rw (every-stop ed number-ok w u at k i p n s h a (sym (number-is a b c) ∙ not-true t f)) (and-false (legal-number parent)))
+      sym (rw (every-stop e number-ok w u at k i p n s h a (sym (number-is a b c) ∙ not-true t f)) (and-false (legal-number parent)))
 
-  pub numbered-on : (v : ℕ) → Every ed number-ok w u at k i p → i < k → n ≡ getD u p 0 → v ≡ ed .ftype + w → j ≡ field (p + 3 + n + ed .ftype) w u → t ≡ legal-number j → not t ≡ false
-      → Every ed number-ok w u at k (i + 1) (p + 3 + n + v)
-  numbered-on v s h a e b c f = every-on ed number-ok w u at k i p n v s h a e (sym (number-is a b c) ∙ not-false t f)
+  pub numbered-on : (v : ℕ) → Every e number-ok w u at k i p → i < k → n ≡ getD u p 0 → v ≡ e .ftype + w → j ≡ field (p + 3 + n + e .ftype) w u → t ≡ legal-number j → not t ≡ false
+      → Every e number-ok w u at k (i + 1) (p + 3 + n + v)
+  numbered-on v s h a e₀ b c f = every-on e number-ok w u at k i p n v s h a e₀ (sym (number-is a b c) ∙ not-false t f)
 
 pub numbered-parent : (parent : ℕ) (xs : List Entry) (t : Bool) → t ≡ legal-number parent → not t ≡ true → false ≡ numbers-ok parent xs
 unfolding numbers-ok
 numbered-parent parent xs t h f = sym (rw (sym h ∙ not-true t f) refl)
 
-pub numbered-done : (ed : Edition) (w : ℕ) (u : List ℕ) (at k i p parent : ℕ) (t : Bool) → Every ed number-ok w u at k i p → k ≤ i → t ≡ legal-number parent → not t ≡ false
-    → true ≡ numbers-ok parent (entries-in ed w k (drop at u))
+pub numbered-done : (e : Edition) (w : ℕ) (u : List ℕ) (at k i p parent : ℕ) (t : Bool) → Every e number-ok w u at k i p → k ≤ i → t ≡ legal-number parent → not t ≡ false
+    → true ≡ numbers-ok parent (entries-in e w k (drop at u))
 unfolding numbers-ok
-numbered-done ed w u at k i p parent t s h a b = sym (rw (sym a ∙ not-false t b) (every-done ed number-ok w u at k i p s h))
+numbered-done e w u at k i p parent t s h a b = sym (rw (sym a ∙ not-false t b) (every-done e number-ok w u at k i p s h))
 
 -- ---- wide numbers counted
 
@@ -219,33 +219,33 @@ pub wide-none : (i : ℕ) → i ≤ 4294967295 → _≡_ {A = ℕ} 0 (cond (is-w
 unfolding is-wide
 wide-none i h = rw (le-ltb _ _ h) refl
 
-pub record Wide (ed : Edition) (w : ℕ) (u : List ℕ) (at k parent i p c : ℕ) : Type 0 where
-  pub run : Run ed w u at k i p
+pub record Wide (e : Edition) (w : ℕ) (u : List ℕ) (at k parent i p c : ℕ) : Type 0 where
+  pub run : Run e w u at k i p
   pub few : c ≤ i
-  pub rest : wides-of parent (entries-in ed w k (drop at u)) ≡ c + wides-of parent (entries-in ed w (k - i) (drop p u))
+  pub rest : wides-of parent (entries-in e w k (drop at u)) ≡ c + wides-of parent (entries-in e w (k - i) (drop p u))
 
 wides-cons : (parent : ℕ) (x : Entry) (xs : List Entry) → wides-of parent (x ∷ xs) ≡ cond (is-wide (x .inode)) 1 0 + wides-of parent xs
 unfolding wides-of
 wides-cons parent x xs = refl
 
-pub wide-start : (ed : Edition) (w : ℕ) (u : List ℕ) (at k parent : ℕ) → at ≤ length u → enough ed w k (drop at u) ≡ true → Wide ed w u at k parent 0 at 0
-wide-start ed w u at k parent h f =
-    record { run = run-start ed w u at k h f; few = omega arith; rest = ap (wides-of parent) (run-whole ed w u at k) ∙ sym (zero-add _) }
+pub wide-start : (e : Edition) (w : ℕ) (u : List ℕ) (at k parent : ℕ) → at ≤ length u → enough e w k (drop at u) ≡ true → Wide e w u at k parent 0 at 0
+wide-start e w u at k parent h f =
+    record { run = run-start e w u at k h f; few = omega arith; rest = ap (wides-of parent) (run-whole e w u at k) ∙ sym (zero-add _) }
 
-pub wide-on : (ed : Edition) (w : ℕ) (u : List ℕ) (at k parent i p c n v j r : ℕ) → Wide ed w u at k parent i p c → i < k → n ≡ getD u p 0 → v ≡ ed .ftype + w → j ≡ field (p + 3 + n + ed .ftype) w u
-    → r ≡ cond (is-wide j) 1 0 → r ≤ 1 → Wide ed w u at k parent (i + 1) (p + 3 + n + v) (c + r)
-wide-on ed w u at k parent i p c n v j r s h a b e f l =
-    let m : p + 3 + n + ed .ftype ≡ p + 3 + getD u p 0 + ed .ftype = omega arith in
-    let x : Entry = entry-in ed w (drop p u) in
-    let g : r ≡ cond (is-wide (x .inode)) 1 0 = f ∙ ap (λ (z : ℕ). cond (is-wide z) 1 0) (e ∙ ap (λ (z : ℕ). field z w u) m ∙ sym (inode-at-is ed w u p)) in
-    let q : wides-of parent (entries-in ed w (k - i) (drop p u)) ≡ cond (is-wide (x .inode)) 1 0 + wides-of parent (entries-in ed w (k - (i + 1)) (drop (p + 3 + n + v) u)) =
-    ap (wides-of parent) (run-rest ed w u at k i p n v (s .run) h a b) ∙ wides-cons parent x _ in
-    record { run = run-on ed w u at k i p n v (s .run) h a b; few = omega (arith, s .few); rest = omega (arith, s .rest) }
+pub wide-on : (e : Edition) (w : ℕ) (u : List ℕ) (at k parent i p c n v j r : ℕ) → Wide e w u at k parent i p c → i < k → n ≡ getD u p 0 → v ≡ e .ftype + w → j ≡ field (p + 3 + n + e .ftype) w u
+    → r ≡ cond (is-wide j) 1 0 → r ≤ 1 → Wide e w u at k parent (i + 1) (p + 3 + n + v) (c + r)
+wide-on e w u at k parent i p c n v j r s h a b e₀ f l =
+    let m : p + 3 + n + e .ftype ≡ p + 3 + getD u p 0 + e .ftype = omega arith in
+    let x : Entry = entry-in e w (drop p u) in
+    let g : r ≡ cond (is-wide (x .inode)) 1 0 = f ∙ ap (λ (z : ℕ). cond (is-wide z) 1 0) (e₀ ∙ ap (λ (z : ℕ). field z w u) m ∙ sym (inode-at-is e w u p)) in
+    let q : wides-of parent (entries-in e w (k - i) (drop p u)) ≡ cond (is-wide (x .inode)) 1 0 + wides-of parent (entries-in e w (k - (i + 1)) (drop (p + 3 + n + v) u)) =
+    ap (wides-of parent) (run-rest e w u at k i p n v (s .run) h a b) ∙ wides-cons parent x _ in
+    record { run = run-on e w u at k i p n v (s .run) h a b; few = omega (arith, s .few); rest = omega (arith, s .rest) }
 
-pub wide-done : (ed : Edition) (w : ℕ) (u : List ℕ) (at k parent i p c : ℕ) → Wide ed w u at k parent i p c → k ≤ i → c ≡ wides-of parent (entries-in ed w k (drop at u))
+pub wide-done : (e : Edition) (w : ℕ) (u : List ℕ) (at k parent i p c : ℕ) → Wide e w u at k parent i p c → k ≤ i → c ≡ wides-of parent (entries-in e w k (drop at u))
 unfolding wides-of
-wide-done ed w u at k parent i p c s h =
-    let q : wides-of parent (entries-in ed w (k - i) (drop p u)) ≡ 0 = ap (wides-of parent) (run-over ed w u k i p h) in
+wide-done e w u at k parent i p c s h =
+    let q : wides-of parent (entries-in e w (k - i) (drop p u)) ≡ 0 = ap (wides-of parent) (run-over e w u k i p h) in
     omega (arith, s .rest)
 
 -- ---- TWICE
@@ -256,48 +256,48 @@ more-ltb a b =
     (λ q. q ∙ sym (lt-ltb (suc a) (suc b) (omega (arith, ltb-true a b q))))
     (λ q. q ∙ sym (le-ltb (suc a) (suc b) (omega (arith, ltb-false a b q))))
 
-pub seek-holds : (ed : Edition) (n : List ℕ) (xs : List Entry) → holds ed n xs ≡ ltb (seek ed n xs) (length xs)
+pub seek-holds : (e : Edition) (n : List ℕ) (xs : List Entry) → holds e n xs ≡ ltb (seek e n xs) (length xs)
 unfolding holds seek
-seek-holds ed n [] = sym (le-ltb 0 0 (omega arith))
-seek-holds ed n (x ∷ xs) =
-    by-cases (same-name ed n (x .name))
+seek-holds e n [] = sym (le-ltb 0 0 (omega arith))
+seek-holds e n (x ∷ xs) =
+    by-cases (same-name e n (x .name))
     (λ q. rw q (sym (lt-ltb 0 (suc (length xs)) (omega arith))))
-    (λ q. rw q (seek-holds ed n xs ∙ more-ltb (seek ed n xs) (length xs)))
+    (λ q. rw q (seek-holds e n xs ∙ more-ltb (seek e n xs) (length xs)))
 
-pub record Once (ed : Edition) (w : ℕ) (u : List ℕ) (at k i p : ℕ) : Type 0 where
-  pub run : Run ed w u at k i p
-  pub rest : once-ok ed (entries-in ed w k (drop at u)) ≡ once-ok ed (entries-in ed w (k - i) (drop p u))
+pub record Once (e : Edition) (w : ℕ) (u : List ℕ) (at k i p : ℕ) : Type 0 where
+  pub run : Run e w u at k i p
+  pub rest : once-ok e (entries-in e w k (drop at u)) ≡ once-ok e (entries-in e w (k - i) (drop p u))
 
-pub once-start : (ed : Edition) (w : ℕ) (u : List ℕ) (at k : ℕ) → at ≤ length u → enough ed w k (drop at u) ≡ true → Once ed w u at k 0 at
-once-start ed w u at k h f = record { run = run-start ed w u at k h f; rest = ap (once-ok ed) (run-whole ed w u at k) }
+pub once-start : (e : Edition) (w : ℕ) (u : List ℕ) (at k : ℕ) → at ≤ length u → enough e w k (drop at u) ≡ true → Once e w u at k 0 at
+once-start e w u at k h f = record { run = run-start e w u at k h f; rest = ap (once-ok e) (run-whole e w u at k) }
 
-once-cons : (ed : Edition) (x : Entry) (xs : List Entry) (t : Bool) → holds ed (x .name) xs ≡ t → once-ok ed (x ∷ xs) ≡ (not t && once-ok ed xs)
+once-cons : (e : Edition) (x : Entry) (xs : List Entry) (t : Bool) → holds e (x .name) xs ≡ t → once-ok e (x ∷ xs) ≡ (not t && once-ok e xs)
 unfolding once-ok
-once-cons ed x xs t h = rw h refl
+once-cons e x xs t h = rw h refl
 
 -- what the search among the others needs
-pub once-inside : (ed : Edition) (w : ℕ) (u : List ℕ) (at k i p n v : ℕ) → Once ed w u at k i p → i < k → n ≡ getD u p 0 → v ≡ ed .ftype + w → p + 3 + n + v ≤ length u
-once-inside ed w u at k i p n v s h a b = run-on ed w u at k i p n v (s .run) h a b .inside
+pub once-inside : (e : Edition) (w : ℕ) (u : List ℕ) (at k i p n v : ℕ) → Once e w u at k i p → i < k → n ≡ getD u p 0 → v ≡ e .ftype + w → p + 3 + n + v ≤ length u
+once-inside e w u at k i p n v s h a b = run-on e w u at k i p n v (s .run) h a b .inside
 
-pub once-enough : (ed : Edition) (w : ℕ) (u : List ℕ) (at k i p n v : ℕ) → Once ed w u at k i p → i < k → n ≡ getD u p 0 → v ≡ ed .ftype + w → enough ed w (k - (i + 1)) (drop (p + 3 + n + v) u) ≡ true
-once-enough ed w u at k i p n v s h a b = run-on ed w u at k i p n v (s .run) h a b .left
+pub once-enough : (e : Edition) (w : ℕ) (u : List ℕ) (at k i p n v : ℕ) → Once e w u at k i p → i < k → n ≡ getD u p 0 → v ≡ e .ftype + w → enough e w (k - (i + 1)) (drop (p + 3 + n + v) u) ≡ true
+once-enough e w u at k i p n v s h a b = run-on e w u at k i p n v (s .run) h a b .left
 
-module _ (ed : Edition) (w : ℕ) (u : List ℕ) (at k i p n v r : ℕ) (s : Once ed w u at k i p) (h : i < k) (a : n ≡ getD u p 0) (b : v ≡ ed .ftype + w)
-    (f : r ≡ seek ed (take (p + 3 + n - (p + 3)) (drop (p + 3) u)) (entries-in ed w (k - (i + 1)) (drop (p + 3 + n + v) u))) where
-  held : holds ed (entry-in ed w (drop p u) .name) (entries-in ed w (k - (i + 1)) (drop (p + 3 + n + v) u)) ≡ ltb r (k - (i + 1))
+module _ (e : Edition) (w : ℕ) (u : List ℕ) (at k i p n v r : ℕ) (s : Once e w u at k i p) (h : i < k) (a : n ≡ getD u p 0) (b : v ≡ e .ftype + w)
+    (f : r ≡ seek e (take (p + 3 + n - (p + 3)) (drop (p + 3) u)) (entries-in e w (k - (i + 1)) (drop (p + 3 + n + v) u))) where
+  held : holds e (entry-in e w (drop p u) .name) (entries-in e w (k - (i + 1)) (drop (p + 3 + n + v) u)) ≡ ltb r (k - (i + 1))
   held =
-      seek-holds ed (entry-in ed w (drop p u) .name) (entries-in ed w (k - (i + 1)) (drop (p + 3 + n + v) u))
-      ∙ ap₂ (λ (x y : ℕ). ltb x y) (ap (λ (l : List ℕ). seek ed l (entries-in ed w (k - (i + 1)) (drop (p + 3 + n + v) u))) (sym (read-name ed w u p n a)) ∙ sym f) (length-entries-in ed w (k - (i + 1)) (drop (p + 3 + n + v) u))
+      seek-holds e (entry-in e w (drop p u) .name) (entries-in e w (k - (i + 1)) (drop (p + 3 + n + v) u))
+      ∙ ap₂ (λ (x y : ℕ). ltb x y) (ap (λ (l : List ℕ). seek e l (entries-in e w (k - (i + 1)) (drop (p + 3 + n + v) u))) (sym (read-name e w u p n a)) ∙ sym f) (length-entries-in e w (k - (i + 1)) (drop (p + 3 + n + v) u))
 
-  step : once-ok ed (entries-in ed w k (drop at u)) ≡ (not (ltb r (k - (i + 1))) && once-ok ed (entries-in ed w (k - (i + 1)) (drop (p + 3 + n + v) u)))
-  step = s .rest ∙ ap (once-ok ed) (run-rest ed w u at k i p n v (s .run) h a b) ∙ once-cons ed (entry-in ed w (drop p u)) _ _ held
+  step : once-ok e (entries-in e w k (drop at u)) ≡ (not (ltb r (k - (i + 1))) && once-ok e (entries-in e w (k - (i + 1)) (drop (p + 3 + n + v) u)))
+  step = s .rest ∙ ap (once-ok e) (run-rest e w u at k i p n v (s .run) h a b) ∙ once-cons e (entry-in e w (drop p u)) _ _ held
 
-  pub once-stop : r < k - (i + 1) → false ≡ once-ok ed (entries-in ed w k (drop at u))
+  pub once-stop : r < k - (i + 1) → false ≡ once-ok e (entries-in e w k (drop at u))
   once-stop l = sym (step ∙ rw (lt-ltb _ _ l) refl)
 
-  pub once-on : k - (i + 1) ≤ r → Once ed w u at k (i + 1) (p + 3 + n + v)
-  once-on l = record { run = run-on ed w u at k i p n v (s .run) h a b; rest = step ∙ rw (le-ltb _ _ l) refl }
+  pub once-on : k - (i + 1) ≤ r → Once e w u at k (i + 1) (p + 3 + n + v)
+  once-on l = record { run = run-on e w u at k i p n v (s .run) h a b; rest = step ∙ rw (le-ltb _ _ l) refl }
 
-pub once-done : (ed : Edition) (w : ℕ) (u : List ℕ) (at k i p : ℕ) → Once ed w u at k i p → k ≤ i → true ≡ once-ok ed (entries-in ed w k (drop at u))
+pub once-done : (e : Edition) (w : ℕ) (u : List ℕ) (at k i p : ℕ) → Once e w u at k i p → k ≤ i → true ≡ once-ok e (entries-in e w k (drop at u))
 unfolding once-ok
-once-done ed w u at k i p s h = sym (s .rest ∙ ap (once-ok ed) (run-over ed w u k i p h))
+once-done e w u at k i p s h = sym (s .rest ∙ ap (once-ok e) (run-over e w u k i p h))

@@ -17,85 +17,85 @@ use Rattle.dir_sf.specs.Fork.{count-of, stored-wides, used-width, parent
 use Rattle.dir_sf.proofs.Run.{filled-enough}
 use Rattle.dir_sf.proofs.Listed.{entries-is, parent-is}
 
-pub tiles-enough : (ed : Edition) (w told all low k : ℕ) (d : List ℕ) (t : Bool) → t ≡ tiles ed w told all low k d → not t ≡ false → enough ed w k d ≡ true
+pub tiles-enough : (e : Edition) (w told all low k : ℕ) (d : List ℕ) (t : Bool) → t ≡ tiles e w told all low k d → not t ≡ false → enough e w k d ≡ true
 unfolding tiles
-tiles-enough ed w told all low k d t h f =
-    filled-enough ed w k d (and-left _ _ (and-left _ _ (sym h ∙ not-false t f)))
+tiles-enough e w told all low k d t h f =
+    filled-enough e w k d (and-left _ _ (and-left _ _ (sym h ∙ not-false t f)))
 
-module _ (ed : Edition) (u : List ℕ) (told k wides w : ℕ) (a : k ≡ getD u 0 0) (b : wides ≡ getD u 1 0) (c : w ≡ width-of wides) where
+module _ (e : Edition) (u : List ℕ) (told k wides w : ℕ) (a : k ≡ getD u 0 0) (b : wides ≡ getD u 1 0) (c : w ≡ width-of wides) where
   width-is : used-width u ≡ width-of wides
   unfolding used-width stored-wides
   width-is = ap width-of (sym b)
 
-  all-is : entries ed u ≡ entries-in ed (width-of wides) k (drop (2 + w) u)
-  all-is = entries-is ed u k wides w a b c
+  all-is : entries e u ≡ entries-in e (width-of wides) k (drop (2 + w) u)
+  all-is = entries-is e u k wides w a b c
 
-  tile-is : tile-ok ed told u ≡ tiles ed (width-of wides) told k (ed .first) k (drop (2 + w) u)
+  tile-is : tile-ok e told u ≡ tiles e (width-of wides) told k (e .first) k (drop (2 + w) u)
   unfolding tile-ok tiles entries count-of list-of
   tile-is = rw (width-is, ← c, ← a) refl
 
-  module _ (t₅ : Bool) (h₅ : t₅ ≡ tiles ed (width-of wides) told k (ed .first) k (drop (2 + w) u)) where
-    pub verdict-5 : not t₅ ≡ true → _≡_ {A = ℕ} 5 (used-verdict ed told u)
+  module _ (t₅ : Bool) (h₅ : t₅ ≡ tiles e (width-of wides) told k (e .first) k (drop (2 + w) u)) where
+    pub verdict-5 : not t₅ ≡ true → _≡_ {A = ℕ} 5 (used-verdict e told u)
     unfolding used-verdict
     verdict-5 f = sym (rw (tile-is ∙ sym h₅ ∙ not-true t₅ f) refl)
 
-    module _ (g₅ : not t₅ ≡ false) (t₆ : Bool) (h₆ : t₆ ≡ names-ok ed (entries-in ed (width-of wides) k (drop (2 + w) u))) where
-      five : tile-ok ed told u ≡ true
+    module _ (g₅ : not t₅ ≡ false) (t₆ : Bool) (h₆ : t₆ ≡ names-ok e (entries-in e (width-of wides) k (drop (2 + w) u))) where
+      five : tile-ok e told u ≡ true
       five = tile-is ∙ sym h₅ ∙ not-false t₅ g₅
 
-      six-is : names-ok ed (entries ed u) ≡ t₆
-      six-is = ap (names-ok ed) all-is ∙ sym h₆
+      six-is : names-ok e (entries e u) ≡ t₆
+      six-is = ap (names-ok e) all-is ∙ sym h₆
 
-      pub verdict-6 : not t₆ ≡ true → _≡_ {A = ℕ} 6 (used-verdict ed told u)
+      pub verdict-6 : not t₆ ≡ true → _≡_ {A = ℕ} 6 (used-verdict e told u)
       unfolding used-verdict
       verdict-6 f = sym (rw (five, six-is ∙ not-true t₆ f) refl)
 
       module _ (g₆ : not t₆ ≡ false) (p : ℕ) (hp : p ≡ field 2 (width-of wides) u) (t₇ : Bool)
-          (h₇ : t₇ ≡ numbers-ok p (entries-in ed (width-of wides) k (drop (2 + w) u))) where
-        seven-is : numbers-ok (parent u) (entries ed u) ≡ t₇
+          (h₇ : t₇ ≡ numbers-ok p (entries-in e (width-of wides) k (drop (2 + w) u))) where
+        seven-is : numbers-ok (parent u) (entries e u) ≡ t₇
         seven-is = ap₂ numbers-ok (sym (parent-is u wides p b hp)) all-is ∙ sym h₇
 
-        pub verdict-7 : not t₇ ≡ true → _≡_ {A = ℕ} 7 (used-verdict ed told u)
+        pub verdict-7 : not t₇ ≡ true → _≡_ {A = ℕ} 7 (used-verdict e told u)
         unfolding used-verdict
         verdict-7 f = sym (rw (five, six-is ∙ not-false t₆ g₆, seven-is ∙ not-true t₇ f) refl)
 
-        module _ (g₇ : not t₇ ≡ false) (n : ℕ) (h₈ : n ≡ wides-of p (entries-in ed (width-of wides) k (drop (2 + w) u))) where
-          counted : wides-of (parent u) (entries ed u) ≡ n
+        module _ (g₇ : not t₇ ≡ false) (n : ℕ) (h₈ : n ≡ wides-of p (entries-in e (width-of wides) k (drop (2 + w) u))) where
+          counted : wides-of (parent u) (entries e u) ≡ n
           counted = ap₂ wides-of (sym (parent-is u wides p b hp)) all-is ∙ sym h₈
 
-          pub verdict-8 : (wides ≡ n → ⊥) → _≡_ {A = ℕ} 8 (used-verdict ed told u)
+          pub verdict-8 : (wides ≡ n → ⊥) → _≡_ {A = ℕ} 8 (used-verdict e told u)
           unfolding used-verdict stored-wides
           verdict-8 f = sym (rw (five, six-is ∙ not-false t₆ g₆, seven-is ∙ not-false t₇ g₇, counted, ← b, ne-eqb wides n f) refl)
 
-          module _ (g₈ : wides ≡ n) (t₁₀ : Bool) (h₁₀ : t₁₀ ≡ once-ok ed (entries-in ed (width-of wides) k (drop (2 + w) u))) where
-            ten-is : once-ok ed (entries ed u) ≡ t₁₀
-            ten-is = ap (once-ok ed) all-is ∙ sym h₁₀
+          module _ (g₈ : wides ≡ n) (t₁₀ : Bool) (h₁₀ : t₁₀ ≡ once-ok e (entries-in e (width-of wides) k (drop (2 + w) u))) where
+            ten-is : once-ok e (entries e u) ≡ t₁₀
+            ten-is = ap (once-ok e) all-is ∙ sym h₁₀
 
-            pub verdict-10 : not t₁₀ ≡ true → _≡_ {A = ℕ} 10 (used-verdict ed told u)
+            pub verdict-10 : not t₁₀ ≡ true → _≡_ {A = ℕ} 10 (used-verdict e told u)
             unfolding used-verdict stored-wides
             verdict-10 f = sym (rw (five, six-is ∙ not-false t₆ g₆, seven-is ∙ not-false t₇ g₇, counted, ← b, eq-eqb wides n g₈, ten-is ∙ not-true t₁₀ f) refl)
 
-            pub verdict-0 : not t₁₀ ≡ false → _≡_ {A = ℕ} 0 (used-verdict ed told u)
+            pub verdict-0 : not t₁₀ ≡ false → _≡_ {A = ℕ} 0 (used-verdict e told u)
             unfolding used-verdict stored-wides
             verdict-0 f = sym (rw (five, six-is ∙ not-false t₆ g₆, seven-is ∙ not-false t₇ g₇, counted, ← b, eq-eqb wides n g₈, ten-is ∙ not-false t₁₀ f) refl)
 
 -- ---- SPAN
 
-module _ (ed : Edition) (f : List ℕ) (told size wides w : ℕ) (b : wides ≡ getD f 1 0) (c : w ≡ width-of wides) where
+module _ (e : Edition) (f : List ℕ) (told size wides w : ℕ) (b : wides ≡ getD f 1 0) (c : w ≡ width-of wides) where
   fork-width : used-width f ≡ w
   unfolding used-width stored-wides
   fork-width = ap width-of (sym b) ∙ sym c
 
-  pub span-under : size < 2 + w → _≡_ {A = ℕ} 4 (fork-verdict ed told f size)
+  pub span-under : size < 2 + w → _≡_ {A = ℕ} 4 (fork-verdict e told f size)
   unfolding fork-verdict span-ok
   span-under h = sym (rw (fork-width, lt-leb (2 + w) size h) refl)
 
-  pub span-over : length f < size → _≡_ {A = ℕ} 4 (fork-verdict ed told f size)
+  pub span-over : length f < size → _≡_ {A = ℕ} 4 (fork-verdict e told f size)
   unfolding fork-verdict span-ok
   span-over h = sym (by-cases (leb (2 + used-width f) size) (λ q. rw (q, lt-leb size (length f) h) refl) (λ q. rw q refl))
 
   module _ (l : 2 + w ≤ size) (m : size ≤ length f) where
-    pub span-in : (r : ℕ) → r ≡ used-verdict ed told (take size f) → r ≡ fork-verdict ed told f size
+    pub span-in : (r : ℕ) → r ≡ used-verdict e told (take size f) → r ≡ fork-verdict e told f size
     unfolding fork-verdict span-ok
     span-in r h = rw (fork-width, le-leb (2 + w) size l, le-leb size (length f) m) h
 

@@ -7,12 +7,13 @@ use mathlib.Core.List.{List, [], _∷_, _++_}
 use lib.Dec.{eqb, leb, ltb}
 use lib.ListN.{length, take, drop}
 use Rattle.be.specs.Lists.{same, without-first}
+use Rattle.be.specs.Codes.{otherwise}
 use Rattle.edition.specs.declared.Edition.{Edition}
 use Rattle.edition.specs.Edition.{entry-size}
 use Rattle.name.specs.Name.{legal-name, legal-number, same-name, fixed-name, dot, dotdot}
 use Rattle.dir_sf.specs.declared.Hit.{Hit}
 use Rattle.dir_sf.specs.Entry.{Entry, entry, is-wide, wides-of, next-tag, end-tag, in-block}
-use Rattle.dir_sf.specs.Fork.{entries, place-of, lay, holds, otherwise}
+use Rattle.dir_sf.specs.Fork.{entries, place-of, lay, holds}
 
 -- ---- lookup
 
@@ -41,8 +42,8 @@ lookup-code e n xs =
     otherwise (same n dotdot || holds e n xs) 13 0))
 
 -- Lookup of ".." gives the parent
-unfoldable pub lookup-number : Edition → List ℕ → ℕ → List Entry → ℕ
-lookup-number e n p xs = cond (same n dotdot) p (number-in e n xs)
+unfoldable pub lookup-inode : Edition → List ℕ → ℕ → List Entry → ℕ
+lookup-inode e n p xs = cond (same n dotdot) p (number-in e n xs)
 
 -- ---- insert
 

@@ -7,6 +7,7 @@ use mathlib.Core.Bool.{Bool, true, not, cond, _&&_}
 use mathlib.Core.List.{List, [], _∷_, _++_}
 use lib.Dec.{eqb, leb}
 use lib.ListN.{length, take, drop, replicate}
+use Rattle.be.specs.Codes.{otherwise}
 use Rattle.be.specs.Lists.{every, some-of}
 use Rattle.be.specs.Bytes.{byte, field, to-be}
 use Rattle.edition.specs.declared.Edition.{Edition}
@@ -92,10 +93,6 @@ holds e n xs = some-of (λ x. same-name e n (x .name)) xs
 unfoldable pub once-ok : Edition → List Entry → Bool
 once-ok e [] = true
 once-ok e (x ∷ xs) = not (holds e (x .name) xs) && once-ok e xs
-
--- a test, the number that is given when it fails, and the tests after it
-abbrev pub otherwise : Bool → ℕ → ℕ → ℕ
-otherwise t n rest = cond t rest n
 
 -- tests 5 to 10 of the used bytes, 8 INDEX being i8count; 0 if none fails
 unfoldable pub used-verdict : Edition → ℕ → List ℕ → ℕ

@@ -6,14 +6,15 @@ use mathlib.Core.List.{List, [], _∷_}
 use lib.Dec.{eqb}
 use lib.ListN.{length, take}
 use Rattle.be.specs.Bytes.{field, to-be, written, write}
+use Rattle.be.specs.Codes.{otherwise, and-then}
 use Rattle.edition.specs.declared.Edition.{Edition}
 use Rattle.edition.specs.Edition.{block-size}
 use Rattle.dinode.specs.Core.{directory-code, data-fork, data-length}
 use Rattle.dir_sf.specs.declared.Looked.{Looked}
 use Rattle.dir_sf.specs.declared.Looked.the-variants.{Found, Refused}
 use Rattle.dir_sf.specs.Entry.{Entry}
-use Rattle.dir_sf.specs.Fork.{parent, entries, lay, lay-fork, otherwise, fork-verdict}
-use Rattle.dir_sf.specs.Change.{inserted, insert-code, removed, remove-code, lookup-code, lookup-number}
+use Rattle.dir_sf.specs.Fork.{parent, entries, lay, lay-fork, fork-verdict}
+use Rattle.dir_sf.specs.Change.{inserted, insert-code, removed, remove-code, lookup-code, lookup-inode}
 
 -- the size field
 abbrev pub size-of : List ℕ → ℕ
@@ -27,12 +28,12 @@ used e b = take (size-of b) (data-fork e b)
 unfoldable pub verdict : Edition → ℕ → List ℕ → ℕ
 verdict e told b =
     otherwise (block-size told) 1 (
-    otherwise (eqb (directory-code e b) 0) (directory-code e b) (
+    and-then (directory-code e b) (
     fork-verdict e told (data-fork e b) (size-of b)))
 
 -- the verdict, or what the request itself comes to
 abbrev pub after-tests : Edition → ℕ → List ℕ → ℕ → ℕ
-after-tests e told b code = otherwise (eqb (verdict e told b) 0) (verdict e told b) code
+after-tests e told b code = and-then (verdict e told b) code
 
 -- ---- what each call answers
 
@@ -45,16 +46,19 @@ unfoldable pub looked-code : Looked → ℕ
 looked-code (Found i) = 0
 looked-code (Refused n) = n
 
-unfoldable pub looked-number : Looked → ℕ
-looked-number (Found i) = i
-looked-number (Refused n) = 0
+unfoldable pub looked-inode : Looked → ℕ
+looked-inode (Found i) = i
+looked-inode (Refused n) = 0
 
 unfoldable pub looked : Edition → List ℕ → ℕ → List Entry → Looked
-looked e n p xs = as-looked (lookup-code e n xs) (lookup-number e n p xs)
+looked e n p xs = as-looked (lookup-code e n xs) (lookup-inode e n p xs)
 
 unfoldable pub lookup-answer : Edition → ℕ → List ℕ → List ℕ → Looked
 lookup-answer e told b n =
     cond (eqb (verdict e told b) 0) (looked e n (parent (used e b)) (entries e (used e b))) (Refused (verdict e told b))
+
+unfoldable pub lookup-number : Edition → ℕ → List ℕ → List ℕ → ℕ
+lookup-number e told b n = after-tests e told b (lookup-code e n (entries e (used e b)))
 
 unfoldable pub insert-number : Edition → ℕ → List ℕ → List ℕ → ℕ → ℕ → ℕ
 insert-number e told b n kind i =

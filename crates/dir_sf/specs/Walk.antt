@@ -1,10 +1,11 @@
 -- One step of the walk over a short form, and the whole walk: stored order, no gaps, places counted from the fork's start.
 -- Assumes nothing.
 use Prim.Native.Nat.{ℕ, zero, suc, _+_}
-use mathlib.Core.Bool.{cond}
+use mathlib.Core.Bool.{Bool, cond, _||_}
 use mathlib.Core.List.{List, [], _∷_}
 use lib.Dec.{eqb}
 use lib.ListN.{length, drop}
+use Rattle.be.specs.Codes.{otherwise}
 use Rattle.edition.specs.declared.Edition.{Edition}
 use Rattle.dir_sf.specs.declared.Walked.{Walked}
 use Rattle.dir_sf.specs.declared.Seen.{Seen}
@@ -12,7 +13,7 @@ use Rattle.dir_sf.specs.declared.Seen.the-variants.{Live, End}
 use Rattle.dir_sf.specs.declared.Walked.the-variants.{Stepped, Refused}
 use Rattle.dir_sf.specs.Entry.{long-in, entry-in}
 use Rattle.dir_sf.specs.Fork.{count-of, used-width, list-of}
-use Rattle.dir_sf.specs.Inode.{verdict, used}
+use Rattle.dir_sf.specs.Inode.{verdict, used, after-tests}
 
 -- at the end a step says end, and stands where it stood
 unfoldable pub at-end : ℕ → Walked
@@ -41,6 +42,22 @@ step-in e u place = step-over e (used-width u) (count-of u) (2 + used-width u) (
 
 unfoldable pub step-answer : Edition → ℕ → List ℕ → ℕ → Walked
 step-answer e told b place = cond (eqb (verdict e told b) 0) (step-in e (used e b) place) (Refused (verdict e told b))
+
+-- places are record starts and the list's end: of k entries in d, the first of them at p
+unfoldable pub is-place : Edition → ℕ → ℕ → ℕ → List ℕ → ℕ → Bool
+is-place e w zero p d place = eqb place p
+is-place e w (suc k) p d place = eqb place p || is-place e w k (p + long-in e w d) (drop (long-in e w d) d) place
+
+-- a step's number: the tests', or 11 ASKED for any other place
+unfoldable pub step-number : Edition → ℕ → List ℕ → ℕ → ℕ
+step-number e told b place =
+    let u = used e b in
+    after-tests e told b (otherwise (is-place e (used-width u) (count-of u) (2 + used-width u) (list-of u) place) 11 0)
+
+-- the number of each case of an answer: 0 when the step is done
+unfoldable pub walked-code : Walked → ℕ
+walked-code (Stepped s) = 0
+walked-code (Refused k) = k
 
 -- ---- the whole walk
 

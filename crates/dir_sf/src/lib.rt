@@ -10,8 +10,8 @@ ghost use Rattle.dinode.specs.Core.{directory-code, data-length};
 ghost use Rattle.dir_sf.specs.Entry.{width-of, entries-in, enough, start-of, is-wide, wides-of};
 ghost use Rattle.dir_sf.specs.Fork.{Readable, place-of, count-of, parent, entries, tiles, names-ok, numbers-ok, once-ok, used-width, used-verdict, fork-verdict};
 ghost use Rattle.dir_sf.specs.Change.{Hits, seek};
-ghost use Rattle.dir_sf.specs.Inode.{verdict, looked, lookup-answer};
-ghost use Rattle.dir_sf.specs.Walk.{step-in, step-answer};
+ghost use Rattle.dir_sf.specs.Inode.{verdict, looked, looked-code, lookup-answer, lookup-number};
+ghost use Rattle.dir_sf.specs.Walk.{step-in, step-answer, step-number, walked-code};
 use edition::Edition;
 use edition::V4;
 
@@ -441,7 +441,7 @@ fn look_up<'a, 'b>(e: Edition, b: &'a [u8], told: usize, name: &'b [u8]) -> Look
 
 // The number stored with a name; ".." gives the parent.
 pub fn lookup<'a, 'b>(b: &'a [u8], told: usize, name: &'b [u8]) -> Looked
-    ensures { λ r. ⌜ r ≡ lookup-answer v4 told (now (b .entry)) (now (name .entry)) ⌝ }
+    ensures { λ r. ⌜ (r ≡ lookup-answer v4 told (now (b .entry)) (now (name .entry))) × (looked-code r ≡ lookup-number v4 told (now (b .entry)) (now (name .entry))) ⌝ }
 {
     look_up(V4::edition(), b, told, name)
 }
@@ -501,7 +501,7 @@ fn walk_from(e: Edition, b: &[u8], told: usize, place: usize) -> Walked
 
 // One step of the walk, from a place counted from the fork's start. The first place is behind the header: 6, or 10 where i8count is not 0.
 pub fn step_at(b: &[u8], told: usize, place: usize) -> Walked
-    ensures { λ r. ⌜ r ≡ step-answer v4 told (now (b .entry)) place ⌝ }
+    ensures { λ r. ⌜ (r ≡ step-answer v4 told (now (b .entry)) place) × (walked-code r ≡ step-number v4 told (now (b .entry)) place) ⌝ }
 {
     walk_from(V4::edition(), b, told, place)
 }

@@ -10,6 +10,7 @@ use lib.ListN.{length, drop, getD}
 use borrow.Author.Tests.{le-leb, lt-ltb, leb-true, ltb-true, ltb-false, eqb-true, eq-eqb, le-ltb}
 use Rattle.be.specs.Lists.{every, tally}
 use Rattle.be.specs.Bytes.{bytes, field}
+use Rattle.be.proofs.Codes.{passes}
 use Rattle.edition.specs.declared.Edition.{Edition}
 use Rattle.name.specs.Name.{legal-name, legal-number}
 use Rattle.name.proofs.Legality.{legal-bounds, number-bounds}
@@ -17,7 +18,6 @@ use Rattle.be.proofs.Bools.{and-left, and-right, and-both, by-cases, every-head
 use Rattle.be.proofs.Parts.{field-lt, bytes-drop}
 use Rattle.dir_sf.specs.Entry.{Entry, width-of, long-in, entry-in, entries-in, filled, is-wide, wides-of, next-tag, tags-ok, end-tag, in-block}
 use Rattle.dir_sf.specs.Fork.{count-of, stored-wides, used-width, parent, list-of, entries, lay, lay-fork, span-ok, tile-ok, name-ok, names-ok, numbers-ok, once-ok, used-verdict, fork-verdict}
-use Rattle.dir_sf.proofs.Chains.{pass}
 use Rattle.dir_sf.proofs.Run.{length-entries-in}
 use Rattle.dir_sf_edit.proofs.ReadBack.{Fits, filled-bytes, lay-count, lay-wides, lay-width, lay-list, lay-parent, lay-entries, length-lay, length-lay-fork, lay-used}
 
@@ -164,11 +164,11 @@ module _ (e : Edition) (told : ℕ) (u : List ℕ) (h : bytes u ≡ true) (long 
       × (eqb (stored-wides u) (wides-of (parent u) (entries e u)) ≡ true) × (once-ok e (entries e u) ≡ true)
   unfolding used-verdict
   tests =
-      let t₅ = pass (tile-ok e told u) 5 _ (omega arith) a in
-      let t₆ = pass (names-ok e (entries e u)) 6 _ (omega arith) (t₅ .1) in
-      let t₇ = pass (numbers-ok (parent u) (entries e u)) 7 _ (omega arith) (t₆ .1) in
-      let t₈ = pass (eqb (stored-wides u) (wides-of (parent u) (entries e u))) 8 _ (omega arith) (t₇ .1) in
-      let t₁₀ = pass (once-ok e (entries e u)) 10 _ (omega arith) (t₈ .1) in
+      let t₅ = passes (tile-ok e told u) 4 _ a in
+      let t₆ = passes (names-ok e (entries e u)) 5 _ (t₅ .1) in
+      let t₇ = passes (numbers-ok (parent u) (entries e u)) 6 _ (t₆ .1) in
+      let t₈ = passes (eqb (stored-wides u) (wides-of (parent u) (entries e u))) 7 _ (t₇ .1) in
+      let t₁₀ = passes (once-ok e (entries e u)) 9 _ (t₈ .1) in
       (t₅ .0, t₆ .0, t₇ .0, t₈ .0, t₁₀ .0)
 
   pub used-count : length (entries e u) ≡ count-of u

@@ -12,6 +12,7 @@ use Rattle.be.specs.Bytes.{to-be, field, put, written}
 use Rattle.be.specs.Lists.{every}
 use Rattle.be.proofs.Bools.{and-left, and-right, and-both}
 use Rattle.be.proofs.Writes.{put-nothing}
+use Rattle.be.proofs.Codes.{passes, both}
 use Rattle.edition.specs.declared.Edition.{Edition}
 use Rattle.edition.specs.Edition.{Sane}
 use Rattle.name.specs.Name.{legal-name, legal-number, fixed-name}
@@ -21,7 +22,6 @@ use Rattle.dir_sf.specs.Entry.{Entry, entry, width-of, long-in, entry-in, entri
 use Rattle.dir_sf.specs.Fork.{Readable, count-of, used-width, parent, list-of, entries, holds, lay, lay-fork, tile-ok, name-ok, names-ok, used-verdict}
 use Rattle.dir_sf.specs.Change.{tag-for, placed, inserted, insert-code, removed, remove-code}
 use Rattle.dir_sf.specs.Inode.{verdict, used, insert-number, remove-number, with-entries, after-insert, after-remove}
-use Rattle.dir_sf.proofs.Chains.{pass, self-pass}
 use Rattle.dir_sf_edit.proofs.ReadBack.{length-entry-bytes, length-lay}
 use Rattle.dir_sf_edit.proofs.Keeps.{removed-fits, inserts}
 use Rattle.dir_sf_edit.proofs.Inserts.{every-placed, length-placed}
@@ -31,16 +31,16 @@ use Rattle.dir_sf.proofs.Tested.{wides-known, names-known, is-directory, used-p
 
 -- ---- the answer
 
-pub remove-refused : (ed : Edition) (told c : ℕ) (b n : List ℕ) → c ≡ verdict ed told b → (c ≡ 0 → ⊥) → c ≡ remove-number ed told b n
+pub remove-refused : (e : Edition) (told c : ℕ) (b n : List ℕ) → c ≡ verdict e told b → (c ≡ 0 → ⊥) → c ≡ remove-number e told b n
 unfolding remove-number
-remove-refused ed told c b n h f = h ∙ sym (rw (ne-eqb (verdict ed told b) 0 (λ q. f (h ∙ q))) refl)
+remove-refused e told c b n h f = h ∙ sym (rw (ne-eqb (verdict e told b) 0 (λ q. f (h ∙ q))) refl)
 
-pub remove-passed : (ed : Edition) (sane : Sane ed) (told c z r : ℕ) (b n : List ℕ) → c ≡ verdict ed told b → c ≡ 0 → z ≡ field 56 8 b
-    → r ≡ remove-code ed n (parent (take (ed .literal + z - ed .literal) (drop (ed .literal) b))) (entries ed (take (ed .literal + z - ed .literal) (drop (ed .literal) b))) → r ≡ remove-number ed told b n
+pub remove-passed : (e : Edition) (sane : Sane e) (told c z r : ℕ) (b n : List ℕ) → c ≡ verdict e told b → c ≡ 0 → z ≡ field 56 8 b
+    → r ≡ remove-code e n (parent (take (e .literal + z - e .literal) (drop (e .literal) b))) (entries e (take (e .literal + z - e .literal) (drop (e .literal) b))) → r ≡ remove-number e told b n
 unfolding remove-number
-remove-passed ed sane told c z r b n h f q k =
-    let v : verdict ed told b ≡ 0 = sym h ∙ f in
-    k ∙ ap (λ (u : List ℕ). remove-code ed n (parent u) (entries ed u)) (used-is ed sane told b v z q) ∙ sym (rw (eq-eqb _ _ v) refl)
+remove-passed e sane told c z r b n h f q k =
+    let v : verdict e told b ≡ 0 = sym h ∙ f in
+    k ∙ ap (λ (u : List ℕ). remove-code e n (parent u) (entries e u)) (used-is e sane told b v z q) ∙ sym (rw (eq-eqb _ _ v) refl)
 
 -- ---- what is laid out anew is as long as what was there
 
@@ -56,30 +56,30 @@ filled-long e w (suc k) d f =
     let i = filled-long e w k (drop (long-in e w d) d) (and-right (leb (long-in e w d) (length d)) _ f) in
     length-append (entry-bytes e w (entry-in e w d)) _ ∙ omega (arith, entry-long e w d l, length-drop (long-in e w d) d)
 
-tile-filled : (ed : Edition) (told : ℕ) (u : List ℕ) → used-verdict ed told u ≡ 0 → filled ed (used-width u) (count-of u) (list-of u) ≡ true
+tile-filled : (e : Edition) (told : ℕ) (u : List ℕ) → used-verdict e told u ≡ 0 → filled e (used-width u) (count-of u) (list-of u) ≡ true
 unfolding used-verdict tile-ok
-tile-filled ed told u a = let t = pass (tile-ok ed told u) 5 _ (omega arith) a in and-left _ _ (and-left _ _ (t .0))
+tile-filled e told u a = let t = passes (tile-ok e told u) 4 _ a in and-left _ _ (and-left _ _ (t .0))
 
-width-same : (ed : Edition) (told : ℕ) (u : List ℕ) → used-verdict ed told u ≡ 0 → width-of (wides-of (parent u) (entries ed u)) ≡ used-width u
+width-same : (e : Edition) (told : ℕ) (u : List ℕ) → used-verdict e told u ≡ 0 → width-of (wides-of (parent u) (entries e u)) ≡ used-width u
 unfolding used-width
-width-same ed told u a = ap width-of (sym (wides-known ed told u a))
+width-same e told u a = ap width-of (sym (wides-known e told u a))
 
-listed : (ed : Edition) (told : ℕ) (u : List ℕ) → used-verdict ed told u ≡ 0 → length (entries-bytes ed (used-width u) (entries ed u)) ≡ length (list-of u)
+listed : (e : Edition) (told : ℕ) (u : List ℕ) → used-verdict e told u ≡ 0 → length (entries-bytes e (used-width u) (entries e u)) ≡ length (list-of u)
 unfolding entries
-listed ed told u a = filled-long ed (used-width u) (count-of u) (list-of u) (tile-filled ed told u a)
+listed e told u a = filled-long e (used-width u) (count-of u) (list-of u) (tile-filled e told u a)
 
 list-long : (u : List ℕ) → length (list-of u) ≡ length u - (2 + used-width u)
 unfolding list-of
 list-long u = length-drop (2 + used-width u) u
 
-same-long : (ed : Edition) (told : ℕ) (u : List ℕ) → used-verdict ed told u ≡ 0 → 2 + used-width u ≤ length u → length (lay ed (parent u) (entries ed u)) ≡ length u
-same-long ed told u a h =
-    let w : width-of (wides-of (parent u) (entries ed u)) ≡ used-width u = width-same ed told u a in
-    let f : length (entries-bytes ed (used-width u) (entries ed u)) ≡ length (list-of u) = listed ed told u a in
-    let g : length (entries-bytes ed (width-of (wides-of (parent u) (entries ed u))) (entries ed u)) ≡ length (list-of u) =
-    ap (λ (y : ℕ). length (entries-bytes ed y (entries ed u))) w ∙ f in
+same-long : (e : Edition) (told : ℕ) (u : List ℕ) → used-verdict e told u ≡ 0 → 2 + used-width u ≤ length u → length (lay e (parent u) (entries e u)) ≡ length u
+same-long e told u a h =
+    let w : width-of (wides-of (parent u) (entries e u)) ≡ used-width u = width-same e told u a in
+    let f : length (entries-bytes e (used-width u) (entries e u)) ≡ length (list-of u) = listed e told u a in
+    let g : length (entries-bytes e (width-of (wides-of (parent u) (entries e u))) (entries e u)) ≡ length (list-of u) =
+    ap (λ (y : ℕ). length (entries-bytes e y (entries e u))) w ∙ f in
     let l : length (list-of u) ≡ length u - (2 + used-width u) = list-long u in
-    omega (arith, length-lay ed (parent u) (entries ed u))
+    omega (arith, length-lay e (parent u) (entries e u))
 
 -- ---- the bytes
 
@@ -98,169 +98,169 @@ fresh-take (x ∷ xs) (suc n) (suc m) h l =
     rw q (ap (λ (l : List ℕ). x ∷ l) (fresh-take xs n m (omega arith) (omega arith)))
 
 -- the fork rebuilt in a fresh array and written back
-module _ (ed : Edition) (sane : Sane ed) (told : ℕ) (b : List ℕ) (v : verdict ed told b ≡ 0) (ys : List Entry)
-    (fits : length (lay ed (parent (used ed b)) ys) ≤ data-length ed b) where
-  written-back : (m s : ℕ) (t b₁ : List ℕ) → m ≡ data-length ed b → t ≡ put (replicate 2048 0) 0 (lay ed (parent (used ed b)) ys)
-      → s ≡ length (lay ed (parent (used ed b)) ys) → b₁ ≡ put (put b 56 (to-be 8 s)) (ed .literal) (take m t) → b₁ ≡ with-entries ed b ys
+module _ (e : Edition) (sane : Sane e) (told : ℕ) (b : List ℕ) (v : verdict e told b ≡ 0) (ys : List Entry)
+    (fits : length (lay e (parent (used e b)) ys) ≤ data-length e b) where
+  written-back : (m s : ℕ) (t b₁ : List ℕ) → m ≡ data-length e b → t ≡ put (replicate 2048 0) 0 (lay e (parent (used e b)) ys)
+      → s ≡ length (lay e (parent (used e b)) ys) → b₁ ≡ put (put b 56 (to-be 8 s)) (e .literal) (take m t) → b₁ ≡ with-entries e b ys
   unfolding with-entries written lay-fork
-  written-back m s t b₁ e f g k =
-      let L : List ℕ = lay ed (parent (used ed b)) ys in
-      let x = used-bounds ed sane told b v (field 56 8 b) refl in
-      let y : take m t ≡ L ++ replicate (data-length ed b - length L) 0 =
-      ap₂ (λ (i : ℕ) (l : List ℕ). take i l) e f ∙ fresh-take L (data-length ed b) 2048 fits (omega arith) in
-      k ∙ ap₂ (λ (i : ℕ) (l : List ℕ). put (put b 56 (to-be 8 i)) (ed .literal) l) g y
+  written-back m s t b₁ e₀ f g k =
+      let L : List ℕ = lay e (parent (used e b)) ys in
+      let x = used-bounds e sane told b v (field 56 8 b) refl in
+      let y : take m t ≡ L ++ replicate (data-length e b - length L) 0 =
+      ap₂ (λ (i : ℕ) (l : List ℕ). take i l) e₀ f ∙ fresh-take L (data-length e b) 2048 fits (omega arith) in
+      k ∙ ap₂ (λ (i : ℕ) (l : List ℕ). put (put b 56 (to-be 8 i)) (e .literal) l) g y
 
-  room : (T : ℕ) → T ≡ 2048 → length (lay ed (parent (used ed b)) ys) ≤ T
-  room T e = let x = used-bounds ed sane told b v (field 56 8 b) refl in omega arith
+  room : (T : ℕ) → T ≡ 2048 → length (lay e (parent (used e b)) ys) ≤ T
+  room T e₀ = let x = used-bounds e sane told b v (field 56 8 b) refl in omega arith
 
 -- what was there fits the fork
-pub lay-fits : (ed : Edition) (sane : Sane ed) (told : ℕ) (b : List ℕ) → verdict ed told b ≡ 0 → length (lay ed (parent (used ed b)) (entries ed (used ed b))) ≤ data-length ed b
-lay-fits ed sane told b v =
-    let u = used-bounds ed sane told b v (field 56 8 b) refl in
-    omega (arith, same-long ed told (used ed b) (used-passes ed sane told b v) (used-header ed sane told b v), used-long ed sane told b v)
+pub lay-fits : (e : Edition) (sane : Sane e) (told : ℕ) (b : List ℕ) → verdict e told b ≡ 0 → length (lay e (parent (used e b)) (entries e (used e b))) ≤ data-length e b
+lay-fits e sane told b v =
+    let u = used-bounds e sane told b v (field 56 8 b) refl in
+    omega (arith, same-long e told (used e b) (used-passes e sane told b v) (used-header e sane told b v), used-long e sane told b v)
 
 -- ---- removal
 
-module _ (ed : Edition) (sane : Sane ed) (told : ℕ) (b n : List ℕ) (h : remove-number ed told b n ≡ 0) where
-  parts : (verdict ed told b ≡ 0) × (remove-code ed n (parent (used ed b)) (entries ed (used ed b)) ≡ 0)
+module _ (e : Edition) (sane : Sane e) (told : ℕ) (b n : List ℕ) (h : remove-number e told b n ≡ 0) where
+  parts : (verdict e told b ≡ 0) × (remove-code e n (parent (used e b)) (entries e (used e b)) ≡ 0)
   unfolding remove-number
-  parts = self-pass (verdict ed told b) _ h
+  parts = both (verdict e told b) _ h
 
-  pub remove-passes : verdict ed told b ≡ 0
+  pub remove-passes : verdict e told b ≡ 0
   remove-passes = parts .0
 
-  pub remove-answers : remove-code ed n (parent (used ed b)) (entries ed (used ed b)) ≡ 0
+  pub remove-answers : remove-code e n (parent (used e b)) (entries e (used e b)) ≡ 0
   remove-answers = parts .1
 
-  pub remove-dir : directory-code ed b ≡ 0
-  remove-dir = is-directory ed sane told b remove-passes
+  pub remove-dir : directory-code e b ≡ 0
+  remove-dir = is-directory e sane told b remove-passes
 
-  there : holds ed n (entries ed (used ed b)) ≡ true
+  there : holds e n (entries e (used e b)) ≡ true
   unfolding remove-code
   there =
-      let a = pass (legal-name ed n) 11 _ (omega arith) (parts .1) in
-      let c = pass (not (fixed-name n)) 12 _ (omega arith) (a .1) in
-      pass (holds ed n (entries ed (used ed b))) 13 _ (omega arith) (c .1) .0
+      let a = passes (legal-name e n) 10 _ (parts .1) in
+      let c = passes (not (fixed-name n)) 11 _ (a .1) in
+      passes (holds e n (entries e (used e b))) 12 _ (c .1) .0
 
-  pub remove-fits : length (lay ed (parent (used ed b)) (removed ed n (entries ed (used ed b)))) ≤ data-length ed b
-  remove-fits = omega (arith, removed-fits ed n (parent (used ed b)) (entries ed (used ed b)), lay-fits ed sane told b remove-passes)
+  pub remove-fits : length (lay e (parent (used e b)) (removed e n (entries e (used e b)))) ≤ data-length e b
+  remove-fits = omega (arith, removed-fits e n (parent (used e b)) (entries e (used e b)), lay-fits e sane told b remove-passes)
 
   module _ (z : ℕ) (q : z ≡ field 56 8 b) where
-    same : take (ed .literal + z - ed .literal) (drop (ed .literal) b) ≡ used ed b
-    same = used-is ed sane told b remove-passes z q
+    same : take (e .literal + z - e .literal) (drop (e .literal) b) ≡ used e b
+    same = used-is e sane told b remove-passes z q
 
-    pub remove-readable : Readable ed (take (ed .literal + z - ed .literal) (drop (ed .literal) b))
-    remove-readable = rw same (used-readable ed sane told b remove-passes)
+    pub remove-readable : Readable e (take (e .literal + z - e .literal) (drop (e .literal) b))
+    remove-readable = rw same (used-readable e sane told b remove-passes)
 
-    pub remove-there : holds ed n (entries ed (take (ed .literal + z - ed .literal) (drop (ed .literal) b))) ≡ true
+    pub remove-there : holds e n (entries e (take (e .literal + z - e .literal) (drop (e .literal) b))) ≡ true
     remove-there = rw same there
 
     pub remove-room : (T : ℕ) → T ≡ 2048
-        → length (lay ed (parent (take (ed .literal + z - ed .literal) (drop (ed .literal) b))) (removed ed n (entries ed (take (ed .literal + z - ed .literal) (drop (ed .literal) b))))) ≤ T
-    remove-room T e = rw same (room ed sane told b remove-passes (removed ed n (entries ed (used ed b))) remove-fits T e)
+        → length (lay e (parent (take (e .literal + z - e .literal) (drop (e .literal) b))) (removed e n (entries e (take (e .literal + z - e .literal) (drop (e .literal) b))))) ≤ T
+    remove-room T e₀ = rw same (room e sane told b remove-passes (removed e n (entries e (used e b))) remove-fits T e₀)
 
-    pub taken-out : (m s : ℕ) (t b₁ : List ℕ) → m ≡ data-length ed b
-        → t ≡ put (replicate 2048 0) 0 (lay ed (parent (take (ed .literal + z - ed .literal) (drop (ed .literal) b))) (removed ed n (entries ed (take (ed .literal + z - ed .literal) (drop (ed .literal) b)))))
-        → s ≡ length (lay ed (parent (take (ed .literal + z - ed .literal) (drop (ed .literal) b))) (removed ed n (entries ed (take (ed .literal + z - ed .literal) (drop (ed .literal) b)))))
-        → b₁ ≡ put (put b 56 (to-be 8 s)) (ed .literal) (take m t) → b₁ ≡ with-entries ed b (removed ed n (entries ed (used ed b)))
-    taken-out m s t b₁ e f g k =
-        written-back ed sane told b remove-passes (removed ed n (entries ed (used ed b))) remove-fits m s t b₁ e (rw same at f) (rw same at g) k
+    pub taken-out : (m s : ℕ) (t b₁ : List ℕ) → m ≡ data-length e b
+        → t ≡ put (replicate 2048 0) 0 (lay e (parent (take (e .literal + z - e .literal) (drop (e .literal) b))) (removed e n (entries e (take (e .literal + z - e .literal) (drop (e .literal) b)))))
+        → s ≡ length (lay e (parent (take (e .literal + z - e .literal) (drop (e .literal) b))) (removed e n (entries e (take (e .literal + z - e .literal) (drop (e .literal) b)))))
+        → b₁ ≡ put (put b 56 (to-be 8 s)) (e .literal) (take m t) → b₁ ≡ with-entries e b (removed e n (entries e (used e b)))
+    taken-out m s t b₁ e₀ f g k =
+        written-back e sane told b remove-passes (removed e n (entries e (used e b))) remove-fits m s t b₁ e₀ (rw same at f) (rw same at g) k
 
-pub remove-alone : (ed : Edition) (told c : ℕ) (b n : List ℕ) → c ≡ remove-number ed told b n → (c ≡ 0 → ⊥) → b ≡ after-remove ed told b n
+pub remove-alone : (e : Edition) (told c : ℕ) (b n : List ℕ) → c ≡ remove-number e told b n → (c ≡ 0 → ⊥) → b ≡ after-remove e told b n
 unfolding after-remove
-remove-alone ed told c b n h f = sym (rw (ne-eqb (remove-number ed told b n) 0 (λ q. f (h ∙ q))) refl)
+remove-alone e told c b n h f = sym (rw (ne-eqb (remove-number e told b n) 0 (λ q. f (h ∙ q))) refl)
 
-pub remove-done : (ed : Edition) (told c : ℕ) (b n b₁ : List ℕ) → c ≡ remove-number ed told b n → c ≡ 0 → b₁ ≡ with-entries ed b (removed ed n (entries ed (used ed b)))
-    → b₁ ≡ after-remove ed told b n
+pub remove-done : (e : Edition) (told c : ℕ) (b n b₁ : List ℕ) → c ≡ remove-number e told b n → c ≡ 0 → b₁ ≡ with-entries e b (removed e n (entries e (used e b)))
+    → b₁ ≡ after-remove e told b n
 unfolding after-remove
-remove-done ed told c b n b₁ h f k = k ∙ sym (rw (eq-eqb (remove-number ed told b n) 0 (sym h ∙ f)) refl)
+remove-done e told c b n b₁ h f k = k ∙ sym (rw (eq-eqb (remove-number e told b n) 0 (sym h ∙ f)) refl)
 
 -- ---- insert
 
-pub insert-refused : (ed : Edition) (told c : ℕ) (b n : List ℕ) (kind ino : ℕ) → c ≡ verdict ed told b → (c ≡ 0 → ⊥) → c ≡ insert-number ed told b n kind ino
+pub insert-refused : (e : Edition) (told c : ℕ) (b n : List ℕ) (kind ino : ℕ) → c ≡ verdict e told b → (c ≡ 0 → ⊥) → c ≡ insert-number e told b n kind ino
 unfolding insert-number
-insert-refused ed told c b n kind ino h f = h ∙ sym (rw (ne-eqb (verdict ed told b) 0 (λ q. f (h ∙ q))) refl)
+insert-refused e told c b n kind ino h f = h ∙ sym (rw (ne-eqb (verdict e told b) 0 (λ q. f (h ∙ q))) refl)
 
-pub insert-passed : (ed : Edition) (sane : Sane ed) (told c z fork r : ℕ) (b n : List ℕ) (kind ino : ℕ) → c ≡ verdict ed told b → c ≡ 0 → z ≡ field 56 8 b → fork ≡ data-length ed b
-    → r ≡ insert-code ed told fork n kind ino (parent (take (ed .literal + z - ed .literal) (drop (ed .literal) b))) (entries ed (take (ed .literal + z - ed .literal) (drop (ed .literal) b)))
-    → r ≡ insert-number ed told b n kind ino
+pub insert-passed : (e : Edition) (sane : Sane e) (told c z fork r : ℕ) (b n : List ℕ) (kind ino : ℕ) → c ≡ verdict e told b → c ≡ 0 → z ≡ field 56 8 b → fork ≡ data-length e b
+    → r ≡ insert-code e told fork n kind ino (parent (take (e .literal + z - e .literal) (drop (e .literal) b))) (entries e (take (e .literal + z - e .literal) (drop (e .literal) b)))
+    → r ≡ insert-number e told b n kind ino
 unfolding insert-number
-insert-passed ed sane told c z fork r b n kind ino h f q g k =
-    let v : verdict ed told b ≡ 0 = sym h ∙ f in
-    k ∙ ap₂ (λ (j : ℕ) (u : List ℕ). insert-code ed told j n kind ino (parent u) (entries ed u)) g (used-is ed sane told b v z q) ∙ sym (rw (eq-eqb _ _ v) refl)
+insert-passed e sane told c z fork r b n kind ino h f q g k =
+    let v : verdict e told b ≡ 0 = sym h ∙ f in
+    k ∙ ap₂ (λ (j : ℕ) (u : List ℕ). insert-code e told j n kind ino (parent u) (entries e u)) g (used-is e sane told b v z q) ∙ sym (rw (eq-eqb _ _ v) refl)
 
-pub tested-dir : (ed : Edition) (sane : Sane ed) (told c : ℕ) (b : List ℕ) → c ≡ verdict ed told b → c ≡ 0 → directory-code ed b ≡ 0
-tested-dir ed sane told c b h f = is-directory ed sane told b (sym h ∙ f)
+pub tested-dir : (e : Edition) (sane : Sane e) (told c : ℕ) (b : List ℕ) → c ≡ verdict e told b → c ≡ 0 → directory-code e b ≡ 0
+tested-dir e sane told c b h f = is-directory e sane told b (sym h ∙ f)
 
-pub lent-whole : (ed : Edition) (sane : Sane ed) (told c z : ℕ) (b : List ℕ) → c ≡ verdict ed told b → c ≡ 0 → z ≡ field 56 8 b
-    → length (lay ed (parent (take (ed .literal + z - ed .literal) (drop (ed .literal) b))) (entries ed (take (ed .literal + z - ed .literal) (drop (ed .literal) b))))
-    ≡ length (take (ed .literal + z - ed .literal) (drop (ed .literal) b))
-lent-whole ed sane told c z b h f q =
-    let v : verdict ed told b ≡ 0 = sym h ∙ f in
-    rw (used-is ed sane told b v z q) (same-long ed told (used ed b) (used-passes ed sane told b v) (used-header ed sane told b v))
+pub lent-whole : (e : Edition) (sane : Sane e) (told c z : ℕ) (b : List ℕ) → c ≡ verdict e told b → c ≡ 0 → z ≡ field 56 8 b
+    → length (lay e (parent (take (e .literal + z - e .literal) (drop (e .literal) b))) (entries e (take (e .literal + z - e .literal) (drop (e .literal) b))))
+    ≡ length (take (e .literal + z - e .literal) (drop (e .literal) b))
+lent-whole e sane told c z b h f q =
+    let v : verdict e told b ≡ 0 = sym h ∙ f in
+    rw (used-is e sane told b v z q) (same-long e told (used e b) (used-passes e sane told b v) (used-header e sane told b v))
 
-module _ (ed : Edition) (sane : Sane ed) (told : ℕ) (b n : List ℕ) (kind ino : ℕ) (h : insert-number ed told b n kind ino ≡ 0) where
-  insert-parts : (verdict ed told b ≡ 0) × (insert-code ed told (data-length ed b) n kind ino (parent (used ed b)) (entries ed (used ed b)) ≡ 0)
+module _ (e : Edition) (sane : Sane e) (told : ℕ) (b n : List ℕ) (kind ino : ℕ) (h : insert-number e told b n kind ino ≡ 0) where
+  insert-parts : (verdict e told b ≡ 0) × (insert-code e told (data-length e b) n kind ino (parent (used e b)) (entries e (used e b)) ≡ 0)
   unfolding insert-number
-  insert-parts = self-pass (verdict ed told b) _ h
+  insert-parts = both (verdict e told b) _ h
 
-  pub insert-passes : verdict ed told b ≡ 0
+  pub insert-passes : verdict e told b ≡ 0
   insert-passes = insert-parts .0
 
-  pub insert-answers : insert-code ed told (data-length ed b) n kind ino (parent (used ed b)) (entries ed (used ed b)) ≡ 0
+  pub insert-answers : insert-code e told (data-length e b) n kind ino (parent (used e b)) (entries e (used e b)) ≡ 0
   insert-answers = insert-parts .1
 
-  pub insert-dir : directory-code ed b ≡ 0
-  insert-dir = is-directory ed sane told b insert-passes
+  pub insert-dir : directory-code e b ≡ 0
+  insert-dir = is-directory e sane told b insert-passes
 
-  all-tests : (legal-name ed n ≡ true) × (legal-number ino ≡ true) × (fixed-name n ≡ false) × (holds ed n (entries ed (used ed b)) ≡ false)
-      × ((tag-for ed told (length n) (entries ed (used ed b)) ≡ 0 → ⊥)) × (length (lay ed (parent (used ed b)) (inserted ed told n kind ino (entries ed (used ed b)))) ≤ data-length ed b)
-  all-tests = inserts ed told (parent (used ed b)) n kind ino (entries ed (used ed b)) (data-length ed b) (insert-parts .1)
+  all-tests : (legal-name e n ≡ true) × (legal-number ino ≡ true) × (fixed-name n ≡ false) × (holds e n (entries e (used e b)) ≡ false)
+      × ((tag-for e told (length n) (entries e (used e b)) ≡ 0 → ⊥)) × (length (lay e (parent (used e b)) (inserted e told n kind ino (entries e (used e b)))) ≤ data-length e b)
+  all-tests = inserts e told (parent (used e b)) n kind ino (entries e (used e b)) (data-length e b) (insert-parts .1)
 
   pub insert-short : length n < 256
-  insert-short = omega (arith, legal-bounds ed n (all-tests .0))
+  insert-short = omega (arith, legal-bounds e n (all-tests .0))
 
-  pub insert-fits : length (lay ed (parent (used ed b)) (inserted ed told n kind ino (entries ed (used ed b)))) ≤ data-length ed b
+  pub insert-fits : length (lay e (parent (used e b)) (inserted e told n kind ino (entries e (used e b)))) ≤ data-length e b
   insert-fits = all-tests .5
 
-  few-entries : count-of (used ed b) < 255
+  few-entries : count-of (used e b) < 255
   unfolding inserted names-ok
   few-entries =
-      let y : Entry = entry (tag-for ed told (length n) (entries ed (used ed b))) n kind ino in
-      let u = used-bounds ed sane told b insert-passes (field 56 8 b) refl in
-      let k : every (name-ok ed) (placed y (entries ed (used ed b))) ≡ true =
-      every-placed (name-ok ed) y (entries ed (used ed b)) (and-both _ _ (all-tests .0) (rw (all-tests .2) refl)) (names-known ed told (used ed b) (used-passes ed sane told b insert-passes)) in
-      omega (arith, lay-few ed (parent (used ed b)) (placed y (entries ed (used ed b))) k, length-placed y (entries ed (used ed b)), count-is ed (used ed b), insert-fits)
+      let y : Entry = entry (tag-for e told (length n) (entries e (used e b))) n kind ino in
+      let u = used-bounds e sane told b insert-passes (field 56 8 b) refl in
+      let k : every (name-ok e) (placed y (entries e (used e b))) ≡ true =
+      every-placed (name-ok e) y (entries e (used e b)) (and-both _ _ (all-tests .0) (rw (all-tests .2) refl)) (names-known e told (used e b) (used-passes e sane told b insert-passes)) in
+      omega (arith, lay-few e (parent (used e b)) (placed y (entries e (used e b))) k, length-placed y (entries e (used e b)), count-is e (used e b), insert-fits)
 
   module _ (z : ℕ) (q : z ≡ field 56 8 b) where
-    lent : take (ed .literal + z - ed .literal) (drop (ed .literal) b) ≡ used ed b
-    lent = used-is ed sane told b insert-passes z q
+    lent : take (e .literal + z - e .literal) (drop (e .literal) b) ≡ used e b
+    lent = used-is e sane told b insert-passes z q
 
-    pub insert-readable : Readable ed (take (ed .literal + z - ed .literal) (drop (ed .literal) b))
-    insert-readable = rw lent (used-readable ed sane told b insert-passes)
+    pub insert-readable : Readable e (take (e .literal + z - e .literal) (drop (e .literal) b))
+    insert-readable = rw lent (used-readable e sane told b insert-passes)
 
-    pub insert-few : count-of (take (ed .literal + z - ed .literal) (drop (ed .literal) b)) < 255
+    pub insert-few : count-of (take (e .literal + z - e .literal) (drop (e .literal) b)) < 255
     insert-few = rw lent few-entries
 
     pub insert-room : (T : ℕ) → T ≡ 2048
-        → length (lay ed (parent (take (ed .literal + z - ed .literal) (drop (ed .literal) b))) (inserted ed told n kind ino (entries ed (take (ed .literal + z - ed .literal) (drop (ed .literal) b))))) ≤ T
-    insert-room T e = rw lent (room ed sane told b insert-passes (inserted ed told n kind ino (entries ed (used ed b))) insert-fits T e)
+        → length (lay e (parent (take (e .literal + z - e .literal) (drop (e .literal) b))) (inserted e told n kind ino (entries e (take (e .literal + z - e .literal) (drop (e .literal) b))))) ≤ T
+    insert-room T e₀ = rw lent (room e sane told b insert-passes (inserted e told n kind ino (entries e (used e b))) insert-fits T e₀)
 
-    pub put-in-is : (m s : ℕ) (t b₁ : List ℕ) → m ≡ data-length ed b
-        → t ≡ put (replicate 2048 0) 0 (lay ed (parent (take (ed .literal + z - ed .literal) (drop (ed .literal) b))) (inserted ed told n kind ino (entries ed (take (ed .literal + z - ed .literal) (drop (ed .literal) b)))))
-        → s ≡ length (lay ed (parent (take (ed .literal + z - ed .literal) (drop (ed .literal) b))) (inserted ed told n kind ino (entries ed (take (ed .literal + z - ed .literal) (drop (ed .literal) b)))))
-        → b₁ ≡ put (put b 56 (to-be 8 s)) (ed .literal) (take m t) → b₁ ≡ with-entries ed b (inserted ed told n kind ino (entries ed (used ed b)))
-    put-in-is m s t b₁ e f g k =
-        written-back ed sane told b insert-passes (inserted ed told n kind ino (entries ed (used ed b))) insert-fits m s t b₁ e (rw lent at f) (rw lent at g) k
+    pub put-in-is : (m s : ℕ) (t b₁ : List ℕ) → m ≡ data-length e b
+        → t ≡ put (replicate 2048 0) 0 (lay e (parent (take (e .literal + z - e .literal) (drop (e .literal) b))) (inserted e told n kind ino (entries e (take (e .literal + z - e .literal) (drop (e .literal) b)))))
+        → s ≡ length (lay e (parent (take (e .literal + z - e .literal) (drop (e .literal) b))) (inserted e told n kind ino (entries e (take (e .literal + z - e .literal) (drop (e .literal) b)))))
+        → b₁ ≡ put (put b 56 (to-be 8 s)) (e .literal) (take m t) → b₁ ≡ with-entries e b (inserted e told n kind ino (entries e (used e b)))
+    put-in-is m s t b₁ e₀ f g k =
+        written-back e sane told b insert-passes (inserted e told n kind ino (entries e (used e b))) insert-fits m s t b₁ e₀ (rw lent at f) (rw lent at g) k
 
-pub insert-alone : (ed : Edition) (told c : ℕ) (b n : List ℕ) (kind ino : ℕ) → c ≡ insert-number ed told b n kind ino → (c ≡ 0 → ⊥) → b ≡ after-insert ed told b n kind ino
+pub insert-alone : (e : Edition) (told c : ℕ) (b n : List ℕ) (kind ino : ℕ) → c ≡ insert-number e told b n kind ino → (c ≡ 0 → ⊥) → b ≡ after-insert e told b n kind ino
 unfolding after-insert
-insert-alone ed told c b n kind ino h f = sym (rw (ne-eqb (insert-number ed told b n kind ino) 0 (λ q. f (h ∙ q))) refl)
+insert-alone e told c b n kind ino h f = sym (rw (ne-eqb (insert-number e told b n kind ino) 0 (λ q. f (h ∙ q))) refl)
 
-pub insert-done : (ed : Edition) (told c : ℕ) (b n b₁ : List ℕ) (kind ino : ℕ) → c ≡ insert-number ed told b n kind ino → c ≡ 0
-    → b₁ ≡ with-entries ed b (inserted ed told n kind ino (entries ed (used ed b))) → b₁ ≡ after-insert ed told b n kind ino
+pub insert-done : (e : Edition) (told c : ℕ) (b n b₁ : List ℕ) (kind ino : ℕ) → c ≡ insert-number e told b n kind ino → c ≡ 0
+    → b₁ ≡ with-entries e b (inserted e told n kind ino (entries e (used e b))) → b₁ ≡ after-insert e told b n kind ino
 unfolding after-insert
-insert-done ed told c b n b₁ kind ino h f k = k ∙ sym (rw (eq-eqb (insert-number ed told b n kind ino) 0 (sym h ∙ f)) refl)
+insert-done e told c b n b₁ kind ino h f k = k ∙ sym (rw (eq-eqb (insert-number e told b n kind ino) 0 (sym h ∙ f)) refl)
 
 -- of the edition that was made
 pub remove-made : (e f : Edition) (told : ℕ) (b n : List ℕ) (r : ℕ) → r ≡ remove-number e told b n → e ≡ f → r ≡ remove-number f told b n

@@ -7,11 +7,10 @@ use mathlib.Core.Path.{_≡_, refl, sym, _∙_, ap, ap₂, subst}
 use mathlib.Core.List.{List, [], _∷_, _++_, append-assoc, append-nil}
 use lib.ListN.{length, take, drop, getD, length-append, length-take, length-drop, take-append-drop}
 use Rattle.be.specs.Bytes.{field, put}
-use Rattle.be.proofs.Writes.{put-nothing, length-put}
+use Rattle.be.proofs.Writes.{put-nothing, length-put, put-then}
 use Rattle.edition.specs.declared.Edition.{Edition}
 use Rattle.dir_sf.specs.Entry.{Entry, entry, entry-in, entries-in, enough, entry-bytes, entries-bytes}
 use Rattle.dir_sf_edit.proofs.ReadBack.{length-entry-bytes}
-use Rattle.dir_sf_edit.proofs.Puts.{put-then}
 use Rattle.dir_sf.proofs.Leaves.{one-in}
 use Rattle.dir_sf.proofs.Run.{Run, run-start, run-on, run-passed, run-one, entries-take, name-at-is, tag-at-is, inode-at-is, kind-at-is}
 
@@ -26,99 +25,99 @@ entries-bytes-one e w x = append-nil (entry-bytes e w x)
 
 -- the bytes of the first i entries of u from `at` on, in width v
 abbrev pub copied : Edition → ℕ → ℕ → List ℕ → ℕ → ℕ → List ℕ
-copied ed w v u at i = entries-bytes ed v (entries-in ed w i (drop at u))
+copied e w v u at i = entries-bytes e v (entries-in e w i (drop at u))
 
-copied-fewer : (ed : Edition) (w v : ℕ) (u : List ℕ) (at j k : ℕ) → j ≤ k → length (copied ed w v u at j) ≤ length (copied ed w v u at k)
-copied-fewer ed w v u at j k h =
-    let xs : List Entry = entries-in ed w k (drop at u) in
-    let a : entries-in ed w j (drop at u) ≡ take j xs = sym (entries-take ed w j k (drop at u) h) in
-    let b : entries-bytes ed v (take j xs) ++ entries-bytes ed v (drop j xs) ≡ entries-bytes ed v xs =
-    sym (entries-bytes-append ed v (take j xs) (drop j xs)) ∙ ap (entries-bytes ed v) (take-append-drop j xs) in
-    let c : length (entries-bytes ed v (take j xs)) + length (entries-bytes ed v (drop j xs)) ≡ length (entries-bytes ed v xs) =
-    sym (length-append (entries-bytes ed v (take j xs)) (entries-bytes ed v (drop j xs))) ∙ ap length b in
+copied-fewer : (e : Edition) (w v : ℕ) (u : List ℕ) (at j k : ℕ) → j ≤ k → length (copied e w v u at j) ≤ length (copied e w v u at k)
+copied-fewer e w v u at j k h =
+    let xs : List Entry = entries-in e w k (drop at u) in
+    let a : entries-in e w j (drop at u) ≡ take j xs = sym (entries-take e w j k (drop at u) h) in
+    let b : entries-bytes e v (take j xs) ++ entries-bytes e v (drop j xs) ≡ entries-bytes e v xs =
+    sym (entries-bytes-append e v (take j xs) (drop j xs)) ∙ ap (entries-bytes e v) (take-append-drop j xs) in
+    let c : length (entries-bytes e v (take j xs)) + length (entries-bytes e v (drop j xs)) ≡ length (entries-bytes e v xs) =
+    sym (length-append (entries-bytes e v (take j xs)) (entries-bytes e v (drop j xs))) ∙ ap length b in
     rw a (omega arith)
 
-pub record Copy (ed : Edition) (w v : ℕ) (b₀ : List ℕ) (to : ℕ) (u : List ℕ) (at k i p : ℕ) (b : List ℕ) (o : ℕ) : Type 0 where
-  pub run : Run ed w u at k i p
+pub record Copy (e : Edition) (w v : ℕ) (b₀ : List ℕ) (to : ℕ) (u : List ℕ) (at k i p : ℕ) (b : List ℕ) (o : ℕ) : Type 0 where
+  pub run : Run e w u at k i p
   pub long : length b ≡ length b₀
-  pub room : to + length (copied ed w v u at k) ≤ length b₀
-  pub place : o ≡ to + length (copied ed w v u at i)
-  pub wrote : b ≡ put b₀ to (copied ed w v u at i)
+  pub room : to + length (copied e w v u at k) ≤ length b₀
+  pub place : o ≡ to + length (copied e w v u at i)
+  pub wrote : b ≡ put b₀ to (copied e w v u at i)
 
-pub copy-start : (ed : Edition) (w v : ℕ) (b₀ : List ℕ) (to : ℕ) (u : List ℕ) (at k : ℕ) → at ≤ length u → enough ed w k (drop at u) ≡ true
-    → to + length (copied ed w v u at k) ≤ length b₀ → Copy ed w v b₀ to u at k 0 at b₀ to
+pub copy-start : (e : Edition) (w v : ℕ) (b₀ : List ℕ) (to : ℕ) (u : List ℕ) (at k : ℕ) → at ≤ length u → enough e w k (drop at u) ≡ true
+    → to + length (copied e w v u at k) ≤ length b₀ → Copy e w v b₀ to u at k 0 at b₀ to
 unfolding entries-in entries-bytes
-copy-start ed w v b₀ to u at k h f r =
-    record { run = run-start ed w u at k h f; long = refl; room = r; place = omega arith; wrote = sym (put-nothing b₀ to) }
+copy-start e w v b₀ to u at k h f r =
+    record { run = run-start e w u at k h f; long = refl; room = r; place = omega arith; wrote = sym (put-nothing b₀ to) }
 
 -- one entry, read field by field
-module _ (ed : Edition) (w : ℕ) (u : List ℕ) (p n : ℕ) (one : enough ed w 1 (drop p u) ≡ true) (q : n ≡ getD u p 0) where
+module _ (e : Edition) (w : ℕ) (u : List ℕ) (p n : ℕ) (one : enough e w 1 (drop p u) ≡ true) (q : n ≡ getD u p 0) where
   read-long : length (take (p + 3 + n - (p + 3)) (drop (p + 3) u)) ≡ n
-  read-long = simp (length-take, length-drop) (omega (arith, one-in ed w p u one))
+  read-long = simp (length-take, length-drop) (omega (arith, one-in e w p u one))
 
-  pub copy-fits : (v o : ℕ) (b : List ℕ) → o + (3 + getD u p 0 + (ed .ftype + v)) ≤ length b
-      → o + (3 + length (take (p + 3 + n - (p + 3)) (drop (p + 3) u)) + (ed .ftype + v)) ≤ length b
+  pub copy-fits : (v o : ℕ) (b : List ℕ) → o + (3 + getD u p 0 + (e .ftype + v)) ≤ length b
+      → o + (3 + length (take (p + 3 + n - (p + 3)) (drop (p + 3) u)) + (e .ftype + v)) ≤ length b
   copy-fits v o b h = omega (arith, read-long)
 
   pub copy-short : n < 256 → length (take (p + 3 + n - (p + 3)) (drop (p + 3) u)) < 256
   copy-short l = omega (arith, read-long)
 
-  pub copy-ends : (v o r : ℕ) → r ≡ o + (3 + length (take (p + 3 + n - (p + 3)) (drop (p + 3) u)) + (ed .ftype + v)) → r ≡ o + (3 + getD u p 0 + (ed .ftype + v))
+  pub copy-ends : (v o r : ℕ) → r ≡ o + (3 + length (take (p + 3 + n - (p + 3)) (drop (p + 3) u)) + (e .ftype + v)) → r ≡ o + (3 + getD u p 0 + (e .ftype + v))
   copy-ends v o r h = omega (arith, read-long)
 
   -- as it is read and written
-  pub copy-one : (v tag kind ino o : ℕ) (b b₁ : List ℕ) → tag ≡ field (p + 1) 2 u → kind ≡ field (p + 3 + n) (ed .ftype) u → ino ≡ field (p + 3 + n + ed .ftype) w u
-      → b₁ ≡ put b o (entry-bytes ed v (entry tag (take (p + 3 + n - (p + 3)) (drop (p + 3) u)) kind ino))
-      → b₁ ≡ put b o (entry-bytes ed v (entry-in ed w (drop p u)))
+  pub copy-one : (v tag kind ino o : ℕ) (b b₁ : List ℕ) → tag ≡ field (p + 1) 2 u → kind ≡ field (p + 3 + n) (e .ftype) u → ino ≡ field (p + 3 + n + e .ftype) w u
+      → b₁ ≡ put b o (entry-bytes e v (entry tag (take (p + 3 + n - (p + 3)) (drop (p + 3) u)) kind ino))
+      → b₁ ≡ put b o (entry-bytes e v (entry-in e w (drop p u)))
   copy-one v tag kind ino o b b₁ t y z f =
       let l : p + 3 + n - (p + 3) ≡ getD u p 0 = omega arith in
       let m : p + 3 + n ≡ p + 3 + getD u p 0 = omega arith in
-      let m' : p + 3 + n + ed .ftype ≡ p + 3 + getD u p 0 + ed .ftype = omega arith in
-      let x : Entry = entry-in ed w (drop p u) in
+      let m' : p + 3 + n + e .ftype ≡ p + 3 + getD u p 0 + e .ftype = omega arith in
+      let x : Entry = entry-in e w (drop p u) in
       let a : entry tag (take (p + 3 + n - (p + 3)) (drop (p + 3) u)) kind ino ≡ entry (x .tag) (x .name) (x .kind) (x .inode) =
-      ap₂ (λ (t : ℕ) (nm : List ℕ). entry t nm kind ino) (t ∙ sym (tag-at-is ed w u p)) (ap (λ (j : ℕ). take j (drop (p + 3) u)) l ∙ sym (name-at-is ed w u p))
-      ∙ ap₂ (λ (kd i : ℕ). entry (x .tag) (x .name) kd i) (y ∙ ap (λ (j : ℕ). field j (ed .ftype) u) m ∙ sym (kind-at-is ed w u p)) (z ∙ ap (λ (j : ℕ). field j w u) m' ∙ sym (inode-at-is ed w u p)) in
-      f ∙ ap (λ (e : Entry). put b o (entry-bytes ed v e)) a
+      ap₂ (λ (t : ℕ) (nm : List ℕ). entry t nm kind ino) (t ∙ sym (tag-at-is e w u p)) (ap (λ (j : ℕ). take j (drop (p + 3) u)) l ∙ sym (name-at-is e w u p))
+      ∙ ap₂ (λ (kd i : ℕ). entry (x .tag) (x .name) kd i) (y ∙ ap (λ (j : ℕ). field j (e .ftype) u) m ∙ sym (kind-at-is e w u p)) (z ∙ ap (λ (j : ℕ). field j w u) m' ∙ sym (inode-at-is e w u p)) in
+      f ∙ ap (λ (e₀ : Entry). put b o (entry-bytes e v e₀)) a
 
-module _ (ed : Edition) (w v : ℕ) (b₀ : List ℕ) (to : ℕ) (u : List ℕ) (at k i p : ℕ) (b : List ℕ) (o : ℕ) (s : Copy ed w v b₀ to u at k i p b o) (h : i < k) where
-  one-more : copied ed w v u at (i + 1) ≡ copied ed w v u at i ++ entry-bytes ed v (entry-in ed w (drop p u))
+module _ (e : Edition) (w v : ℕ) (b₀ : List ℕ) (to : ℕ) (u : List ℕ) (at k i p : ℕ) (b : List ℕ) (o : ℕ) (s : Copy e w v b₀ to u at k i p b o) (h : i < k) where
+  one-more : copied e w v u at (i + 1) ≡ copied e w v u at i ++ entry-bytes e v (entry-in e w (drop p u))
   one-more =
-      ap (entries-bytes ed v) (run-passed ed w u at k i p (s .run) h)
-      ∙ entries-bytes-append ed v (entries-in ed w i (drop at u)) (entry-in ed w (drop p u) ∷ [])
-      ∙ ap (λ (l : List ℕ). copied ed w v u at i ++ l) (entries-bytes-one ed v (entry-in ed w (drop p u)))
+      ap (entries-bytes e v) (run-passed e w u at k i p (s .run) h)
+      ∙ entries-bytes-append e v (entries-in e w i (drop at u)) (entry-in e w (drop p u) ∷ [])
+      ∙ ap (λ (l : List ℕ). copied e w v u at i ++ l) (entries-bytes-one e v (entry-in e w (drop p u)))
 
-  one-long : length (entry-bytes ed v (entry-in ed w (drop p u))) ≡ 3 + getD u p 0 + (ed .ftype + v)
+  one-long : length (entry-bytes e v (entry-in e w (drop p u))) ≡ 3 + getD u p 0 + (e .ftype + v)
   one-long =
-      let l : length (entry-in ed w (drop p u) .name) ≡ getD u p 0 =
-      rw (name-at-is ed w u p) (simp (length-take, length-drop) (omega (arith, one-in ed w p u (run-one ed w u at k i p (s .run) h)))) in
-      length-entry-bytes ed v (entry-in ed w (drop p u)) ∙ omega arith
+      let l : length (entry-in e w (drop p u) .name) ≡ getD u p 0 =
+      rw (name-at-is e w u p) (simp (length-take, length-drop) (omega (arith, one-in e w p u (run-one e w u at k i p (s .run) h)))) in
+      length-entry-bytes e v (entry-in e w (drop p u)) ∙ omega arith
 
-  more-long : length (copied ed w v u at (i + 1)) ≡ length (copied ed w v u at i) + (3 + getD u p 0 + (ed .ftype + v))
+  more-long : length (copied e w v u at (i + 1)) ≡ length (copied e w v u at i) + (3 + getD u p 0 + (e .ftype + v))
   more-long =
-      ap length one-more ∙ length-append (copied ed w v u at i) (entry-bytes ed v (entry-in ed w (drop p u)))
-      ∙ ap (λ (j : ℕ). length (copied ed w v u at i) + j) one-long
+      ap length one-more ∙ length-append (copied e w v u at i) (entry-bytes e v (entry-in e w (drop p u)))
+      ∙ ap (λ (j : ℕ). length (copied e w v u at i) + j) one-long
 
-  pub copy-room : o + (3 + getD u p 0 + (ed .ftype + v)) ≤ length b
-  copy-room = omega (arith, s .long, s .room, s .place, copied-fewer ed w v u at (i + 1) k (omega arith), more-long)
+  pub copy-room : o + (3 + getD u p 0 + (e .ftype + v)) ≤ length b
+  copy-room = omega (arith, s .long, s .room, s .place, copied-fewer e w v u at (i + 1) k (omega arith), more-long)
 
-  pub copy-on : (n w₁ o₁ : ℕ) (b₁ : List ℕ) → n ≡ getD u p 0 → w₁ ≡ ed .ftype + w
-      → b₁ ≡ put b o (entry-bytes ed v (entry-in ed w (drop p u))) → o₁ ≡ o + (3 + getD u p 0 + (ed .ftype + v))
-      → Copy ed w v b₀ to u at k (i + 1) (p + 3 + n + w₁) b₁ o₁
+  pub copy-on : (n w₁ o₁ : ℕ) (b₁ : List ℕ) → n ≡ getD u p 0 → w₁ ≡ e .ftype + w
+      → b₁ ≡ put b o (entry-bytes e v (entry-in e w (drop p u))) → o₁ ≡ o + (3 + getD u p 0 + (e .ftype + v))
+      → Copy e w v b₀ to u at k (i + 1) (p + 3 + n + w₁) b₁ o₁
   copy-on n w₁ o₁ b₁ q a f c =
       record {
-        run = run-on ed w u at k i p n w₁ (s .run) h q a;
+        run = run-on e w u at k i p n w₁ (s .run) h q a;
         long = ap length f ∙ length-put b o _ ∙ s .long;
         room = s .room;
         place = omega (arith, more-long, s .place);
-        wrote = put-then b₀ b b₁ to o (copied ed w v u at i) (entry-bytes ed v (entry-in ed w (drop p u))) (s .wrote) f (s .place) ∙ ap (put b₀ to) (sym one-more);
+        wrote = put-then b₀ b b₁ to o (copied e w v u at i) (entry-bytes e v (entry-in e w (drop p u))) (s .wrote) f (s .place) ∙ ap (put b₀ to) (sym one-more);
       }
 
-pub copy-bytes : (ed : Edition) (w v : ℕ) (b₀ : List ℕ) (to : ℕ) (u : List ℕ) (at k i p : ℕ) (b : List ℕ) (o : ℕ) → Copy ed w v b₀ to u at k i p b o → k ≤ i
-    → b ≡ put b₀ to (copied ed w v u at k)
-copy-bytes ed w v b₀ to u at k i p b o s h =
-    let a : i ≡ k = omega (arith, s .run .upto) in subst (λ (j : ℕ). b ≡ put b₀ to (copied ed w v u at j)) a (s .wrote)
+pub copy-bytes : (e : Edition) (w v : ℕ) (b₀ : List ℕ) (to : ℕ) (u : List ℕ) (at k i p : ℕ) (b : List ℕ) (o : ℕ) → Copy e w v b₀ to u at k i p b o → k ≤ i
+    → b ≡ put b₀ to (copied e w v u at k)
+copy-bytes e w v b₀ to u at k i p b o s h =
+    let a : i ≡ k = omega (arith, s .run .upto) in subst (λ (j : ℕ). b ≡ put b₀ to (copied e w v u at j)) a (s .wrote)
 
-pub copy-end : (ed : Edition) (w v : ℕ) (b₀ : List ℕ) (to : ℕ) (u : List ℕ) (at k i p : ℕ) (b : List ℕ) (o : ℕ) → Copy ed w v b₀ to u at k i p b o → k ≤ i
-    → o ≡ to + length (copied ed w v u at k)
-copy-end ed w v b₀ to u at k i p b o s h =
-    let a : i ≡ k = omega (arith, s .run .upto) in subst (λ (j : ℕ). o ≡ to + length (copied ed w v u at j)) a (s .place)
+pub copy-end : (e : Edition) (w v : ℕ) (b₀ : List ℕ) (to : ℕ) (u : List ℕ) (at k i p : ℕ) (b : List ℕ) (o : ℕ) → Copy e w v b₀ to u at k i p b o → k ≤ i
+    → o ≡ to + length (copied e w v u at k)
+copy-end e w v b₀ to u at k i p b o s h =
+    let a : i ≡ k = omega (arith, s .run .upto) in subst (λ (j : ℕ). o ≡ to + length (copied e w v u at j)) a (s .place)

@@ -13,11 +13,11 @@ use Rattle.edition.specs.declared.Edition.{Edition}
 use Rattle.edition.specs.Edition.{entry-size}
 use Rattle.name.proofs.Same.{same-name-sym, same-name-trans}
 use Rattle.name.specs.Name.{same-name}
-use Rattle.be.proofs.Bools.{by-cases, every-head, every-tail, every-cons}
+use Rattle.be.proofs.Bools.{by-cases, every-head, every-tail, every-cons, neither}
 use Rattle.dir_sf.specs.Entry.{Entry, next-tag, tags-ok, end-tag}
 use Rattle.dir_sf.specs.Fork.{holds, once-ok}
 use Rattle.dir_sf.specs.Change.{number-in, gap-tag, placed}
-use Rattle.dir_sf.proofs.Names.{fails, or-false, once-head, once-tail, once-cons}
+use Rattle.dir_sf.proofs.Names.{fails, once-head, once-tail, once-cons}
 use Rattle.dir_sf_edit.proofs.Accepted.{low-le-end}
 use Rattle.dir_sf.proofs.Tags.{tagged, untagged}
 
@@ -62,11 +62,11 @@ placed-holds e m y (x ∷ xs) =
 
 rest-absent : (e : Edition) (n : List ℕ) (x : Entry) (xs : List Entry) → holds e n (x ∷ xs) ≡ false → holds e n xs ≡ false
 unfolding holds
-rest-absent e n x xs h = or-false (same-name e n (x .name)) _ h .1
+rest-absent e n x xs h = neither (same-name e n (x .name)) _ h .1
 
 head-differs : (e : Edition) (n : List ℕ) (x : Entry) (xs : List Entry) → holds e n (x ∷ xs) ≡ false → same-name e n (x .name) ≡ false
 unfolding holds
-head-differs e n x xs h = or-false (same-name e n (x .name)) _ h .0
+head-differs e n x xs h = neither (same-name e n (x .name)) _ h .0
 
 other-name : (e : Edition) (m : List ℕ) (y x : Entry) (xs : List Entry) → holds e (y .name) (x ∷ xs) ≡ false → same-name e m (x .name) ≡ true
     → same-name e m (y .name) ≡ false

@@ -9,6 +9,7 @@ use lib.Dec.{eqb, leb, ltb}
 use lib.ListN.{length, length-append}
 use borrow.Author.Tests.{leb-true, eqb-true, eqb-false, eq-eqb, not-true, lt-ltb}
 use Rattle.be.proofs.Bools.{and-left, and-right, and-both, by-cases}
+use Rattle.be.proofs.Codes.{passes}
 use Rattle.edition.specs.declared.Edition.{Edition}
 use Rattle.edition.specs.Edition.{entry-size}
 use Rattle.name.specs.Name.{legal-name, legal-number, same-name, fixed-name}
@@ -17,7 +18,6 @@ use Rattle.dir_sf.specs.Fork.{name-ok, names-ok, numbers-ok, holds, lay, lay-fo
 use Rattle.dir_sf.specs.Change.{gap-tag, tag-for, placed, inserted, has-room, insert-code, removed, remove-code}
 use Rattle.dir_sf_edit.proofs.ReadBack.{length-entry-bytes, length-lay}
 use Rattle.dir_sf_edit.proofs.Accepted.{Good, laid-accepted}
-use Rattle.dir_sf.proofs.Chains.{pass}
 use Rattle.dir_sf_edit.proofs.Removes.{removed-good}
 use Rattle.dir_sf_edit.proofs.Inserts.{Tags, every-placed, length-placed, tally-placed, placed-once, placed-last, placed-in-gap, end-eights}
 
@@ -31,10 +31,10 @@ module _ (e : Edition) (told p : ℕ) (n : List ℕ) (kind i : ℕ) (xs : List E
       × ((tag-for e told (length n) xs ≡ 0 → ⊥)) × (length (lay e p (inserted e told n kind i xs)) ≤ fork)
   unfolding insert-code has-room
   inserts =
-      let a = pass (legal-name e n && legal-number i) 11 _ (omega arith) done in
-      let b = pass (not (fixed-name n)) 12 _ (omega arith) (a .1) in
-      let c = pass (not (holds e n xs)) 14 _ (omega arith) (b .1) in
-      let d = pass (not (eqb (tag-for e told (length n) xs) 0) && leb (length (lay e p (inserted e told n kind i xs))) fork) 15 _ (omega arith) (c .1) in (
+      let a = passes (legal-name e n && legal-number i) 10 _ done in
+      let b = passes (not (fixed-name n)) 11 _ (a .1) in
+      let c = passes (not (holds e n xs)) 13 _ (b .1) in
+      let d = passes (not (eqb (tag-for e told (length n) xs) 0) && leb (length (lay e p (inserted e told n kind i xs))) fork) 14 _ (c .1) in (
         and-left _ _ (a .0),
         and-right (legal-name e n) _ (a .0),
         not-true _ (b .0),

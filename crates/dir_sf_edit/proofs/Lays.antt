@@ -9,12 +9,12 @@ use mathlib.Core.List.{List, [], _∷_, _++_, append-assoc}
 use lib.ListN.{length, take, drop, length-append}
 use Rattle.be.specs.Bytes.{byte, to-be, put}
 use Rattle.be.proofs.Numbers.{length-to-be, to-be-1}
+use Rattle.be.proofs.Writes.{put-then}
 use Rattle.edition.specs.declared.Edition.{Edition}
 use Rattle.dir_sf.specs.Entry.{Entry, entry, width-of, entry-bytes, entries-bytes}
 use Rattle.dir_sf.specs.Fork.{laid, count-of, parent, entries}
 use Rattle.dir_sf.specs.Change.{without-nth, with-nth}
 use Rattle.dir_sf_edit.proofs.ReadBack.{length-entry-bytes}
-use Rattle.dir_sf_edit.proofs.Puts.{put-then}
 use Rattle.dir_sf_edit.proofs.Copies.{entries-bytes-append}
 
 pub header-put : (b b₁ b₂ b₃ : List ℕ) (k wides p : ℕ) → k < 256 → wides < 256 → b₁ ≡ put b 0 (to-be 1 k) → b₂ ≡ put b₁ 1 (to-be 1 wides)

@@ -10,6 +10,7 @@ use lib.ListN.{length, length-append}
 use borrow.Author.Tests.{le-leb, ne-eqb, not-true}
 use Rattle.be.specs.Lists.{every}
 use Rattle.be.proofs.Bools.{by-cases, clash, and-right, every-head, every-tail}
+use Rattle.be.proofs.Codes.{passes}
 use Rattle.edition.specs.declared.Edition.{Edition}
 use Rattle.edition.specs.Edition.{entry-size}
 use Rattle.name.specs.Name.{legal-name, legal-number, same-name, fixed-name}
@@ -17,7 +18,6 @@ use Rattle.name.proofs.Same.{same-name-refl, same-name-length}
 use Rattle.dir_sf.specs.Entry.{Entry, entry, width-of, entries-bytes, wides-of, next-tag, tags-ok, end-tag, in-block}
 use Rattle.dir_sf.specs.Fork.{lay, holds, numbers-ok}
 use Rattle.dir_sf.specs.Change.{number-in, gap-tag, tag-for, placed, inserted, has-room, insert-code, removed, remove-code}
-use Rattle.dir_sf.proofs.Chains.{pass}
 use Rattle.dir_sf_edit.proofs.ReadBack.{length-entry-bytes, length-lay}
 use Rattle.dir_sf_edit.proofs.Accepted.{Good, low-le-end}
 use Rattle.dir_sf_edit.proofs.Removes.{removed-end, removed-tags, removed-length, removed-held, removed-wide, less-in-block}
@@ -120,9 +120,9 @@ module _ (e : Edition) (ok : Tags e) (told p fork : ℕ) (n : List ℕ) (kind : 
   tests : (legal-name e n ≡ true) × (fixed-name n ≡ false) × (holds e n xs ≡ true)
   unfolding remove-code
   tests =
-      let a = pass (legal-name e n) 11 _ (omega arith) done in
-      let b = pass (not (fixed-name n)) 12 _ (omega arith) (a .1) in
-      let c = pass (holds e n xs) 13 _ (omega arith) (b .1) in
+      let a = passes (legal-name e n) 10 _ done in
+      let b = passes (not (fixed-name n)) 11 _ (a .1) in
+      let c = passes (holds e n xs) 12 _ (b .1) in
       (a .0, not-true _ (b .0), c .0)
 
   gone : holds e n (removed e n xs) ≡ false

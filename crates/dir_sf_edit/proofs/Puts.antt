@@ -7,15 +7,11 @@ use mathlib.Core.List.{List, [], _∷_, _++_, append-assoc}
 use lib.ListN.{length, length-append}
 use Rattle.be.specs.Bytes.{to-be, put}
 use Rattle.be.proofs.Numbers.{length-to-be, to-be-1}
-use Rattle.be.proofs.Writes.{put-nothing, put-next}
+use Rattle.be.proofs.Writes.{put-nothing, put-next, put-then}
 use Rattle.edition.specs.declared.Edition.{Edition}
 use Rattle.edition.specs.Edition.{Sane}
 use Rattle.dir_sf.specs.Entry.{entry, width-of, entry-bytes}
 use Rattle.dir_sf.proofs.Leaves.{narrow, broad, kind-one}
-
--- two writes one behind the other, as they are made
-pub put-then : (b c d : List ℕ) (o p : ℕ) (xs ys : List ℕ) → c ≡ put b o xs → d ≡ put c p ys → p ≡ o + length xs → d ≡ put b o (xs ++ ys)
-put-then b c d o p xs ys h k q = rw (k, h) (put-next b p o xs ys (sym q))
 
 -- two writes, as they are made
 pub put-put : (b b₁ b₂ : List ℕ) (o p : ℕ) (xs ys : List ℕ) → b₁ ≡ put b o xs → b₂ ≡ put b₁ p ys → b₂ ≡ put (put b o xs) p ys
@@ -28,28 +24,28 @@ pub put-broad : (wides o v : ℕ) (b c : List ℕ) → (wides ≡ 0 → ⊥) →
 put-broad wides o v b c h q = q ∙ ap (λ (w : ℕ). put b o (to-be w v)) (broad wides h)
 
 -- a file type, where the edition has none and where it has one
-pub put-kind-none : (ed : Edition) (z : ed .ftype ≡ 0) (o : ℕ) (b : List ℕ) (v : ℕ) → b ≡ put b o (to-be (ed .ftype) v)
+pub put-kind-none : (e : Edition) (z : e .ftype ≡ 0) (o : ℕ) (b : List ℕ) (v : ℕ) → b ≡ put b o (to-be (e .ftype) v)
 unfolding to-be
-put-kind-none ed z o b v = rw z (sym (put-nothing b o))
+put-kind-none e z o b v = rw z (sym (put-nothing b o))
 
-pub put-kind-some : (ed : Edition) (s : Sane ed) (z : ed .ftype ≡ 0 → ⊥) (o : ℕ) (b c : List ℕ) (v : ℕ) → c ≡ put b o (to-be 1 v) → c ≡ put b o (to-be (ed .ftype) v)
-put-kind-some ed s z o b c v h = h ∙ ap (λ (k : ℕ). put b o (to-be k v)) (sym (kind-one ed s z o))
+pub put-kind-some : (e : Edition) (s : Sane e) (z : e .ftype ≡ 0 → ⊥) (o : ℕ) (b c : List ℕ) (v : ℕ) → c ≡ put b o (to-be 1 v) → c ≡ put b o (to-be (e .ftype) v)
+put-kind-some e s z o b c v h = h ∙ ap (λ (k : ℕ). put b o (to-be k v)) (sym (kind-one e s z o))
 
 -- what stands behind a name, written
-pub rest-put : (ed : Edition) (b b₁ b₂ : List ℕ) (o kind ino wides : ℕ) → b₁ ≡ put b o (to-be (ed .ftype) kind) → b₂ ≡ put b₁ (o + ed .ftype) (to-be (width-of wides) ino)
-    → b₂ ≡ put b o (to-be (ed .ftype) kind ++ to-be (width-of wides) ino)
-rest-put ed b b₁ b₂ o kind ino wides h k =
-    put-then b b₁ b₂ o (o + ed .ftype) (to-be (ed .ftype) kind) (to-be (width-of wides) ino) h k (rw length-to-be refl)
+pub rest-put : (e : Edition) (b b₁ b₂ : List ℕ) (o kind ino wides : ℕ) → b₁ ≡ put b o (to-be (e .ftype) kind) → b₂ ≡ put b₁ (o + e .ftype) (to-be (width-of wides) ino)
+    → b₂ ≡ put b o (to-be (e .ftype) kind ++ to-be (width-of wides) ino)
+rest-put e b b₁ b₂ o kind ino wides h k =
+    put-then b b₁ b₂ o (o + e .ftype) (to-be (e .ftype) kind) (to-be (width-of wides) ino) h k (rw length-to-be refl)
 
 -- an entry written field by field
-pub entry-put : (ed : Edition) (b b₁ b₂ b₃ b₄ : List ℕ) (o n tag kind ino wides : ℕ) (name : List ℕ) → length name < 256 → n ≡ length name
+pub entry-put : (e : Edition) (b b₁ b₂ b₃ b₄ : List ℕ) (o n tag kind ino wides : ℕ) (name : List ℕ) → length name < 256 → n ≡ length name
     → b₁ ≡ put b o (to-be 1 n) → b₂ ≡ put b₁ (o + 1) (to-be 2 tag) → b₃ ≡ put b₂ (o + 3) name
-    → b₄ ≡ put b₃ (o + 3 + n) (to-be (ed .ftype) kind ++ to-be (width-of wides) ino)
-    → b₄ ≡ put b o (entry-bytes ed (width-of wides) (entry tag name kind ino))
+    → b₄ ≡ put b₃ (o + 3 + n) (to-be (e .ftype) kind ++ to-be (width-of wides) ino)
+    → b₄ ≡ put b o (entry-bytes e (width-of wides) (entry tag name kind ino))
 unfolding entry-bytes
-entry-put ed b b₁ b₂ b₃ b₄ o n tag kind ino wides name l e₀ e₁ e₂ e₃ e₄ =
+entry-put e b b₁ b₂ b₃ b₄ o n tag kind ino wides name l e₀ e₁ e₂ e₃ e₄ =
     let t : List ℕ = to-be 2 tag in
-    let y : List ℕ = to-be (ed .ftype) kind ++ to-be (width-of wides) ino in
+    let y : List ℕ = to-be (e .ftype) kind ++ to-be (width-of wides) ino in
     let lt : length t ≡ 2 = length-to-be 2 tag in
     let h : List ℕ = length name ∷ [] in
     let q₀ : b₁ ≡ put b o h = rw (e₁, e₀, to-be-1 (length name) l) refl in

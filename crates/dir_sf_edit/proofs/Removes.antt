@@ -9,17 +9,17 @@ use lib.Dec.{eqb, ltb}
 use lib.ListN.{length}
 use borrow.Author.Tests.{le-leb, leb-true, eqb-true, eq-eqb, not-true}
 use Rattle.be.specs.Lists.{every}
+use Rattle.be.proofs.Codes.{passes}
 use Rattle.edition.specs.declared.Edition.{Edition}
 use Rattle.name.proofs.Same.{same-name-sym, same-name-trans}
 use Rattle.name.specs.Name.{legal-name, legal-number, same-name, fixed-name}
-use Rattle.be.proofs.Bools.{and-left, and-right, and-both, by-cases, clash, every-head, every-tail, every-cons}
+use Rattle.be.proofs.Bools.{and-left, and-right, and-both, by-cases, clash, every-head, every-tail, every-cons, neither}
 use Rattle.dir_sf.specs.Entry.{Entry, is-wide, wides-of, next-tag, tags-ok, end-tag, in-block}
 use Rattle.dir_sf.specs.Fork.{name-ok, names-ok, numbers-ok, holds, once-ok}
 use Rattle.dir_sf.specs.Change.{number-in, removed, narrows, remove-code}
 use Rattle.dir_sf.proofs.Tags.{tagged, untagged}
-use Rattle.dir_sf.proofs.Names.{fails, or-false, absent-same, absent-number, once-head, once-tail, once-cons}
+use Rattle.dir_sf.proofs.Names.{fails, absent-same, absent-number, once-head, once-tail, once-cons}
 use Rattle.dir_sf_edit.proofs.Accepted.{Good}
-use Rattle.dir_sf.proofs.Chains.{pass}
 
 pub end-lower : (e : Edition) (a b : ℕ) (xs : List Entry) → a ≤ b → end-tag e a xs ≤ end-tag e b xs
 unfolding end-tag
@@ -69,7 +69,7 @@ module _ (e : Edition) (n : List ℕ) where
   unfolding removed holds
   removed-holds m [] h = h
   removed-holds m (x ∷ xs) h =
-      let o = or-false (same-name e m (x .name)) _ h in
+      let o = neither (same-name e m (x .name)) _ h in
       by-cases (same-name e n (x .name)) (λ q. rw q (o .1)) (λ q. rw q (rw (o .0) (removed-holds m xs (o .1))))
 
   pub removed-once : (xs : List Entry) → once-ok e xs ≡ true → once-ok e (removed e n xs) ≡ true
@@ -135,10 +135,10 @@ module _ (e : Edition) (told p : ℕ) (n : List ℕ) (xs : List Entry) (g : Good
   removes : (holds e n xs ≡ true) × (narrows p xs (removed e n xs) ≡ false)
   unfolding remove-code
   removes =
-      let a = pass (legal-name e n) 11 _ (omega arith) done in
-      let b = pass (not (fixed-name n)) 12 _ (omega arith) (a .1) in
-      let c = pass (holds e n xs) 13 _ (omega arith) (b .1) in
-      let d = pass (not (narrows p xs (removed e n xs))) 16 _ (omega arith) (c .1) in
+      let a = passes (legal-name e n) 10 _ done in
+      let b = passes (not (fixed-name n)) 11 _ (a .1) in
+      let c = passes (holds e n xs) 12 _ (b .1) in
+      let d = passes (not (narrows p xs (removed e n xs))) 15 _ (c .1) in
       (c .0, not-true _ (d .0))
 
   pub removed-good : Good e told p (removed e n xs)

@@ -12,7 +12,7 @@ use Rattle.be.proofs.Parts.{field-1, bytes-take, bytes-drop}
 use Rattle.be.proofs.Writes.{length-put, part-before, part-behind, part-inside, field-put}
 use Rattle.edition.specs.declared.Edition.{Edition}
 use Rattle.edition.specs.Edition.{Sane}
-use Rattle.dinode.specs.Core.{magic-good, attr-start, kind-good, directory-good, inode-code, directory-code, data-length, data-fork}
+use Rattle.dinode.specs.Core.{magic-ok, attr-start, kind-ok, directory-ok, inode-code, directory-code, data-length, data-fork}
 use Rattle.dinode.proofs.Sound.{sound-size, directory-sound}
 use Rattle.dir_sf.specs.Entry.{Entry}
 use Rattle.dir_sf.specs.Fork.{parent, lay, lay-fork, fork-verdict}
@@ -23,7 +23,7 @@ use Rattle.dir_sf_edit.proofs.ReadBack.{length-lay-fork, lay-used}
 -- an inode's code hangs on its length and six of its fields
 same-code : (e : Edition) (b c : List ℕ) → length c ≡ length b → field 0 2 c ≡ field 0 2 b → field 2 2 c ≡ field 2 2 b → byte 4 c ≡ byte 4 b → byte 5 c ≡ byte 5 b
     → byte 82 c ≡ byte 82 b → directory-code e c ≡ directory-code e b
-unfolding directory-code inode-code magic-good kind-good attr-start directory-good
+unfolding directory-code inode-code magic-ok kind-ok attr-start directory-ok
 same-code e b c l f₀ f₂ f₄ f₅ f₈₂ = rw (l, f₀, f₂, f₄, f₅, f₈₂) refl
 
 same-length : (e : Edition) (b c : List ℕ) → length c ≡ length b → byte 82 c ≡ byte 82 b → data-length e c ≡ data-length e b

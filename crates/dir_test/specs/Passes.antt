@@ -8,12 +8,13 @@ use lib.Dec.{eqb, leb}
 use lib.ListN.{length, take, drop, getD, set}
 use Rattle.be.specs.Lists.{every, some-of, tally, same, keep}
 use Rattle.be.specs.Bytes.{byte, field, part}
+use Rattle.be.specs.Codes.{otherwise}
 use Rattle.edition.specs.declared.Edition.{Edition}
 use Rattle.edition.specs.Edition.{largest-block}
 use Rattle.name.specs.Name.{legal-number, legal-name, hash-of, same-name, dot, dotdot}
 use Rattle.dir_rules.specs.Record.{Rec, rec, cut, says, whole, is-gap, entries, gaps, name, number, size}
 use Rattle.dir_rules.specs.Block.{Slot, slots-in, is-stale}
-use Rattle.dir_rules.specs.Verdict.{name-ok, otherwise, Pair, is-gap-of, best-ok, best-pairs, once-ok, names-ok, numbers-ok, index-ok, tile-ok}
+use Rattle.dir_rules.specs.Verdict.{name-ok, Pair, is-gap-of, best-ok, best-pairs, once-ok, names-ok, numbers-ok, index-ok, tile-ok}
 
 -- the records from o to the data's end t, with fuel k
 unfoldable pub rest : Edition → List ℕ → ℕ → ℕ → ℕ → List Rec

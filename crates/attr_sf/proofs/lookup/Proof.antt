@@ -5,15 +5,15 @@ use borrow.Author.Needs.{needs}
 use Rattle.edition.specs.declared.Edition.{Edition}
 use Rattle.edition.specs.Edition.{v4}
 use Rattle.attr_sf.specs.declared.Place.{Place}
-use Rattle.attr_sf.specs.Calls.{looked-up, found-code, code-of}
+use Rattle.attr_sf.specs.Calls.{looked-up, found-code, place-code}
 use Rattle.attr_sf.proofs.LookupLaws.{code-is}
 use Rattle.attr_sf.proofs.lookup.Statement.{statement}
 use Rattle.attr_sf.proofs.lookup.Tie as tie
 
 -- of the edition that was made
 made : {e : Edition} {r : Place} (b name : List ℕ) (flags : ℕ) → r ≡ looked-up e b name flags → e ≡ v4
-    → (r ≡ looked-up v4 b name flags) × (code-of r ≡ found-code v4 b name flags)
-made b name flags h q = let k = rw q at h in (k, ap code-of k ∙ code-is v4 b name flags)
+    → (r ≡ looked-up v4 b name flags) × (place-code r ≡ found-code v4 b name flags)
+made b name flags h q = let k = rw q at h in (k, ap place-code k ∙ code-is v4 b name flags)
 
 pub lookup-spec : {M : Type 1} → statement M
 lookup-spec =

@@ -1,10 +1,10 @@
 use borrow.Author.Needs.{needs}
-use Rattle.dinode.specs.Core.{attributes-good}
+use Rattle.dinode.specs.Core.{attributes-ok}
 use Rattle.dinode.proofs.attributes.Statement.{statement}
 use Rattle.dinode.proofs.attributes.Tie as tie
 
 returns : tie.Need-returns
-unfolding attributes-good
+unfolding attributes-ok
 returns c = cc
 
 pub attributes-spec : {M : Type 1} → statement M

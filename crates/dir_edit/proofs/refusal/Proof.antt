@@ -2,8 +2,8 @@ use denote.Ref.{now}
 use Rattle.name.specs.Name.{legal-name}
 use mathlib.Core.Path.{sym, _∙_}
 use borrow.Author.Tests.{not-true, not-false}
-use Rattle.be.proofs.Bools.{and-both}
-use Rattle.dir_edit.proofs.Refused.{by-test, by-request, by-fixed, by-rest, not-left, not-right}
+use Rattle.be.proofs.Bools.{and-both, not-left, not-right}
+use Rattle.dir_edit.proofs.Refused.{by-test, by-request, by-fixed, by-rest}
 use borrow.Author.Needs.{needs}
 use Rattle.dir_edit.proofs.refusal.Statement.{statement}
 use Rattle.dir_edit.proofs.refusal.Tie as tie

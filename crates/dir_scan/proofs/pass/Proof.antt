@@ -4,13 +4,13 @@ use Rattle.dir_laws.proofs.RecordSteps.{head-end}
 use Rattle.dir_laws.proofs.RecordPass.{seen-start, seen-end}
 use denote.Ref.{now}
 use Rattle.dir_rules.specs.Block.{data-end}
-use Rattle.dir_laws.specs.Pass.{Passed}
+use Rattle.dir_laws.specs.Pass.{Passing}
 use Rattle.dir_scan.specs.Table.{table}
 use Rattle.dir_scan.proofs.pass.Statement.{statement}
 use Rattle.dir_scan.proofs.pass.Tie as tie
 
 abbrev Inv-loop : tie.InvT-loop
-Inv-loop e b end o s₀ s = Passed e b (s .at) (table s) (s .tat) (s .tlen) × (s .at ≤ data-end b)
+Inv-loop e b end o s₀ s = Passing e b (s .at) (table s) (s .tat) (s .tlen) × (s .at ≤ data-end b)
 
 abbrev μ-loop : tie.MeasureT-loop
 μ-loop e b end o s₀ s = end - s .at

@@ -2,11 +2,11 @@ use native.Mathlib.Omega.{arith}
 use borrow.Author.Needs.{needs}
 use Rattle.attr_sf.proofs.Tiling.{three, name-inside}
 use Rattle.attr_sf.proofs.EntryReads.{name-test}
-use Rattle.attr_sf.proofs.name_good.Statement.{statement}
-use Rattle.attr_sf.proofs.name_good.Tie as tie
+use Rattle.attr_sf.proofs.name_ok.Statement.{statement}
+use Rattle.attr_sf.proofs.name_ok.Tie as tie
 
-pub name-good-spec : {M : Type 1} → statement M
-name-good-spec =
+pub name-ok-spec : {M : Type 1} → statement M
+name-ok-spec =
     tie.close
     (tie.spec
     (λ c. search needs)

@@ -1,10 +1,10 @@
 use borrow.Author.Needs.{needs}
 use Rattle.attr_sf.proofs.EntryReads.{flags-test}
-use Rattle.attr_sf.proofs.flags_good.Statement.{statement}
-use Rattle.attr_sf.proofs.flags_good.Tie as tie
+use Rattle.attr_sf.proofs.flags_ok.Statement.{statement}
+use Rattle.attr_sf.proofs.flags_ok.Tie as tie
 
-pub flags-good-spec : {M : Type 1} → statement M
-flags-good-spec =
+pub flags-ok-spec : {M : Type 1} → statement M
+flags-ok-spec =
     tie.close
     (tie.spec
     (λ c. search needs)
