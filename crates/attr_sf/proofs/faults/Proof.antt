@@ -27,6 +27,12 @@ faults-spec =
     (λ c. omega (arith, next-long (c .before .before .before .before .before .loop .inv .names) (c .before .before .before .before .loop-test .taken) (c .before .before .before .before .before .before .before .pre .1), c .size .ensures))
     (λ c. search needs)
     (λ c. search needs)
-    (λ c. passed-next (c .before .before .before .before .before .loop .inv) (c .before .before .before .before .loop-test .taken) _ _ (sym (c .before .before .before .name-ok .ensures) ∙ not-false _ (c .before .before .if1 .left)) (c .before .flags-ok .ensures) (c .size .ensures .0))
+    (λ c.
+    let c₂ = c .before .before in
+    let c₃ = c₂ .before in
+    let c₄ = c₃ .before in
+    let c₅ = c₄ .before in
+    passed-next (c₅ .loop .inv) (c₄ .loop-test .taken) _ _ (sym (c₃ .name-ok .ensures) ∙ not-false _ (c₂ .if1 .left)) (c .before .flags-ok .ensures)
+    (c .size .ensures .0))
     (λ c. passed-done (c .before .before .loop .inv) (c .before .loop-test .left) (c .if2 .taken))
     (λ c. passed-not (c .before .before .loop .inv) (c .before .loop-test .left) (c .if2 .left)))

@@ -24,9 +24,17 @@ once-spec =
     (λ c κs. next-long (c .before .loop .inv) (c .loop-test .taken) (c .before .before .before .pre .1))
     (λ c. omega (arith, next-long (c .before .before .loop .inv) (c .before .loop-test .taken) (c .before .before .before .before .pre .1), c .size .ensures))
     (λ c. search needs)
-    (λ c κs. (rw (c .size .ensures .0) (tiled-next _ _ _ _ (c .before .loop-test .taken) (c .before .before .loop .inv .tile)), (c .before .before .before .before .pre .1, next-fits (c .before .before .loop .inv) (c .before .loop-test .taken) (c .before .before .before .before .pre .1))))
+    (λ c κs.
+    let c₂ = c .before .before in
+    let c₄ = c₂ .before .before in
+    (rw (c .size .ensures .0) (tiled-next _ _ _ _ (c .before .loop-test .taken) (c₂ .loop .inv .tile)), (c₄ .pre .1, next-fits (c₂ .loop .inv) (c .before .loop-test .taken) (c₄ .pre .1))))
     (λ c. rest-stop (c .before .before .before .before .loop .inv) (distinct-fails _ _ _ (c .before .before .before .loop-test .taken) (rw (c .before .before .size .ensures .0) at (sym (c .before .again .ensures) ∙ c .if1 .taken))))
     (λ c. search needs)
     (λ c. search needs)
-    (λ c. rest-next (c .before .before .before .before .loop .inv) (c .before .before .before .loop-test .taken) (c .before .before .size .ensures .0) (distinct-on _ _ _ (c .before .before .before .loop-test .taken) (rw (c .before .before .size .ensures .0) at (sym (c .before .again .ensures) ∙ c .if1 .left))))
+    (λ c.
+    let c₂ = c .before .before in
+    let c₃ = c₂ .before in
+    let c₄ = c₃ .before in
+    rest-next (c₄ .loop .inv) (c₃ .loop-test .taken) (c₂ .size .ensures .0)
+    (distinct-on _ _ _ (c₃ .loop-test .taken) (rw (c₂ .size .ensures .0) at (sym (c .before .again .ensures) ∙ c .if1 .left))))
     (λ c. rest-stop (c .before .loop .inv) (distinct-done _ _ _ (c .loop-test .left))))

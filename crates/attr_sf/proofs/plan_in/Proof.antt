@@ -15,5 +15,11 @@ plan-in-spec =
     (λ c κs. omega (arith, long _ (c .before .before .before .before .pre)))
     (λ c κs. at-long _ _ _ (c .before .before .before .place-in .ensures .0) (c .before .before .be16 .ensures .0) (c .if1 .taken) (c .before .before .before .before .before .before .pre))
     (λ c. at-count _ _ _ (c .before .before .before .before .place-in .ensures .0) (c .before .before .before .be16 .ensures .0) (c .before .if1 .taken) (c .before .before .before .before .before .before .before .pre) (c .before .before .be8 .ensures .0))
-    (λ c. planned _ _ _ (c .before .before .before .before .before .before .before .pre) (plan-found _ _ _ (c .before .before .before .before .place-in .ensures .0) (c .before .before .before .be16 .ensures .0) (c .before .before .be8 .ensures .0) (c .size .ensures .0) (c .before .if1 .taken)))
+    (λ c.
+    let c₂ = c .before .before in
+    let c₃ = c₂ .before in
+    let c₄ = c₃ .before in
+    let c₇ = c₄ .before .before .before in
+    planned _ _ _ (c₇ .pre)
+    (plan-found _ _ _ (c₄ .place-in .ensures .0) (c₃ .be16 .ensures .0) (c₂ .be8 .ensures .0) (c .size .ensures .0) (c .before .if1 .taken)))
     (λ c. planned _ _ _ (c .before .before .before .before .before .before .pre) (plan-not _ _ _ (c .before .before .before .place-in .ensures .0) (c .before .before .be16 .ensures .0) (c .before .be8 .ensures .0) (c .if1 .left))))

@@ -16,4 +16,10 @@ remove-in-spec =
     (λ c. search needs)
     (λ c κs. omega (arith, long _ (c .before .before .before .before .before .before .before .before .before .before .pre), c .before .before .before .close .kept .0))
     (λ c. search needs)
-    (λ c. remove-done _ _ _ (c .before .before .before .before .before .before .before .before .before .before .before .before .before .pre) (c .before .before .before .before .before .before .before .before .before .plan-in .ensures .0) (c .before .before .before .before .before .before .before .before .if1 .left) (c .before .before .before .before .before .before .close .ensures) (c .before .before .head .ensures)))
+    (λ c.
+    let c₂ = c .before .before in
+    let c₆ = c₂ .before .before .before .before in
+    let c₈ = c₆ .before .before in
+    let c₉ = c₈ .before in
+    let c₁₃ = c₉ .before .before .before .before in
+    remove-done _ _ _ (c₁₃ .pre) (c₉ .plan-in .ensures .0) (c₈ .if1 .left) (c₆ .close .ensures) (c₂ .head .ensures)))

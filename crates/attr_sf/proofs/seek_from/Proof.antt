@@ -26,5 +26,10 @@ seek-from-spec =
     (λ c. omega (arith, next-long (c .before .before .before .before .loop .inv) (c .before .before .before .loop-test .taken) (c .before .before .before .before .before .before .before .pre .1), c .size .ensures))
     (λ c. search needs)
     (λ c. search needs)
-    (λ c. rest-next (c .before .before .before .before .loop .inv) (c .before .before .before .loop-test .taken) (c .size .ensures .0) (seek-on _ _ _ _ _ (c .before .before .before .loop-test .taken) (sym (c .before .before .key-at .ensures) ∙ c .before .if1 .left)))
+    (λ c.
+    let c₂ = c .before .before in
+    let c₃ = c₂ .before in
+    let c₄ = c₃ .before in
+    rest-next (c₄ .loop .inv) (c₃ .loop-test .taken) (c .size .ensures .0)
+    (seek-on _ _ _ _ _ (c₃ .loop-test .taken) (sym (c₂ .key-at .ensures) ∙ c .before .if1 .left)))
     (λ c. (rest-stop (c .before .loop .inv) (seek-done _ _ _ _ _ (c .loop-test .left)), tiled-within _ _ _ _ (c .before .loop .inv .tile))))

@@ -17,6 +17,11 @@ take-out-spec =
     (λ c κs. located _ _ (asked-tested _ _ _ _ (sym (c .before .before .start .given .1) ∙ c .before .before .before .before .asked .ensures)) .1 .0)
     (λ c. search needs)
     (λ c. search needs)
-    (λ c. remove-at _ _ _ _ (sym (c .before .before .before .before .before .start .given .1) ∙ c .before .before .before .before .before .before .before .asked .ensures) (located _ _ (asked-tested _ _ _ _ (sym (c .before .before .before .before .before .start .given .1) ∙ c .before .before .before .before .before .before .before .asked .ensures)) .0) (c .before .before .remove-in .kept .0) (c .before .before .remove-in .ensures))
+    (λ c.
+    let c₂ = c .before .before in
+    let c₅ = c₂ .before .before .before in
+    let c₇ = c₅ .before .before in
+    remove-at _ _ _ _ (sym (c₅ .start .given .1) ∙ c₇ .asked .ensures)
+    (located _ _ (asked-tested _ _ _ _ (sym (c₅ .start .given .1) ∙ c₇ .asked .ensures)) .0) (c₂ .remove-in .kept .0) (c₂ .remove-in .ensures))
     (λ c. search needs)
     (λ c. remove-refused _ _ _ _ (sym (c .before .n .given .1) ∙ c .before .before .before .asked .ensures)))

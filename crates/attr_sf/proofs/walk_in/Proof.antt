@@ -16,5 +16,16 @@ walk-in-spec =
     (λ c κs. seek-may _ (c .before .be16 .ensures .0) (c .be8 .ensures .0) (c .before .before .before .pre .0))
     (λ c. walk-not _ _ (c .before .before .before .be16 .ensures .0) (c .before .before .be8 .ensures .0) _ (sym (c .before .stands-in .ensures) ∙ not-true _ (c .if1 .taken)))
     (λ c. walk-end _ _ (c .before .before .before .before .be16 .ensures .0) (c .before .before .before .be8 .ensures .0) _ (sym (c .before .before .stands-in .ensures) ∙ not-false _ (c .before .if1 .left)) (c .if2 .taken))
-    (λ c κs. (walk-fits _ _ (c .before .before .before .before .be16 .ensures .0) (c .before .before .before .be8 .ensures .0) (c .before .before .before .before .before .before .pre .0) (sym (c .before .before .stands-in .ensures) ∙ not-false _ (c .before .if1 .left)) (c .if2 .left), c .before .before .before .before .before .before .pre .1))
-    (λ c. walk-live _ _ (c .before .before .before .before .before .be16 .ensures .0) (c .before .before .before .before .be8 .ensures .0) _ (sym (c .before .before .before .stands-in .ensures) ∙ not-false _ (c .before .before .if1 .left)) (c .before .if2 .left) (c .step-from .ensures)))
+    (λ c κs.
+    let c₂ = c .before .before in
+    let c₃ = c₂ .before in
+    let c₄ = c₃ .before in
+    let c₆ = c₄ .before .before in
+    (walk-fits _ _ (c₄ .be16 .ensures .0) (c₃ .be8 .ensures .0) (c₆ .pre .0) (sym (c₂ .stands-in .ensures) ∙ not-false _ (c .before .if1 .left)) (c .if2 .left), c₆ .pre .1))
+    (λ c.
+    let c₂ = c .before .before in
+    let c₃ = c₂ .before in
+    let c₄ = c₃ .before in
+    let c₅ = c₄ .before in
+    walk-live _ _ (c₅ .be16 .ensures .0) (c₄ .be8 .ensures .0) _ (sym (c₃ .stands-in .ensures) ∙ not-false _ (c₂ .if1 .left)) (c .before .if2 .left)
+    (c .step-from .ensures)))

@@ -26,7 +26,9 @@ lookup-ready-spec =
     (λ c. omega (arith, slots-room _ (now (c .before .before .before .args .b)) (c .before .before .before .pre .0 .0) (c .before .before .before .pre .0 .1)))
     (λ c. search needs)
     (λ c. omega (arith, slots-room _ (now (c .before .before .before .args .b)) (c .before .before .before .pre .0 .0) (c .before .before .before .pre .0 .1), count-read (now (c .before .before .before .args .b)) _ (c .be32 .ensures .0)))
-    (λ c κs. (c .before .before .before .pre .0, (end-read (now (c .before .before .before .args .b)) _ (count-read (now (c .before .before .before .args .b)) _ (c .be32 .ensures .0)), count-read (now (c .before .before .before .args .b)) _ (c .be32 .ensures .0))))
+    (λ c κs.
+    let c₃ = c .before .before .before in
+    (c₃ .pre .0, (end-read (now (c₃ .args .b)) _ (count-read (now (c₃ .args .b)) _ (c .be32 .ensures .0)), count-read (now (c₃ .args .b)) _ (c .be32 .ensures .0))))
     be64-requires
     (λ c. lookup-found _ _ _ (c .before .before .before .before .before .before .pre .0 .1 .ok) (c .before .before .before .before .before .before .pre .1) _ (c .before .before .seek .ensures) (c .before .if1 .taken) _ (c .be64 .ensures))
     (λ c. lookup-absent _ _ _ (c .before .before .before .before .before .pre .0 .1 .ok) (c .before .before .before .before .before .pre .1) _ (c .before .seek .ensures) (c .if1 .left)))

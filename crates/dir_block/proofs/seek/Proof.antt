@@ -105,9 +105,16 @@ mul-t16 c =
 -- src/lib.rt:108:17
 returns-2 : tie.Need-returns-2 Inv-loop μ-loop
 returns-2 c =
-    let p = c .before .before .before .before .before .before .before .before .before .before .before .before in
-    let l = c .before .before .before .before .before .before .before .loop in
-    run-hit _ (now (p .args .b)) (now (p .args .name)) (l .i) (l .c) (l .inv .0) (slot (c .before .before .before .before .before .be32 .result) (c .before .before .before .be322 .result)) (here (c .before .before .before)) (c .before .before .if2 .taken) (c .before .before .before .before .if1 .left ∙ c .before .before .before .before .before .before .before .before .before .hash .ensures .0) (sym (c .before .named .ensures) ∙ c .if3 .taken)
+    let c₂ = c .before .before in
+    let c₃ = c₂ .before in
+    let c₄ = c₃ .before in
+    let c₅ = c₄ .before in
+    let c₇ = c₅ .before .before in
+    let c₉ = c₇ .before .before in
+    let c₁₁ = c₉ .before .before in
+    let p = c₁₁ .before in
+    let l = c₇ .loop in
+    run-hit _ (now (p .args .b)) (now (p .args .name)) (l .i) (l .c) (l .inv .0) (slot (c₅ .be32 .result) (c₃ .be322 .result)) (here (c₂ .before)) (c₂ .if2 .taken) (c₄ .if1 .left ∙ c₉ .hash .ensures .0) (sym (c .before .named .ensures) ∙ c .if3 .taken)
 
 -- src/lib.rt:116:9
 add-i : tie.Need-add-i Inv-loop μ-loop

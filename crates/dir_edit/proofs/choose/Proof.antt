@@ -15,8 +15,13 @@ pass-requires c κs =
 
 choose-ab-requires : tie.Need-choose-ab-requires
 choose-ab-requires c κs =
-    let p = c .before .before .before .before .before .before .before .before .before .before in
-    (p .pre .0, ((p .pre .1 .0 .0, (p .pre .1 .0 .1 .0, (p .pre .1 .0 .1 .1, c .before .if1 .taken))), (c .before .before .spot .ensures, (c .before .before .before .before .before .before .pass .ensures, (c .before .before .before .before .hash .ensures .0, (c .before .before .before .before .before .entry-size .ensures .0, p .pre .1 .1))))))
+    let c₂ = c .before .before in
+    let c₄ = c₂ .before .before in
+    let c₅ = c₄ .before in
+    let c₆ = c₅ .before in
+    let c₉ = c₆ .before .before .before in
+    let p = c₉ .before in
+    (p .pre .0, ((p .pre .1 .0 .0, (p .pre .1 .0 .1 .0, (p .pre .1 .0 .1 .1, c .before .if1 .taken))), (c₂ .spot .ensures, (c₆ .pass .ensures, (c₄ .hash .ensures .0, (c₅ .entry-size .ensures .0, p .pre .1 .1))))))
 
 choose-cd-requires : tie.Need-choose-cd-requires
 choose-cd-requires c κs =

@@ -13,8 +13,12 @@ use Rattle.dir_edit.proofs.choose_cd.Tie as tie
 
 returns : tie.Need-returns
 returns c =
-    let p = c .before .before .before in
-    room-no-t _ (now (p .args .b)) (now (p .args .name)) (p .args .number) (p .args .g .o1) (p .args .g .l1) (p .args .g .o2) (p .args .g .l2) (p .args .g .o3) (p .args .g .l3) (p .args .g .tat) (p .args .g .tlen) 0 (p .args .need) (p .args .h) (p .pre .1 .1 .1 .0) (p .pre .1 .0 .1 .1) (p .pre .1 .1 .1 .1 .1 .1 .0) (p .pre .1 .1 .1 .1 .1 .0) (p .args .o) (p .args .l) (p .pre .1 .1 .1 .1 .0 .0) (p .pre .1 .1 .1 .1 .0 .1) refl (c .if1 .taken)
+    let c₂ = c .before .before in
+    let p = c₂ .before in
+    room-no-t _ (now (p .args .b)) (now (p .args .name)) (p .args .number) (p .args .g .o1) (p .args .g .l1) (p .args .g .o2) (p .args .g .l2)
+    (p .args .g .o3) (p .args .g .l3) (p .args .g .tat) (p .args .g .tlen) 0 (p .args .need) (p .args .h) (p .pre .1 .1 .1 .0) (p .pre .1 .0 .1 .1)
+    (p .pre .1 .1 .1 .1 .1 .1 .0) (p .pre .1 .1 .1 .1 .1 .0) (p .args .o) (p .args .l) (p .pre .1 .1 .1 .1 .0 .0) (p .pre .1 .1 .1 .1 .0 .1) refl
+    (c .if1 .taken)
 
 insert-c-requires : tie.Need-insert-c-requires
 insert-c-requires c κs =

@@ -33,8 +33,11 @@ joined-start-requires c κs =
 
 joined-end-requires : tie.Need-joined-end-requires
 joined-end-requires c κs =
-    let p = c .before .before .before .before .before .before .before .before in
-    ((p .pre .0 .0, tiled _ (now (p .args .b)) (p .pre .0 .1)), (entry-found _ (p .pre .0 .0) (now (p .args .b)) (now (p .args .name)) (p .args .at) (p .pre .0 .1) (p .pre .1 .1 .0) (p .pre .1 .1 .1 .1), (p .pre .1 .0, ap (λ (k : ℕ). p .args .at + k) (c .before .before .before .entry-size .ensures .0 ∙ ap (entry-size (p .args .e)) (c .before .before .before .before .be8 .ensures .0)))))
+    let c₃ = c .before .before .before in
+    let c₄ = c₃ .before in
+    let c₇ = c₄ .before .before .before in
+    let p = c₇ .before in
+    ((p .pre .0 .0, tiled _ (now (p .args .b)) (p .pre .0 .1)), (entry-found _ (p .pre .0 .0) (now (p .args .b)) (now (p .args .name)) (p .args .at) (p .pre .0 .1) (p .pre .1 .1 .0) (p .pre .1 .1 .1 .1), (p .pre .1 .0, ap (λ (k : ℕ). p .args .at + k) (c₃ .entry-size .ensures .0 ∙ ap (entry-size (p .args .e)) (c₄ .be8 .ensures .0)))))
 
 sub-be32 : tie.Need-sub-be32
 sub-be32 c =
@@ -83,10 +86,21 @@ put32-requires-2 c κs =
 
 returns : tie.Need-returns
 returns c =
-    let p = c .before .before .before .before .before .before .before .before .before .before .before .before .before .before .before .before .before .before .before .before .before .before .before in
-    remove-stores _ (now (p .args .b)) (now (p .args .name)) (p .args .end) (p .args .place) (p .args .at) (c .before .before .before .before .before .before .before .before .before .before .before .before .before .before .before .before .joined-start .result) (c .before .before .before .before .before .before .before .before .before .before .before .before .before .before .joined-end .result) _ _ (c .before .before .before .before .before .before .before .before .before .before .before .before .be32 .result) _ _ _ (p .pre .1 .1 .1 .0) (p .pre .1 .1 .1 .1) (p .pre .1 .0) (stale-read (now (p .args .b)) (c .before .before .before .before .before .before .before .before .before .before .before .before .be32 .result) (c .before .before .before .before .before .before .before .before .before .before .before .before .be32 .ensures .0)) refl
-    (ap (λ (k : ℕ). p .args .at + k) (c .before .before .before .before .before .before .before .before .before .before .before .before .before .before .before .before .before .before .entry-size .ensures .0 ∙ ap (entry-size (p .args .e)) (c .before .before .before .before .before .before .before .before .before .before .before .before .before .before .before .before .before .before .before .be8 .ensures .0 ∙ long-found _ (p .pre .0 .0) (now (p .args .b)) (now (p .args .name)) (p .args .at) (p .pre .0 .1) (p .pre .1 .1 .0) (p .pre .1 .1 .1 .1))))
-    (c .before .before .before .before .before .before .before .before .before .before .before .before .before .before .before .before .joined-start .ensures .0) (c .before .before .before .before .before .before .before .before .before .before .before .before .before .before .joined-end .ensures .0) (c .before .before .before .before .before .before .before .before .before .before .put-gap .ensures) (c .before .before .before .before .before .before .put32 .ensures) (c .before .before .put322 .ensures)
+    let c₂ = c .before .before in
+    let c₆ = c₂ .before .before .before .before in
+    let c₁₀ = c₆ .before .before .before .before in
+    let c₁₂ = c₁₀ .before .before in
+    let c₁₄ = c₁₂ .before .before in
+    let c₁₆ = c₁₄ .before .before in
+    let c₁₈ = c₁₆ .before .before in
+    let c₁₉ = c₁₈ .before in
+    let c₂₂ = c₁₉ .before .before .before in
+    let p = c₂₂ .before in
+    remove-stores _ (now (p .args .b)) (now (p .args .name)) (p .args .end) (p .args .place) (p .args .at) (c₁₆ .joined-start .result)
+    (c₁₄ .joined-end .result) _ _ (c₁₂ .be32 .result) _ _ _ (p .pre .1 .1 .1 .0) (p .pre .1 .1 .1 .1) (p .pre .1 .0)
+    (stale-read (now (p .args .b)) (c₁₂ .be32 .result) (c₁₂ .be32 .ensures .0)) refl
+    (ap (λ (k : ℕ). p .args .at + k) (c₁₈ .entry-size .ensures .0 ∙ ap (entry-size (p .args .e)) (c₁₉ .be8 .ensures .0 ∙ long-found _ (p .pre .0 .0) (now (p .args .b)) (now (p .args .name)) (p .args .at) (p .pre .0 .1) (p .pre .1 .1 .0) (p .pre .1 .1 .1 .1))))
+    (c₁₆ .joined-start .ensures .0) (c₁₄ .joined-end .ensures .0) (c₁₀ .put-gap .ensures) (c₆ .put32 .ensures) (c₂ .put322 .ensures)
 
 pub free-entry-spec : {M : Type 1} → statement M
 free-entry-spec =

@@ -25,10 +25,16 @@ put-gap-requires c κs =
 
 returns : tie.Need-returns
 returns c =
-    let p = c .before .before .before .before .before .before .before .before .before .before .before .before .before .before in
+    let c₂ = c .before .before in
+    let c₆ = c₂ .before .before .before .before in
+    let c₁₀ = c₆ .before .before .before .before in
+    let c₁₃ = c₁₀ .before .before .before in
+    let p = c₁₃ .before in
     let g = p .pre .1 .1 .1 .0 in
     let t = p .pre .1 .1 .1 .1 in
-    done-c _ (now (p .args .b)) (now (p .args .name)) (p .pre .0 .1) (p .args .number) (p .args .h) (p .args .o / 8) (p .args .o) (p .args .l) (p .args .u) (p .args .k) _ _ _ (g .0) (g .1 .1) (t .0) (t .1 .0 ∙ p .pre .1 .0 .0) (t .1 .1 .0) (t .1 .1 .1) (c .before .before .before .before .before .before .before .before .before .before .grow .ensures) (c .before .before .before .before .before .before .place .ensures) (c .before .before .put-gap .ensures)
+    done-c _ (now (p .args .b)) (now (p .args .name)) (p .pre .0 .1) (p .args .number) (p .args .h) (p .args .o / 8) (p .args .o) (p .args .l)
+    (p .args .u) (p .args .k) _ _ _ (g .0) (g .1 .1) (t .0) (t .1 .0 ∙ p .pre .1 .0 .0) (t .1 .1 .0) (t .1 .1 .1) (c₁₀ .grow .ensures)
+    (c₆ .place .ensures) (c₂ .put-gap .ensures)
 
 pub insert-c-spec : {M : Type 1} → statement M
 insert-c-spec =

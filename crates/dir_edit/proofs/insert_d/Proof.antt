@@ -20,9 +20,12 @@ place-requires c κs =
 
 returns : tie.Need-returns
 returns c =
-    let p = c .before .before .before .before .before .before .before .before .before .before in
+    let c₂ = c .before .before in
+    let c₆ = c₂ .before .before .before .before in
+    let c₉ = c₆ .before .before .before in
+    let p = c₉ .before in
     let t = p .pre .1 .1 .1 .1 in
-    done-d _ (now (p .args .b)) (now (p .args .name)) (p .pre .0 .1) (p .args .number) (p .args .h) (p .args .u / 8) (p .args .u) (p .args .k) _ _ (t .1 .0 ∙ p .pre .1 .0 .0) (p .pre .1 .1 .1 .0 .1) (t .1 .1) (c .before .before .before .before .before .before .grow .ensures) (c .before .before .place .ensures)
+    done-d _ (now (p .args .b)) (now (p .args .name)) (p .pre .0 .1) (p .args .number) (p .args .h) (p .args .u / 8) (p .args .u) (p .args .k) _ _ (t .1 .0 ∙ p .pre .1 .0 .0) (p .pre .1 .1 .1 .0 .1) (t .1 .1) (c₆ .grow .ensures) (c₂ .place .ensures)
 
 pub insert-d-spec : {M : Type 1} → statement M
 insert-d-spec =

@@ -10,10 +10,14 @@ use Rattle.dir_edit.proofs.insert_in.Tie as tie
 
 insert-ready-requires : tie.Need-insert-ready-requires
 insert-ready-requires c κs =
-    let p = c .before .before .before .before .before .before .before in
-    let k = clear _ _ _ (sym (c .before .before .refusal .ensures) ∙ c .before .if1 .left) in (
-      (p .pre, record { are-bytes = bytes-all (now (p .args .b)) (λ i. c .before .before .before .before .before .before .slice-known .given i .fits); ok = k .tested }),
-      (and-left (legal-name (p .args .e) (now (p .args .name))) (c .before .before .before .before .number-legal .result) (k .asked), (sym (c .before .before .before .before .number-legal .ensures) ∙ and-right (legal-name (p .args .e) (now (p .args .name))) (c .before .before .before .before .number-legal .result) (k .asked), (k .free, bytes-all (now (p .args .name)) (λ i. c .before .before .before .before .before .shared-slice-known .given i .fits)))),
+    let c₂ = c .before .before in
+    let c₄ = c₂ .before .before in
+    let c₅ = c₄ .before in
+    let c₆ = c₅ .before in
+    let p = c₆ .before in
+    let k = clear _ _ _ (sym (c₂ .refusal .ensures) ∙ c .before .if1 .left) in (
+      (p .pre, record { are-bytes = bytes-all (now (p .args .b)) (λ i. c₆ .slice-known .given i .fits); ok = k .tested }),
+      (and-left (legal-name (p .args .e) (now (p .args .name))) (c₄ .number-legal .result) (k .asked), (sym (c₄ .number-legal .ensures) ∙ and-right (legal-name (p .args .e) (now (p .args .name))) (c₄ .number-legal .result) (k .asked), (k .free, bytes-all (now (p .args .name)) (λ i. c₅ .shared-slice-known .given i .fits)))),
     )
 
 pub insert-in-spec : {M : Type 1} → statement M

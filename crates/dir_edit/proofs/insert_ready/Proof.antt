@@ -48,8 +48,10 @@ sub-end-2 c =
 
 seek-requires : tie.Need-seek-requires
 seek-requires c κs =
-    let p = c .before .before .before .before .before .before .before in
-    (p .pre .0, (end-read (now (p .args .b)) (c .before .before .before .be32 .result) (count-read (now (p .args .b)) (c .before .before .before .be32 .result) (c .before .before .before .be32 .ensures .0)), count-read (now (p .args .b)) (c .before .before .before .be32 .result) (c .before .before .before .be32 .ensures .0)))
+    let c₃ = c .before .before .before in
+    let c₆ = c₃ .before .before .before in
+    let p = c₆ .before in
+    (p .pre .0, (end-read (now (p .args .b)) (c₃ .be32 .result) (count-read (now (p .args .b)) (c₃ .be32 .result) (c₃ .be32 .ensures .0)), count-read (now (p .args .b)) (c₃ .be32 .result) (c₃ .be32 .ensures .0)))
 
 returns : tie.Need-returns
 returns c =
@@ -58,23 +60,44 @@ returns c =
 
 choose-requires : tie.Need-choose-requires
 choose-requires c κs =
-    let p = c .before .before .before .before .before .before .before .before .before .before in
-    (p .pre .0, ((end-read (now (p .args .b)) (c .before .before .before .before .before .before .be32 .result) (count-read (now (p .args .b)) (c .before .before .before .before .before .before .be32 .result) (c .before .before .before .before .before .before .be32 .ensures .0)), (count-read (now (p .args .b)) (c .before .before .before .before .before .before .be32 .result) (c .before .before .before .before .before .before .be32 .ensures .0), stale-read (now (p .args .b)) (c .before .before .before .before .be322 .result) (c .before .before .before .before .be322 .ensures .0))), name-lt _ (now (p .args .name)) (p .pre .1 .0)))
+    let c₄ = c .before .before .before .before in
+    let c₆ = c₄ .before .before in
+    let c₉ = c₆ .before .before .before in
+    let p = c₉ .before in
+    (p .pre .0, ((end-read (now (p .args .b)) (c₆ .be32 .result) (count-read (now (p .args .b)) (c₆ .be32 .result) (c₆ .be32 .ensures .0)), (count-read (now (p .args .b)) (c₆ .be32 .result) (c₆ .be32 .ensures .0), stale-read (now (p .args .b)) (c₄ .be322 .result) (c₄ .be322 .ensures .0))), name-lt _ (now (p .args .name)) (p .pre .1 .0)))
 
 best-table-requires : tie.Need-best-table-requires
 best-table-requires c κs =
-    let p = c .before .before .before .before .before .before .before .before .before .before .before .before .before .before .before in
-    (p .pre .0 .0, subst (λ (l : List ℕ). Tiled (p .args .e) l) (sym (c .before .before .before .before .choose .ensures .1 ∙ ap (λ (t : Bool). chosen (p .args .e) t (now (p .args .b)) (now (p .args .name)) (p .args .number)) (c .before .if2 .taken))) (insert-tiled _ (p .pre .0 .0) (now (p .args .b)) (now (p .args .name)) (p .args .number) (p .pre .0 .1) (p .pre .1 .1 .1 .1) (p .pre .1 .0) (p .pre .1 .1 .0) (p .pre .1 .1 .1 .0) (ap (λ (s : Sought). s .hit) (c .before .before .before .before .before .before .before .seek .ensures) ∙ c .before .before .before .before .before .before .if1 .left) (sym (c .before .before .before .before .choose .ensures .0) ∙ c .before .if2 .taken)))
+    let c₄ = c .before .before .before .before in
+    let c₆ = c₄ .before .before in
+    let c₇ = c₆ .before in
+    let c₁₄ = c₇ .before .before .before .before .before .before .before in
+    let p = c₁₄ .before in
+    (p .pre .0 .0, subst (λ (l : List ℕ). Tiled (p .args .e) l) (sym (c₄ .choose .ensures .1 ∙ ap (λ (t : Bool). chosen (p .args .e) t (now (p .args .b)) (now (p .args .name)) (p .args .number)) (c .before .if2 .taken))) (insert-tiled _ (p .pre .0 .0) (now (p .args .b)) (now (p .args .name)) (p .args .number) (p .pre .0 .1) (p .pre .1 .1 .1 .1) (p .pre .1 .0) (p .pre .1 .1 .0) (p .pre .1 .1 .1 .0) (ap (λ (s : Sought). s .hit) (c₇ .seek .ensures) ∙ c₆ .if1 .left) (sym (c₄ .choose .ensures .0) ∙ c .before .if2 .taken)))
 
 returns-2 : tie.Need-returns-2
 returns-2 c =
-    let p = c .before .before .before .before .before .before .before .before .before .before .before .before .before .before .before .before .before .before in
-    insert-made _ (p .pre .0 .0) (now (p .args .b)) (now (p .args .name)) (p .args .number) (p .pre .0 .1) (p .pre .1 .0) (p .pre .1 .1 .0) (p .pre .1 .1 .1 .0) (ap (λ (s : Sought). s .hit) (c .before .before .before .before .before .before .before .before .before .before .seek .ensures) ∙ c .before .before .before .before .before .before .before .before .before .if1 .left) (sym (c .before .before .before .before .if2 .taken) ∙ c .before .before .before .before .before .before .before .choose .ensures .0) _ (insert-changed _ (now (p .args .b)) (now (p .args .name)) (p .args .number) _ _ (c .before .before .before .before .before .before .before .choose .ensures .1 ∙ ap (λ (t : Bool). chosen (p .args .e) t (now (p .args .b)) (now (p .args .name)) (p .args .number)) (c .before .before .before .before .if2 .taken)) (c .before .before .best-table .ensures))
+    let c₂ = c .before .before in
+    let c₄ = c₂ .before .before in
+    let c₇ = c₄ .before .before .before in
+    let c₉ = c₇ .before .before in
+    let c₁₀ = c₉ .before in
+    let c₁₇ = c₁₀ .before .before .before .before .before .before .before in
+    let p = c₁₇ .before in
+    insert-made _ (p .pre .0 .0) (now (p .args .b)) (now (p .args .name)) (p .args .number) (p .pre .0 .1) (p .pre .1 .0) (p .pre .1 .1 .0)
+    (p .pre .1 .1 .1 .0) (ap (λ (s : Sought). s .hit) (c₁₀ .seek .ensures) ∙ c₉ .if1 .left) (sym (c₄ .if2 .taken) ∙ c₇ .choose .ensures .0) _
+    (insert-changed _ (now (p .args .b)) (now (p .args .name)) (p .args .number) _ _ (c₇ .choose .ensures .1 ∙ ap (λ (t : Bool). chosen (p .args .e) t (now (p .args .b)) (now (p .args .name)) (p .args .number)) (c₄ .if2 .taken)) (c₂ .best-table .ensures))
 
 returns-3 : tie.Need-returns-3
 returns-3 c =
-    let p = c .before .before .before .before .before .before .before .before .before .before .before .before .before .before in
-    insert-no-room _ (p .pre .0 .0) (now (p .args .b)) (now (p .args .name)) (p .args .number) (p .pre .0 .1) (p .pre .1 .0) (p .pre .1 .1 .0) (p .pre .1 .1 .1 .0) (ap (λ (s : Sought). s .hit) (c .before .before .before .before .before .before .seek .ensures) ∙ c .before .before .before .before .before .if1 .left) (sym (c .if2 .left) ∙ c .before .before .before .choose .ensures .0) _ (c .before .before .before .choose .ensures .1 ∙ ap (λ (t : Bool). chosen (p .args .e) t (now (p .args .b)) (now (p .args .name)) (p .args .number)) (c .if2 .left))
+    let c₃ = c .before .before .before in
+    let c₅ = c₃ .before .before in
+    let c₆ = c₅ .before in
+    let c₁₃ = c₆ .before .before .before .before .before .before .before in
+    let p = c₁₃ .before in
+    insert-no-room _ (p .pre .0 .0) (now (p .args .b)) (now (p .args .name)) (p .args .number) (p .pre .0 .1) (p .pre .1 .0) (p .pre .1 .1 .0)
+    (p .pre .1 .1 .1 .0) (ap (λ (s : Sought). s .hit) (c₆ .seek .ensures) ∙ c₅ .if1 .left) (sym (c .if2 .left) ∙ c₃ .choose .ensures .0) _
+    (c₃ .choose .ensures .1 ∙ ap (λ (t : Bool). chosen (p .args .e) t (now (p .args .b)) (now (p .args .name)) (p .args .number)) (c .if2 .left))
 
 pub insert-ready-spec : {M : Type 1} → statement M
 insert-ready-spec =

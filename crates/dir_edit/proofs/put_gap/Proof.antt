@@ -15,4 +15,9 @@ put-gap-spec =
     (λ c. search needs)
     (λ c κs. search needs)
     (λ c. search needs)
-    (λ c. gap-stores _ _ _ _ _ _ (c .before .before .before .before .before .before .before .before .before .before .before .before .if1 .left) (c .before .before .before .before .before .before .before .before .before .before .put16 .ensures) (c .before .before .before .before .before .before .put162 .ensures) (c .before .before .put163 .ensures)))
+    (λ c.
+    let c₂ = c .before .before in
+    let c₆ = c₂ .before .before .before .before in
+    let c₁₀ = c₆ .before .before .before .before in
+    let c₁₂ = c₁₀ .before .before in
+    gap-stores _ _ _ _ _ _ (c₁₂ .if1 .left) (c₁₀ .put16 .ensures) (c₆ .put162 .ensures) (c₂ .put163 .ensures)))

@@ -23,5 +23,19 @@ refusal-spec =
     (λ c. sym (by-request _ 0 _ _ (sym (c .before .before .before .code .ensures) ∙ c .before .before .if1 .left) (not-left _ _ (sym (c .before .legal .ensures) ∙ not-true _ (c .if2 .taken)))))
     returns-3
     (λ c κs. search needs)
-    (λ c. sym (by-fixed _ 0 _ _ (sym (c .before .before .before .before .before .before .code .ensures) ∙ c .before .before .before .before .before .if1 .left) (and-both _ _ (sym (c .before .before .before .before .legal .ensures) ∙ not-false _ (c .before .before .before .if2 .left)) (not-false _ (c .before .before .if3 .left))) (sym (c .before .fixed .ensures) ∙ c .if4 .taken)))
-    (λ c. sym (by-rest _ 0 _ _ (sym (c .before .before .before .before .before .before .code .ensures) ∙ c .before .before .before .before .before .if1 .left) (and-both _ _ (sym (c .before .before .before .before .legal .ensures) ∙ not-false _ (c .before .before .before .if2 .left)) (not-false _ (c .before .before .if3 .left))) (sym (c .before .fixed .ensures) ∙ c .if4 .left))))
+    (λ c.
+    let c₂ = c .before .before in
+    let c₃ = c₂ .before in
+    let c₄ = c₃ .before in
+    let c₅ = c₄ .before in
+    let c₆ = c₅ .before in
+    sym
+    (by-fixed _ 0 _ _ (sym (c₆ .code .ensures) ∙ c₅ .if1 .left) (and-both _ _ (sym (c₄ .legal .ensures) ∙ not-false _ (c₃ .if2 .left)) (not-false _ (c₂ .if3 .left))) (sym (c .before .fixed .ensures) ∙ c .if4 .taken)))
+    (λ c.
+    let c₂ = c .before .before in
+    let c₃ = c₂ .before in
+    let c₄ = c₃ .before in
+    let c₅ = c₄ .before in
+    let c₆ = c₅ .before in
+    sym
+    (by-rest _ 0 _ _ (sym (c₆ .code .ensures) ∙ c₅ .if1 .left) (and-both _ _ (sym (c₄ .legal .ensures) ∙ not-false _ (c₃ .if2 .left)) (not-false _ (c₂ .if3 .left))) (sym (c .before .fixed .ensures) ∙ c .if4 .left))))

@@ -36,13 +36,20 @@ seek-requires c κs =
 
 remove-found-requires : tie.Need-remove-found-requires
 remove-found-requires c κs =
-    let p = c .before .before .before .before .before .before .before .before in
-    (p .pre .0, (end-read (now (p .args .b)) (c .before .before .before .before .be32 .result) (count-read (now (p .args .b)) (c .before .before .before .before .be32 .result) (c .before .before .before .before .be32 .ensures .0)), ((ap (λ (s : Sought). s .hit) (c .before .before .seek .ensures) ∙ c .before .if1 .taken, (ap (λ (s : Sought). s .place) (c .before .before .seek .ensures), ap (λ (s : Sought). s .at) (c .before .before .seek .ensures))), p .pre .1 .1)))
+    let c₂ = c .before .before in
+    let c₄ = c₂ .before .before in
+    let c₇ = c₄ .before .before .before in
+    let p = c₇ .before in
+    (p .pre .0, (end-read (now (p .args .b)) (c₄ .be32 .result) (count-read (now (p .args .b)) (c₄ .be32 .result) (c₄ .be32 .ensures .0)), ((ap (λ (s : Sought). s .hit) (c₂ .seek .ensures) ∙ c .before .if1 .taken, (ap (λ (s : Sought). s .place) (c₂ .seek .ensures), ap (λ (s : Sought). s .at) (c₂ .seek .ensures))), p .pre .1 .1)))
 
 returns : tie.Need-returns
 returns c =
-    let p = c .before .before .before .before .before .before .before .before .before .before .before in
-    removed-done _ (p .pre .0 .0) (now (p .args .b)) (now (p .args .name)) (p .pre .0 .1) (p .pre .1 .0) (p .pre .1 .1) _ (ap (λ (s : Sought). s .hit) (c .before .before .before .before .before .seek .ensures) ∙ c .before .before .before .before .if1 .taken) (c .before .before .remove-found .ensures)
+    let c₂ = c .before .before in
+    let c₄ = c₂ .before .before in
+    let c₅ = c₄ .before in
+    let c₁₀ = c₅ .before .before .before .before .before in
+    let p = c₁₀ .before in
+    removed-done _ (p .pre .0 .0) (now (p .args .b)) (now (p .args .name)) (p .pre .0 .1) (p .pre .1 .0) (p .pre .1 .1) _ (ap (λ (s : Sought). s .hit) (c₅ .seek .ensures) ∙ c₄ .if1 .taken) (c₂ .remove-found .ensures)
 
 returns-2 : tie.Need-returns-2
 returns-2 c =

@@ -49,8 +49,13 @@ put-slot-requires-2 c κs =
 
 returns : tie.Need-returns
 returns c =
-    let p = c .before .before .before .before .before .before .before .before .before .before .before .before .before in
-    grow-index _ (now (p .args .b)) (p .pre .0 .1) (p .args .end) (p .args .count) (p .args .i) (p .args .h) (p .args .a) _ _ _ (p .pre .1 .0 .0) (p .pre .1 .0 .1 .0) (p .pre .1 .0 .1 .1) (p .pre .1 .1) (c .before .before .before .before .before .before .before .before .before .before .move-down .ensures) (c .before .before .before .before .before .before .put-slot .ensures) (c .before .before .put-slot2 .ensures)
+    let c₂ = c .before .before in
+    let c₆ = c₂ .before .before .before .before in
+    let c₁₀ = c₆ .before .before .before .before in
+    let c₁₂ = c₁₀ .before .before in
+    let p = c₁₂ .before in
+    grow-index _ (now (p .args .b)) (p .pre .0 .1) (p .args .end) (p .args .count) (p .args .i) (p .args .h) (p .args .a) _ _ _ (p .pre .1 .0 .0)
+    (p .pre .1 .0 .1 .0) (p .pre .1 .0 .1 .1) (p .pre .1 .1) (c₁₀ .move-down .ensures) (c₆ .put-slot .ensures) (c₂ .put-slot2 .ensures)
 
 pub grow-spec : {M : Type 1} → statement M
 grow-spec =

@@ -54,8 +54,12 @@ put-slot-requires c κs =
 
 returns : tie.Need-returns
 returns c =
-    let p = c .before .before .before .before .before .before .before .before .before .before in
-    reuse-down _ (now (p .args .b)) (p .pre .0 .1) (p .args .end) (p .args .p) (p .args .j) (p .args .h) (p .args .a) _ _ (p .pre .1 .0) (p .pre .1 .1 .0) (p .pre .1 .1 .1) (c .before .before .before .before .before .before .before .before .if1 .taken) (c .before .before .before .before .before .before .move-down .ensures) (c .before .before .put-slot .ensures)
+    let c₂ = c .before .before in
+    let c₆ = c₂ .before .before .before .before in
+    let c₈ = c₆ .before .before in
+    let c₉ = c₈ .before in
+    let p = c₉ .before in
+    reuse-down _ (now (p .args .b)) (p .pre .0 .1) (p .args .end) (p .args .p) (p .args .j) (p .args .h) (p .args .a) _ _ (p .pre .1 .0) (p .pre .1 .1 .0) (p .pre .1 .1 .1) (c₈ .if1 .taken) (c₆ .move-down .ensures) (c₂ .put-slot .ensures)
 
 mul-move-up : tie.Need-mul-move-up
 mul-move-up c =
@@ -109,8 +113,12 @@ put-slot-requires-2 c κs =
 
 returns-2 : tie.Need-returns-2
 returns-2 c =
-    let p = c .before .before .before .before .before .before .before .before .before .before in
-    reuse-up _ (now (p .args .b)) (p .pre .0 .1) (p .args .end) (p .args .p) (p .args .j) (p .args .h) (p .args .a) _ _ (p .pre .1 .0) (p .pre .1 .1 .0) (p .pre .1 .1 .1) (c .before .before .before .before .before .before .before .before .if1 .left) (c .before .before .before .before .before .before .move-up .ensures) (c .before .before .put-slot2 .ensures)
+    let c₂ = c .before .before in
+    let c₆ = c₂ .before .before .before .before in
+    let c₈ = c₆ .before .before in
+    let c₉ = c₈ .before in
+    let p = c₉ .before in
+    reuse-up _ (now (p .args .b)) (p .pre .0 .1) (p .args .end) (p .args .p) (p .args .j) (p .args .h) (p .args .a) _ _ (p .pre .1 .0) (p .pre .1 .1 .0) (p .pre .1 .1 .1) (c₈ .if1 .left) (c₆ .move-up .ensures) (c₂ .put-slot2 .ensures)
 
 pub move-one-spec : {M : Type 1} → statement M
 move-one-spec =

@@ -64,8 +64,17 @@ put-slot-requires-2 c κs =
 
 returns : tie.Need-returns
 returns c =
-    let p = c .before .before .before .before .before .before .before .before .before .before .before .before .before .before .before .before .before .before .before .before .before in
-    squeezed _ (p .pre .0 .0) (now (p .args .b)) (p .pre .0 .1) (p .args .end) (p .args .count) (p .args .stale) (p .args .p) (p .args .h) (p .args .a) (p .pre .1 .0 .0) (p .pre .1 .0 .1 .0) (p .pre .1 .0 .1 .1 .0) (p .pre .1 .0 .1 .1 .1) (p .pre .1 .1) (c .before .before .before .before .before .before .before .before .before .before .before .before .before .before .before .before .before .before .pack .result) (c .before .before .before .before .before .before .before .before .before .before .before .before .before .before .pack2 .result) _ _ _ _ _ (c .before .before .before .before .before .before .before .before .before .before .before .before .before .before .before .before .before .before .pack .ensures .0) (c .before .before .before .before .before .before .before .before .before .before .before .before .before .before .before .before .before .before .pack .ensures .1) (c .before .before .before .before .before .before .before .before .before .before .before .before .before .before .pack2 .ensures .0) (c .before .before .before .before .before .before .before .before .before .before .before .before .before .before .pack2 .ensures .1) (c .before .before .before .before .before .before .before .before .before .before .move-down .ensures) (c .before .before .before .before .before .before .put-slot .ensures) (c .before .before .put-slot2 .ensures)
+    let c₂ = c .before .before in
+    let c₆ = c₂ .before .before .before .before in
+    let c₁₀ = c₆ .before .before .before .before in
+    let c₁₄ = c₁₀ .before .before .before .before in
+    let c₁₈ = c₁₄ .before .before .before .before in
+    let c₂₀ = c₁₈ .before .before in
+    let p = c₂₀ .before in
+    squeezed _ (p .pre .0 .0) (now (p .args .b)) (p .pre .0 .1) (p .args .end) (p .args .count) (p .args .stale) (p .args .p) (p .args .h) (p .args .a)
+    (p .pre .1 .0 .0) (p .pre .1 .0 .1 .0) (p .pre .1 .0 .1 .1 .0) (p .pre .1 .0 .1 .1 .1) (p .pre .1 .1) (c₁₈ .pack .result) (c₁₄ .pack2 .result) _ _ _ _
+    _ (c₁₈ .pack .ensures .0) (c₁₈ .pack .ensures .1) (c₁₄ .pack2 .ensures .0) (c₁₄ .pack2 .ensures .1) (c₁₀ .move-down .ensures) (c₆ .put-slot .ensures)
+    (c₂ .put-slot2 .ensures)
 
 pub squeeze-spec : {M : Type 1} → statement M
 squeeze-spec =

@@ -34,5 +34,12 @@ once-spec =
     (λ c. search (needs, once-stop))
     (λ c. search needs)
     (λ c. search needs)
-    (λ c. once-on _ _ _ _ _ _ _ _ _ _ (c .before .before .before .before .before .before .loop .inv) (c .before .before .before .before .before .loop-test .taken) (c .before .before .before .before .namelen .ensures .0) (c .before .before .before .before .before .before .before .rest .ensures .0) (c .before .before .find .ensures .0) (c .if1 .left))
+    (λ c.
+    let c₂ = c .before .before in
+    let c₄ = c₂ .before .before in
+    let c₅ = c₄ .before in
+    let c₆ = c₅ .before in
+    let c₇ = c₆ .before in
+    once-on _ _ _ _ _ _ _ _ _ _ (c₆ .loop .inv) (c₅ .loop-test .taken) (c₄ .namelen .ensures .0) (c₇ .rest .ensures .0) (c₂ .find .ensures .0)
+    (c .if1 .left))
     (λ c. search (needs, once-done)))

@@ -29,5 +29,11 @@ rank-of-spec =
     (λ c. search needs)
     (λ c. search needs)
     (λ c. search needs)
-    (λ c. ranks-on _ _ _ _ _ _ _ _ _ _ _ (c .before .before .before .before .loop .inv) (c .before .before .before .loop-test .taken) (c .before .before .namelen .ensures .0) (c .before .before .before .before .before .rest .ensures .0) (c .before .be16 .ensures .0) (c .if1 .left))
+    (λ c.
+    let c₂ = c .before .before in
+    let c₃ = c₂ .before in
+    let c₄ = c₃ .before in
+    let c₅ = c₄ .before in
+    ranks-on _ _ _ _ _ _ _ _ _ _ _ (c₄ .loop .inv) (c₃ .loop-test .taken) (c₂ .namelen .ensures .0) (c₅ .rest .ensures .0) (c .before .be16 .ensures .0)
+    (c .if1 .left))
     (λ c. ranks-done _ _ _ _ _ _ _ _ (c .before .loop .inv) (c .loop-test .left)))

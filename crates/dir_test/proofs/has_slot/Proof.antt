@@ -17,7 +17,11 @@ returns-3 c =
 
 returns-4 : tie.Need-returns-4
 returns-4 c =
-    hint-last _ _ _ _ _ _ _ (c .before .before .before .before .before .wide16 .ensures) (c .before .before .before .before .if1 .left) (c .before .before .before .if2 .left) _ (c .before .before .slot-addr .ensures .0) (c .before .if3 .left) _ (c .slot-hash .ensures .0)
+    let c₂ = c .before .before in
+    let c₃ = c₂ .before in
+    let c₄ = c₃ .before in
+    let c₅ = c₄ .before in
+    hint-last _ _ _ _ _ _ _ (c₅ .wide16 .ensures) (c₄ .if1 .left) (c₃ .if2 .left) _ (c₂ .slot-addr .ensures .0) (c .before .if3 .left) _ (c .slot-hash .ensures .0)
 
 pub has-slot-spec : {M : Type 1} → statement M
 has-slot-spec =

@@ -24,7 +24,11 @@ clash-requires c κs =
 
 returns : tie.Need-returns Inv-loop μ-loop
 returns c =
-    once-hit _ _ _ _ _ (c .before .before .before .before .before .loop .inv) (c .before .before .before .before .loop-test .taken) _ (c .before .before .before .slot-addr .ensures .0) (c .before .before .if1 .taken) _ (c .before .clash .ensures) (c .if2 .taken)
+    let c₂ = c .before .before in
+    let c₃ = c₂ .before in
+    let c₄ = c₃ .before in
+    let c₅ = c₄ .before in
+    once-hit _ _ _ _ _ (c₅ .loop .inv) (c₄ .loop-test .taken) _ (c₃ .slot-addr .ensures .0) (c₂ .if1 .taken) _ (c .before .clash .ensures) (c .if2 .taken)
 
 loop-again : tie.Need-loop-again Inv-loop μ-loop
 loop-again c =

@@ -23,9 +23,13 @@ returns c =
 
 loop-again : tie.Need-loop-again Inv-loop μ-loop
 loop-again c =
+    let c₂ = c .before .before in
+    let c₃ = c₂ .before in
+    let c₄ = c₃ .before in
+    let c₅ = c₄ .before in
     ⊎-elim
-    (λ w. rw (w .1) (ordering-stale _ _ _ _ _ _ _ (c .before .before .before .before .before .loop .inv) (c .before .before .before .before .loop-test .taken) _ (c .before .before .before .slot-hash .ensures .0) (c .before .before .if1 .left) _ (c .before .slot-addr .ensures .0) (w .0 .taken)))
-    (λ w. rw (w .1) (ordering-live _ _ _ _ _ _ _ (c .before .before .before .before .before .loop .inv) (c .before .before .before .before .loop-test .taken) _ (c .before .before .before .slot-hash .ensures .0) (c .before .before .if1 .left) _ (c .before .slot-addr .ensures .0) (w .0 .left)))
+    (λ w. rw (w .1) (ordering-stale _ _ _ _ _ _ _ (c₅ .loop .inv) (c₄ .loop-test .taken) _ (c₃ .slot-hash .ensures .0) (c₂ .if1 .left) _ (c .before .slot-addr .ensures .0) (w .0 .taken)))
+    (λ w. rw (w .1) (ordering-live _ _ _ _ _ _ _ (c₅ .loop .inv) (c₄ .loop-test .taken) _ (c₃ .slot-hash .ensures .0) (c₂ .if1 .left) _ (c .before .slot-addr .ensures .0) (w .0 .left)))
     (c .if2 .came)
 
 returns-2 : tie.Need-returns-2 Inv-loop μ-loop

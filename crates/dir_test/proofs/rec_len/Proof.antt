@@ -14,7 +14,11 @@ returns-2 c =
 
 returns-3 : tie.Need-returns-3
 returns-3 c =
-    rec-entry _ _ _ _ (c .before .before .before .before .before .before .pre .1) _ _ _ (c .before .before .before .before .is-gap .ensures) (c .before .before .before .if1 .left) (c .before .before .if2 .left) (c .before .be8 .ensures .0) (c .entry-size2 .ensures .0) (c .entry-size2 .ensures .1 .1)
+    let c₂ = c .before .before in
+    let c₃ = c₂ .before in
+    let c₄ = c₃ .before in
+    let c₆ = c₄ .before .before in
+    rec-entry _ _ _ _ (c₆ .pre .1) _ _ _ (c₄ .is-gap .ensures) (c₃ .if1 .left) (c₂ .if2 .left) (c .before .be8 .ensures .0) (c .entry-size2 .ensures .0) (c .entry-size2 .ensures .1 .1)
 
 pub rec-len-spec : {M : Type 1} → statement M
 rec-len-spec =

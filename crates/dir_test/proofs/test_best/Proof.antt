@@ -14,11 +14,17 @@ once-requires c κs =
 
 returns-2 : tie.Need-returns-2
 returns-2 c =
-    end-10 _ (c .before .before .before .before .before .pre .0) _ _ _ (c .before .before .before .before .before .pre .1 .0) _ (c .before .before .before .before .before .pre .1 .1) _ (c .before .before .before .best-fits .ensures) (not-false _ (c .before .before .if1 .left)) _ (c .before .once .ensures) (not-true _ (c .if2 .taken))
+    let c₂ = c .before .before in
+    let c₃ = c₂ .before in
+    let c₅ = c₃ .before .before in
+    end-10 _ (c₅ .pre .0) _ _ _ (c₅ .pre .1 .0) _ (c₅ .pre .1 .1) _ (c₃ .best-fits .ensures) (not-false _ (c₂ .if1 .left)) _ (c .before .once .ensures) (not-true _ (c .if2 .taken))
 
 returns-3 : tie.Need-returns-3
 returns-3 c =
-    end-0 _ (c .before .before .before .before .before .pre .0) _ _ _ (c .before .before .before .before .before .pre .1 .0) _ (c .before .before .before .before .before .pre .1 .1) _ (c .before .before .before .best-fits .ensures) (not-false _ (c .before .before .if1 .left)) _ (c .before .once .ensures) (not-false _ (c .if2 .left))
+    let c₂ = c .before .before in
+    let c₃ = c₂ .before in
+    let c₅ = c₃ .before .before in
+    end-0 _ (c₅ .pre .0) _ _ _ (c₅ .pre .1 .0) _ (c₅ .pre .1 .1) _ (c₃ .best-fits .ensures) (not-false _ (c₂ .if1 .left)) _ (c .before .once .ensures) (not-false _ (c .if2 .left))
 
 pub test-best-spec : {M : Type 1} → statement M
 test-best-spec =

@@ -23,7 +23,10 @@ whole-len-requires c κs =
 
 returns : tie.Need-returns Inv-loop μ-loop
 returns c =
-    tiling-broken _ _ _ _ (c .before .before .before .before .before .pre .1 .0) (c .before .before .before .before .before .pre .1 .1) _ _ _ (c .before .before .before .loop .inv) (c .before .before .loop-test .taken) _ (c .before .whole-len .ensures) (c .if1 .taken)
+    let c₂ = c .before .before in
+    let c₃ = c₂ .before in
+    let c₅ = c₃ .before .before in
+    tiling-broken _ _ _ _ (c₅ .pre .1 .0) (c₅ .pre .1 .1) _ _ _ (c₃ .loop .inv) (c₂ .loop-test .taken) _ (c .before .whole-len .ensures) (c .if1 .taken)
 
 is-gap-requires : tie.Need-is-gap-requires Inv-loop μ-loop
 is-gap-requires c κs =
@@ -31,7 +34,13 @@ is-gap-requires c κs =
 
 returns-2 : tie.Need-returns-2 Inv-loop μ-loop
 returns-2 c =
-    tiling-touch _ _ _ _ (c .before .before .before .before .before .before .before .before .pre .1 .0) (c .before .before .before .before .before .before .before .before .pre .1 .1) _ _ _ (c .before .before .before .before .before .before .loop .inv) (c .before .before .before .before .before .loop-test .taken) _ (c .before .before .before .before .whole-len .ensures) (c .before .before .before .if1 .left) _ (c .before .before .is-gap .ensures) (c .before .if2 .taken) (c .if3 .taken)
+    let c₂ = c .before .before in
+    let c₃ = c₂ .before in
+    let c₄ = c₃ .before in
+    let c₅ = c₄ .before in
+    let c₆ = c₅ .before in
+    let c₈ = c₆ .before .before in
+    tiling-touch _ _ _ _ (c₈ .pre .1 .0) (c₈ .pre .1 .1) _ _ _ (c₆ .loop .inv) (c₅ .loop-test .taken) _ (c₄ .whole-len .ensures) (c₃ .if1 .left) _ (c₂ .is-gap .ensures) (c .before .if2 .taken) (c .if3 .taken)
 
 add-n : tie.Need-add-n Inv-loop μ-loop
 add-n c =
@@ -47,9 +56,14 @@ loop-less c =
 
 loop-again : tie.Need-loop-again Inv-loop μ-loop
 loop-again c =
+    let c₂ = c .before .before in
+    let c₃ = c₂ .before in
+    let c₄ = c₃ .before in
+    let c₅ = c₄ .before in
+    let c₇ = c₅ .before .before in
     ⊎-elim
-    (λ w. rw (w .2, w .3) (tiling-gap _ _ _ _ (c .before .before .before .before .before .before .before .pre .1 .0) (c .before .before .before .before .before .before .before .pre .1 .1) _ _ _ (c .before .before .before .before .before .loop .inv) (c .before .before .before .before .loop-test .taken) _ (c .before .before .before .whole-len .ensures) (c .before .before .if1 .left) _ (c .before .is-gap .ensures) (w .0 .taken) (w .1 .left)))
-    (λ w. rw (w .1, w .2) (tiling-entry _ _ _ _ (c .before .before .before .before .before .before .before .pre .1 .0) (c .before .before .before .before .before .before .before .pre .1 .1) _ _ _ (c .before .before .before .before .before .loop .inv) (c .before .before .before .before .loop-test .taken) _ (c .before .before .before .whole-len .ensures) (c .before .before .if1 .left) _ (c .before .is-gap .ensures) (w .0 .left)))
+    (λ w. rw (w .2, w .3) (tiling-gap _ _ _ _ (c₇ .pre .1 .0) (c₇ .pre .1 .1) _ _ _ (c₅ .loop .inv) (c₄ .loop-test .taken) _ (c₃ .whole-len .ensures) (c₂ .if1 .left) _ (c .before .is-gap .ensures) (w .0 .taken) (w .1 .left)))
+    (λ w. rw (w .1, w .2) (tiling-entry _ _ _ _ (c₇ .pre .1 .0) (c₇ .pre .1 .1) _ _ _ (c₅ .loop .inv) (c₄ .loop-test .taken) _ (c₃ .whole-len .ensures) (c₂ .if1 .left) _ (c .before .is-gap .ensures) (w .0 .left)))
     (c .if2 .came)
 
 returns-3 : tie.Need-returns-3 Inv-loop μ-loop

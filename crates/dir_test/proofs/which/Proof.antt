@@ -18,15 +18,34 @@ returns-3 c =
 
 returns-4 : tie.Need-returns-4
 returns-4 c =
-    which-third _ _ _ _ _ _ (not-false _ (c .before .before .before .before .before .before .if1 .left)) _ (c .before .before .before .before .before .named .ensures) (c .before .before .before .before .if2 .left) _ (c .before .before .before .named2 .ensures) (c .before .before .if3 .left) _ (c .before .named3 .ensures) (c .if4 .taken)
+    let c₂ = c .before .before in
+    let c₃ = c₂ .before in
+    let c₄ = c₃ .before in
+    let c₅ = c₄ .before in
+    let c₆ = c₅ .before in
+    which-third _ _ _ _ _ _ (not-false _ (c₆ .if1 .left)) _ (c₅ .named .ensures) (c₄ .if2 .left) _ (c₃ .named2 .ensures) (c₂ .if3 .left) _ (c .before .named3 .ensures) (c .if4 .taken)
 
 returns-5 : tie.Need-returns-5
 returns-5 c =
-    which-longer _ _ _ _ _ _ (not-false _ (c .before .before .before .before .before .before .before .before .if1 .left)) _ (c .before .before .before .before .before .before .before .named .ensures) (c .before .before .before .before .before .before .if2 .left) _ (c .before .before .before .before .before .named2 .ensures) (c .before .before .before .before .if3 .left) _ (c .before .before .before .named3 .ensures) (c .before .before .if4 .left) (c .if5 .taken)
+    let c₂ = c .before .before in
+    let c₃ = c₂ .before in
+    let c₄ = c₃ .before in
+    let c₅ = c₄ .before in
+    let c₆ = c₅ .before in
+    let c₇ = c₆ .before in
+    let c₈ = c₇ .before in
+    which-longer _ _ _ _ _ _ (not-false _ (c₈ .if1 .left)) _ (c₇ .named .ensures) (c₆ .if2 .left) _ (c₅ .named2 .ensures) (c₄ .if3 .left) _ (c₃ .named3 .ensures) (c₂ .if4 .left) (c .if5 .taken)
 
 returns-6 : tie.Need-returns-6
 returns-6 c =
-    which-other _ _ _ _ _ _ (not-false _ (c .before .before .before .before .before .before .before .before .if1 .left)) _ (c .before .before .before .before .before .before .before .named .ensures) (c .before .before .before .before .before .before .if2 .left) _ (c .before .before .before .before .before .named2 .ensures) (c .before .before .before .before .if3 .left) _ (c .before .before .before .named3 .ensures) (c .before .before .if4 .left) (c .if5 .left)
+    let c₂ = c .before .before in
+    let c₃ = c₂ .before in
+    let c₄ = c₃ .before in
+    let c₅ = c₄ .before in
+    let c₆ = c₅ .before in
+    let c₇ = c₆ .before in
+    let c₈ = c₇ .before in
+    which-other _ _ _ _ _ _ (not-false _ (c₈ .if1 .left)) _ (c₇ .named .ensures) (c₆ .if2 .left) _ (c₅ .named2 .ensures) (c₄ .if3 .left) _ (c₃ .named3 .ensures) (c₂ .if4 .left) (c .if5 .left)
 
 pub which-spec : {M : Type 1} → statement M
 which-spec =
