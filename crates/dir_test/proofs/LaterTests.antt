@@ -13,7 +13,7 @@ use borrow.Author.Tests.{eqb-true, le-leb, lt-leb, leb-true, eq-eqb, ne-eqb, not
 use Rattle.be.specs.Lists.{every, tally, same}
 use Rattle.be.specs.Bytes.{part, field}
 use Rattle.edition.specs.declared.Edition.{Edition}
-use Rattle.edition.specs.Edition.{Sane, entry-size, largest-block}
+use Rattle.edition.specs.Edition.{Sane, entry-size, largest-block, record-places}
 use Rattle.name.specs.Name.{dot, legal-name}
 use Rattle.dir_rules.specs.Record.{Rec, rec, whole, is-gap, is-entry, entries, gaps, name}
 use Rattle.dir_rules.specs.Block.{Slot, slots-in, is-live, is-stale}
@@ -233,7 +233,7 @@ module _ (e : Edition) (sane : Sane e) (b : List ℕ) (t n : ℕ) where
         (λ w. rw (h, at-dot, w))
 
     -- INDEX
-    module _ (m live : ℕ) (M : List ℕ) (Ms : length M ≡ 2048) (ml : m ≤ n) (lv : live ≡ length (entries RS)) (fit : Bool) (fs : fit ≡ (in-order 0 0 m SS && eqb (n - m) live)) where
+    module _ (m live : ℕ) (M : List ℕ) (Ms : length M ≡ record-places) (ml : m ≤ n) (lv : live ≡ length (entries RS)) (fit : Bool) (fs : fit ≡ (in-order 0 0 m SS && eqb (n - m) live)) where
       reachable : every (λ r. ltb (addr-of r) (length M)) (entries RS) ≡ true
       reachable = go (entries RS) all-placed
         where

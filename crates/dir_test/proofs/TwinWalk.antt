@@ -2,15 +2,17 @@
 -- Assumes nothing.
 use Prim.Native.Nat.{ℕ, _+_, _-_, _*_, _≤_, _<_}
 use native.Mathlib.Omega.{arith}
-use mathlib.Core.Bool.{Bool, true, false}
+use mathlib.Core.Bool.{Bool, true, false, not, _&&_}
 use mathlib.Core.Path.{_≡_, refl, sym, _∙_, ap, subst}
-use mathlib.Core.List.{List}
+use mathlib.Core.List.{List, [], _∷_}
 use lib.Dec.{eqb}
 use lib.ListN.{length, getD}
 use borrow.Author.Tests.{eq-eqb, ne-eqb}
+use Rattle.be.proofs.Bools.{not-right}
 use Rattle.edition.specs.declared.Edition.{Edition}
 use Rattle.name.specs.Name.{same-name}
-use Rattle.dir_test.specs.Passes.{name-of, clash-from, once-in, slots-from, hash-at, addr-at, Reach}
+use Rattle.dir_rules.specs.Block.{Slot}
+use Rattle.dir_test.specs.Passes.{name-of, clash-from, runs-on, once-in, slots-from, hash-at, addr-at, Reach}
 use Rattle.dir_test.proofs.SlotWalk.{slots-next, slots-end}
 
 -- a run so far
@@ -67,6 +69,34 @@ module _ (e : Edition) (b : List ℕ) (t n i h c : ℕ) where
             so-far = k .so-far ∙ rw (slots-next b t n j l, eq, live, names, z);
           }
 
+-- the slot behind slot i
+module _ (b : List ℕ) (t n i : ℕ) where
+  pub runs-last : n ≤ i + 1 → false ≡ runs-on (hash-at b t i) (slots-from b t n (i + 1))
+  unfolding runs-on
+  runs-last l = sym (rw (slots-end b t n (i + 1) l))
+
+  pub runs-next : (x y : ℕ) → i + 1 < n → x ≡ hash-at b t (i + 1) → y ≡ hash-at b t i → eqb x y ≡ runs-on (hash-at b t i) (slots-from b t n (i + 1))
+  unfolding runs-on
+  runs-next x y l xs ys = rw (xs, ys, slots-next b t n (i + 1) l) refl
+
+-- a run that ends at once has no twin
+apart : (e : Edition) (b : List ℕ) (h c : ℕ) (ss : List Slot) → runs-on h ss ≡ false → clash-from e b h c ss ≡ false
+unfolding runs-on clash-from
+apart e b h c [] z = refl
+apart e b h c (s ∷ ss) z = rw z
+
+and-false : (x : Bool) → (x && false) ≡ false
+and-false x = not-right x false refl
+
+-- a live slot whose later ones were searched, and a stale one
+module _ (e : Edition) (b : List ℕ) (t n i a : ℕ) (ea : a ≡ addr-at b t i) where
+  pub twin-stale : a ≡ 0 → false ≡ (not (eqb (addr-at b t i) 0) && clash-from e b (hash-at b t i) (addr-at b t i) (slots-from b t n (i + 1)))
+  twin-stale z = sym (rw (eq-eqb (addr-at b t i) 0 (sym ea ∙ z)))
+
+  pub twin-live : (x : Bool) → (a ≡ 0 → ⊥) → x ≡ clash-from e b (hash-at b t i) (addr-at b t i) (slots-from b t n (i + 1))
+      → x ≡ (not (eqb (addr-at b t i) 0) && clash-from e b (hash-at b t i) (addr-at b t i) (slots-from b t n (i + 1)))
+  twin-live x u xs = xs ∙ sym (rw (ne-eqb (addr-at b t i) 0 (λ (z : addr-at b t i ≡ 0). u (ea ∙ z))))
+
 -- the slots so far
 pub record Oncing (e : Edition) (b : List ℕ) (t n i : ℕ) : Type 0 where
   pub within : i ≤ n
@@ -81,22 +111,24 @@ module _ (e : Edition) (b : List ℕ) (t n : ℕ) where
     unfolding once-in
     once-end l = sym (k .so-far ∙ rw (slots-end b t n i l))
 
-    module _ (l : i < n) (a : ℕ) (ea : a ≡ addr-at b t i) where
-      pub once-stale : a ≡ 0 → Oncing e b t n (i + 1)
+    module _ (l : i < n) where
+      -- no later slot has this one's hash
+      pub once-apart : (r : Bool) → r ≡ runs-on (hash-at b t i) (slots-from b t n (i + 1)) → r ≡ false → Oncing e b t n (i + 1)
       unfolding once-in
-      once-stale z = record { within = omega arith; so-far = k .so-far ∙ rw (slots-next b t n i l, eq-eqb (addr-at b t i) 0 (sym ea ∙ z)) }
+      once-apart r h z =
+          record {
+            within = omega arith;
+            so-far = k .so-far ∙ rw (slots-next b t n i l, apart e b (hash-at b t i) (addr-at b t i) (slots-from b t n (i + 1)) (sym h ∙ z), and-false (not (eqb (addr-at b t i) 0)));
+          }
 
-      module _ (u : a ≡ 0 → ⊥) (x : Bool) (xs : x ≡ clash-from e b (hash-at b t i) (addr-at b t i) (slots-from b t n (i + 1))) where
-        here-live : eqb (addr-at b t i) 0 ≡ false
-        here-live = ne-eqb (addr-at b t i) 0 (λ (z : addr-at b t i ≡ 0). u (ea ∙ z))
-
+      module _ (x : Bool) (xs : x ≡ (not (eqb (addr-at b t i) 0) && clash-from e b (hash-at b t i) (addr-at b t i) (slots-from b t n (i + 1)))) where
         pub once-hit : x ≡ true → false ≡ once-in e b (slots-from b t n 0)
         unfolding once-in
-        once-hit z = sym (k .so-far ∙ rw (slots-next b t n i l, here-live, sym xs ∙ z))
+        once-hit z = sym (k .so-far ∙ rw (slots-next b t n i l, sym xs ∙ z))
 
         pub once-on : x ≡ false → Oncing e b t n (i + 1)
         unfolding once-in
-        once-on z = record { within = omega arith; so-far = k .so-far ∙ rw (slots-next b t n i l, here-live, sym xs ∙ z) }
+        once-on z = record { within = omega arith; so-far = k .so-far ∙ rw (slots-next b t n i l, sym xs ∙ z) }
 
 -- the names that slots address are within the block
 pub reach-at : (b : List ℕ) (t n : ℕ) → Reach b t n → (i a : ℕ) → i < n → a ≡ addr-at b t i → (a ≡ 0 → ⊥) → 8 * a + 9 + getD b (8 * a + 8) 0 ≤ length b

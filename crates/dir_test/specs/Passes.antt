@@ -115,6 +115,11 @@ clash-from e b h c (s ∷ ss) =
     let r = clash-from e b h c ss in
     eqb (s .hash) h && ((not (eqb (s .addr) 0) && same-name e (name-of b (8 * c)) (name-of b (8 * s .addr))) || r)
 
+-- the first of the slots has this hash
+unfoldable pub runs-on : ℕ → List Slot → Bool
+runs-on h [] = false
+runs-on h (s ∷ ss) = eqb (s .hash) h
+
 -- TWICE in one pass over the slots
 unfoldable pub once-in : Edition → List ℕ → List Slot → Bool
 once-in e b [] = true

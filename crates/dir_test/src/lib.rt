@@ -6,13 +6,16 @@ ghost use lib.Dec.{eqb, ltb};
 ghost use lib.ListN.{length, set};
 ghost use Rattle.be.specs.Lists.{every};
 ghost use Rattle.be.specs.Bytes.{byte, field, part};
-ghost use Rattle.edition.specs.Edition.{v4, Sane};
+ghost use Rattle.edition.specs.Edition.{v4, Sane, largest-block, record-places};
 ghost use Rattle.name.specs.Name.{legal-name, same-name};
 ghost use Rattle.dir_rules.specs.Record.{says, whole, gaps, entries};
 ghost use Rattle.dir_rules.specs.Verdict.{pair, best-pairs, best-ok, index-ok, verdict};
-ghost use Rattle.dir_test.specs.Passes.{rest, whole-len, tiled, slots-from, in-order, hash-at, addr-at, filled, hint, name-fits, name-of, fault-at, worst, best-left, which, clash-from, once-in, Reach, after-index, after-tile, after-span, Parts, Tiled};
+ghost use Rattle.dir_test.specs.Passes.{rest, whole-len, tiled, slots-from, in-order, hash-at, addr-at, filled, hint, name-fits, name-of, fault-at, worst, best-left, which, clash-from, runs-on, once-in, Reach, after-index, after-tile, after-span, Parts, Tiled};
 use edition::Edition;
 use edition::V4;
+
+// A place in the table of slots for every 8 bytes of the largest block.
+const PLACES: usize = edition::LARGEST_BLOCK / 8;
 
 // Whether the record at o is a gap.
 fn is_gap(b: &[u8], o: usize) -> bool
@@ -125,19 +128,19 @@ fn ordered(b: &[u8], t: usize, n: usize, m: usize) -> bool
     stale == m
 }
 
-// Stores v at place a, if the table has it: a place for every 8 bytes of the largest block.
-fn place(pos: &mut [u16; 2048], a: usize, v: u16)
-    requires { ⌜ length (now pos) ≡ 2048 ⌝ }
+// Stores v at place a, if the table has it.
+fn place(pos: &mut [u16; PLACES], a: usize, v: u16)
+    requires { ⌜ length (now pos) ≡ record-places ⌝ }
     ensures { λ _. ⌜ now (pos .exit) ≡ set (now (pos .entry)) a v ⌝ }
 {
-    if a < 2048 {
+    if a < PLACES {
         pos[a] = v;
     }
 }
 
 // Fills the table: at each address one more than the place of the last of the n slots at t that has it.
-fn places(b: &[u8], t: usize, n: usize, pos: &mut [u16; 2048])
-    requires { ⌜ (t + 8 * n ≤ length (now b)) × (n < 65536) × (length (now pos) ≡ 2048) ⌝ }
+fn places(b: &[u8], t: usize, n: usize, pos: &mut [u16; PLACES])
+    requires { ⌜ (t + 8 * n ≤ length (now b)) × (n < 65536) × (length (now pos) ≡ record-places) ⌝ }
     ensures { λ _. ⌜ now (pos .exit) ≡ filled (now (b .entry)) t (now (pos .entry)) n ⌝ }
 {
     let mut i: usize = 0;
@@ -155,8 +158,8 @@ fn wide16(x: u16) -> usize
 }
 
 // Whether the slot that the table has for address a is there and has hash h.
-fn has_slot(b: &[u8], t: usize, n: usize, pos: &[u16; 2048], h: usize, a: usize) -> bool
-    requires { ⌜ (t + 8 * n ≤ length (now b)) × (a < 2048) ⌝ }
+fn has_slot(b: &[u8], t: usize, n: usize, pos: &[u16; PLACES], h: usize, a: usize) -> bool
+    requires { ⌜ (t + 8 * n ≤ length (now b)) × (a < record-places) ⌝ }
     ensures { λ r. ⌜ r ≡ hint (now (pos .entry)) (now (b .entry)) t n a h ⌝ }
 {
     let p = wide16(pos[a]);
@@ -197,9 +200,9 @@ fn name_fits(e: Edition, legal: bool, s: &[u8], o: usize) -> bool
 }
 
 // The first test that the entry at o fails: 6, 7 or 8; 9 if none.
-fn entry_fault(e: Edition, b: &[u8], o: usize, t: usize, n: usize, pos: &[u16; 2048]) -> usize
+fn entry_fault(e: Edition, b: &[u8], o: usize, t: usize, n: usize, pos: &[u16; PLACES]) -> usize
     requires { ⌜ Sane e ⌝ }
-    requires { ⌜ (t + 8 * n ≤ length (now b)) × (t ≤ 16384) × (o + 9 + byte (o + 8) (now b) ≤ t) ⌝ }
+    requires { ⌜ (t + 8 * n ≤ length (now b)) × (t ≤ largest-block) × (o + 9 + byte (o + 8) (now b) ≤ t) ⌝ }
     ensures { λ r. ⌜ r ≡ fault-at e (hint (now (pos .entry)) (now (b .entry)) t n) (now (b .entry)) o ⌝ }
 {
     let from = o + 9;
@@ -218,9 +221,9 @@ fn entry_fault(e: Edition, b: &[u8], o: usize, t: usize, n: usize, pos: &[u16; 2
 }
 
 // The lower of w and the record's first fault.
-fn worse(e: Edition, b: &[u8], o: usize, t: usize, n: usize, pos: &[u16; 2048], w: usize) -> usize
+fn worse(e: Edition, b: &[u8], o: usize, t: usize, n: usize, pos: &[u16; PLACES], w: usize) -> usize
     requires { ⌜ Sane e ⌝ }
-    requires { ⌜ (t + 8 * n ≤ length (now b)) × (t ≤ 16384) × (o + 2 ≤ t) × (eqb (field o 2 (now b)) 0xffff ≡ false → o + 9 + byte (o + 8) (now b) ≤ t) ⌝ }
+    requires { ⌜ (t + 8 * n ≤ length (now b)) × (t ≤ largest-block) × (o + 2 ≤ t) × (eqb (field o 2 (now b)) 0xffff ≡ false → o + 9 + byte (o + 8) (now b) ≤ t) ⌝ }
     ensures { λ r. ⌜ r ≡ min w (cond (eqb (field o 2 (now (b .entry))) 0xffff) 9 (fault-at e (hint (now (pos .entry)) (now (b .entry)) t n) (now (b .entry)) o)) ⌝ }
 {
     if is_gap(b, o) {
@@ -237,9 +240,9 @@ fn worse(e: Edition, b: &[u8], o: usize, t: usize, n: usize, pos: &[u16; 2048], 
 }
 
 // The lowest fault of the entries' names, numbers and slots; 9 if none.
-fn faults(e: Edition, b: &[u8], t: usize, n: usize, pos: &[u16; 2048]) -> usize
+fn faults(e: Edition, b: &[u8], t: usize, n: usize, pos: &[u16; PLACES]) -> usize
     requires { ⌜ Sane e ⌝ }
-    requires { ⌜ (t + 8 * n ≤ length (now b)) × (t ≤ 16384) × (t % 8 ≡ 0) × (e .header ≤ t) × (every (whole e) (rest e (now b) t (length (now b)) (e .header)) ≡ true) ⌝ }
+    requires { ⌜ (t + 8 * n ≤ length (now b)) × (t ≤ largest-block) × (t % 8 ≡ 0) × (e .header ≤ t) × (every (whole e) (rest e (now b) t (length (now b)) (e .header)) ≡ true) ⌝ }
     ensures { λ r. ⌜ r ≡ worst e (hint (now (pos .entry)) (now (b .entry)) t n) (rest e (now (b .entry)) t (length (now (b .entry))) (e .header)) ⌝ }
 {
     let mut o = e.header;
@@ -355,6 +358,29 @@ fn clash(e: Edition, b: &[u8], t: usize, n: usize, i: usize) -> bool
     false
 }
 
+// Whether the slot after slot i has the same hash.
+fn runs_on(b: &[u8], t: usize, n: usize, i: usize) -> bool
+    requires { ⌜ (t + 8 * n ≤ length (now b)) × (i < n) ⌝ }
+    ensures { λ r. ⌜ r ≡ runs-on (hash-at (now (b .entry)) t i) (slots-from (now (b .entry)) t n (i + 1)) ⌝ }
+{
+    let j = i + 1;
+    if j < n {
+        return slot_hash(b, t, j) == slot_hash(b, t, i);
+    }
+    false
+}
+
+// Whether slot i is live, and a later one addresses an entry of the same name.
+fn twin(e: Edition, b: &[u8], t: usize, n: usize, i: usize) -> bool
+    requires { ⌜ (t + 8 * n ≤ length (now b)) × (i < n) × Reach (now b) t n ⌝ }
+    ensures { λ r. ⌜ r ≡ (not (eqb (addr-at (now (b .entry)) t i) 0) && clash-from e (now (b .entry)) (hash-at (now (b .entry)) t i) (addr-at (now (b .entry)) t i) (slots-from (now (b .entry)) t n (i + 1))) ⌝ }
+{
+    if slot_addr(b, t, i) == 0 {
+        return false;
+    }
+    clash(e, b, t, n, i)
+}
+
 // Whether no name is stored twice: names are compared inside runs of equal hashes alone.
 fn once(e: Edition, b: &[u8], t: usize, n: usize) -> bool
     requires { ⌜ (t + 8 * n ≤ length (now b)) × Reach (now b) t n ⌝ }
@@ -362,8 +388,8 @@ fn once(e: Edition, b: &[u8], t: usize, n: usize) -> bool
 {
     let mut i: usize = 0;
     while i < n {
-        if slot_addr(b, t, i) != 0 {
-            if clash(e, b, t, n, i) {
+        if runs_on(b, t, n, i) {
+            if twin(e, b, t, n, i) {
                 return false;
             }
         }
@@ -456,7 +482,7 @@ fn test_entries(e: Edition, b: &[u8], t: usize, n: usize, m: usize, live: usize)
     ensures { λ r. ⌜ r ≡ after-tile e (now (b .entry)) (rest e (now (b .entry)) t (length (now (b .entry))) (e .header)) (slots-from (now (b .entry)) t n 0) m ⌝ }
 {
     let fit = counts_fit(b, t, n, m, live);
-    let mut pos = [0u16; 2048];
+    let mut pos = [0u16; PLACES];
     places(b, t, n, &mut pos);
     let w = faults(e, b, t, searched(fit, n), &pos);
     if w < 7 {

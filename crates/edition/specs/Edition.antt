@@ -17,6 +17,10 @@ v4 =
 abbrev pub largest-block : ℕ
 largest-block = 16384
 
+-- the places in it where a record can start: one for every 8 bytes
+abbrev pub record-places : ℕ
+record-places = largest-block / 8
+
 -- Directory block: a power of two, 512 to 16,384
 abbrev pub block-sizes : List ℕ
 block-sizes = 512 ∷ 1024 ∷ 2048 ∷ 4096 ∷ 8192 ∷ largest-block ∷ []

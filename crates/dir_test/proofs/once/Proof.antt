@@ -1,8 +1,7 @@
 use borrow.Author.Needs.{needs}
 use Prim.Native.Nat.{_-_}
-use mathlib.Core.Path.{_∙_}
 use mathlib.Core.Logic.{⊎-elim}
-use Rattle.dir_test.proofs.TwinWalk.{Oncing, once-start, once-end, once-stale, once-hit, once-on}
+use Rattle.dir_test.proofs.TwinWalk.{Oncing, once-start, once-end, once-apart, once-hit, once-on}
 use Rattle.dir_test.proofs.once.Statement.{statement}
 use Rattle.dir_test.proofs.once.Tie as tie
 
@@ -18,23 +17,17 @@ loop-holds : tie.Need-loop-holds Inv-loop μ-loop
 loop-holds c =
     once-start _ _ _ _
 
-clash-requires : tie.Need-clash-requires Inv-loop μ-loop
-clash-requires c κs =
-    (c .before .before .before .before .before .pre .0, c .before .before .loop-test .taken, c .before .before .before .before .before .pre .1, λ z. c .if1 .taken (c .before .slot-addr .ensures .0 ∙ z))
+twin-requires : tie.Need-twin-requires Inv-loop μ-loop
+twin-requires c κs = let p = c .before .before .before .before .before .pre in (p .0, c .before .before .loop-test .taken, p .1)
 
 returns : tie.Need-returns Inv-loop μ-loop
-returns c =
-    let c₂ = c .before .before in
-    let c₃ = c₂ .before in
-    let c₄ = c₃ .before in
-    let c₅ = c₄ .before in
-    once-hit _ _ _ _ _ (c₅ .loop .inv) (c₄ .loop-test .taken) _ (c₃ .slot-addr .ensures .0) (c₂ .if1 .taken) _ (c .before .clash .ensures) (c .if2 .taken)
+returns c = once-hit _ _ _ _ _ (c .before .before .before .before .before .loop .inv) (c .before .before .before .before .loop-test .taken) _ (c .before .twin .ensures) (c .if2 .taken)
 
 loop-again : tie.Need-loop-again Inv-loop μ-loop
 loop-again c =
     ⊎-elim
-    (λ w. once-on _ _ _ _ _ (c .before .before .before .loop .inv) (c .before .before .loop-test .taken) _ (c .before .slot-addr .ensures .0) (w .0 .taken) _ (w .1 .ensures) (w .2 .left))
-    (λ w. once-stale _ _ _ _ _ (c .before .before .before .loop .inv) (c .before .before .loop-test .taken) _ (c .before .slot-addr .ensures .0) (w .left))
+    (λ w. once-on _ _ _ _ _ (c .before .before .before .loop .inv) (c .before .before .loop-test .taken) _ (w .1 .ensures) (w .2 .left))
+    (λ w. once-apart _ _ _ _ _ (c .before .before .before .loop .inv) (c .before .before .loop-test .taken) _ (c .before .runs-on .ensures) (w .left))
     (c .if1 .came)
 
 returns-2 : tie.Need-returns-2 Inv-loop μ-loop
@@ -49,7 +42,7 @@ once-spec =
     μ-loop
     loop-holds
     (λ c κs. search needs)
-    clash-requires
+    twin-requires
     returns
     (λ c. search needs)
     (λ c. search needs)

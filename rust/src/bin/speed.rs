@@ -1,0 +1,244 @@
+//! Times the library, the yardstick and the model on one machine and the same inputs, and prints medians and ratios as tables.
+//!
+//! Each row's contenders take turns, so that a busy moment of the machine falls on all of them. Full blocks are filled by the library's
+//! own insert, with names from fixed seeds.
+
+use pelunziwa::{block, hash, model, yardstick, Refusal};
+use std::hint::black_box;
+use std::time::Instant;
+
+const ROUNDS: usize = 61;
+const BLOCKS: u64 = 16;
+
+struct Random(u64);
+
+impl Random {
+    fn below(&mut self, n: u64) -> u64 {
+        self.0 ^= self.0 << 13;
+        self.0 ^= self.0 >> 7;
+        self.0 ^= self.0 << 17;
+        (self.0 >> 11) % n
+    }
+
+    fn name(&mut self, shortest: u64, longest: u64) -> Vec<u8> {
+        let letters = b"abcdefghijklmnopqrstuvwxyz0123456789_-ABCDEFGH";
+        let len = shortest + self.below(longest - shortest + 1);
+        (0..len)
+            .map(|_| letters[self.below(letters.len() as u64) as usize])
+            .collect()
+    }
+}
+
+/// A kind of full block: its size, and how long its names are.
+struct Kind {
+    size: usize,
+    what: &'static str,
+    shortest: u64,
+    longest: u64,
+}
+
+/// A full block, and the names in it.
+struct Full {
+    bytes: Vec<u8>,
+    names: Vec<Vec<u8>>,
+}
+
+/// A block with "." and ".." alone.
+fn empty(size: usize) -> Vec<u8> {
+    let mut b = vec![0; size];
+    let gap = (size - 72) as u16;
+    let mut put = |at: usize, bytes: &[u8]| b[at..at + bytes.len()].copy_from_slice(bytes);
+    put(0, &0x5844_3242u32.to_be_bytes());
+    put(4, &[48u16.to_be_bytes(), gap.to_be_bytes()].concat());
+    put(16, &128u64.to_be_bytes());
+    put(24, &[1, b'.', 0, 0, 0, 0, 0, 16]);
+    put(32, &128u64.to_be_bytes());
+    put(40, &[2, b'.', b'.', 0, 0, 0, 0, 32]);
+    put(48, &[0xffffu16.to_be_bytes(), gap.to_be_bytes()].concat());
+    put(size - 26, &48u16.to_be_bytes());
+    let words = [0x2e, 2, 0x172e, 4, 2, 0];
+    put(size - 24, &words.map(u32::to_be_bytes).concat());
+    b
+}
+
+/// Inserts until 200 names in a row find no room.
+fn full(kind: &Kind, seed: u64) -> Full {
+    let mut random = Random(seed);
+    let mut bytes = empty(kind.size);
+    let mut names = Vec::new();
+    let mut refused = 0;
+    while refused < 200 {
+        let name = random.name(kind.shortest, kind.longest);
+        let number = 1 + random.below(1 << 40);
+        match block::insert(&mut bytes, &name, number) {
+            Ok(()) => names.push(name),
+            Err(Refusal::NoRoom) => refused += 1,
+            Err(_) => (),
+        }
+    }
+    Full { bytes, names }
+}
+
+/// Nanoseconds of one run of each job, the median over the rounds; `calls` is how many calls a run makes.
+fn medians<const N: usize>(calls: usize, mut jobs: [Box<dyn FnMut() + '_>; N]) -> [f64; N] {
+    let mut times = [(); N].map(|_| Vec::with_capacity(ROUNDS));
+    for _ in 0..ROUNDS {
+        for (job, times) in jobs.iter_mut().zip(&mut times) {
+            let start = Instant::now();
+            job();
+            times.push(start.elapsed().as_nanos() as f64 / calls as f64);
+        }
+    }
+    times.map(|mut t| {
+        t.sort_by(f64::total_cmp);
+        t[ROUNDS / 2]
+    })
+}
+
+fn hashes() {
+    let mut random = Random(7);
+    let names: Vec<_> = (0..1000).map(|_| random.name(255, 255)).collect();
+    let each = |hash: fn(&[u8]) -> u32| {
+        let names = &names;
+        let run = move || {
+            for name in names {
+                black_box(hash(black_box(name)));
+            }
+        };
+        Box::new(run) as Box<dyn FnMut()>
+    };
+    let [ours, rust] = medians(names.len(), [each(hash), each(yardstick::hash)]);
+    println!("| hash of 255 bytes | library, ns | Rust loop, ns | ratio |");
+    println!("|---|---|---|---|");
+    println!(
+        "| 1,000 names | {ours:.0} | {rust:.0} | {:.2} |\n",
+        ours / rust
+    );
+}
+
+/// Microseconds of a test by the library, the yardstick and the model.
+fn tests(blocks: &[Full]) -> [f64; 3] {
+    let each = |test: fn(&[u8]) -> u32| {
+        let run = move || {
+            for b in blocks {
+                assert_eq!(test(black_box(&b.bytes)), 0);
+            }
+        };
+        Box::new(run) as Box<dyn FnMut()>
+    };
+    let library = |b: &[u8]| block::test(b).map_or_else(Refusal::number, |()| 0);
+    medians(
+        blocks.len(),
+        [
+            each(library),
+            each(yardstick::test),
+            each(model::block::test),
+        ],
+    )
+}
+
+/// The same for a lookup of a stored name.
+fn lookups(blocks: &[Full]) -> [f64; 3] {
+    let mut turn = 0;
+    let mut next = move |b: &Full| {
+        turn += 1;
+        b.names[turn * 37 % b.names.len()].clone()
+    };
+    let asked: Vec<_> = blocks.iter().map(|b| (&b.bytes, next(b))).collect();
+    medians(
+        blocks.len(),
+        [
+            Box::new(|| {
+                for (b, n) in &asked {
+                    assert!(block::lookup(black_box(b), n).is_ok());
+                }
+            }),
+            Box::new(|| {
+                for (b, n) in &asked {
+                    assert!(yardstick::lookup(black_box(b), n).is_ok());
+                }
+            }),
+            Box::new(|| {
+                for (b, n) in &asked {
+                    assert_eq!(model::block::lookup(black_box(b), n).refusal, 0);
+                }
+            }),
+        ],
+    )
+}
+
+/// The same for an insert with the removal after it, by the library and the model: half the time of the two calls.
+fn changes(blocks: &[Full]) -> [f64; 2] {
+    let taken: Vec<_> = blocks
+        .iter()
+        .map(|b| {
+            let name = b.names[b.names.len() / 2].clone();
+            let mut bytes = b.bytes.clone();
+            block::remove(&mut bytes, &name).expect("the name is there");
+            (bytes, name)
+        })
+        .collect();
+    let mut ours = taken.clone();
+    medians(
+        2 * blocks.len(),
+        [
+            Box::new(|| {
+                for (b, n) in &mut ours {
+                    assert!(block::insert(b, n, 5).is_ok() && block::remove(b, n).is_ok());
+                }
+            }),
+            Box::new(|| {
+                for (b, n) in &taken {
+                    let put = model::block::insert(black_box(b), n, 5);
+                    assert_eq!(model::block::remove(&put.bytes, n).refusal, 0);
+                }
+            }),
+        ],
+    )
+}
+
+fn row(kind: &Kind) {
+    let blocks: Vec<_> = (0..BLOCKS).map(|seed| full(kind, 1000 + seed)).collect();
+    let entries = blocks.iter().map(|b| b.names.len()).sum::<usize>() / blocks.len();
+    let micro = |t: f64| t / 1000.0;
+    let [test, yard, model] = tests(&blocks);
+    let [look, yard_look, model_look] = lookups(&blocks);
+    let [change, model_change] = changes(&blocks);
+    let name = format!("{} bytes, {} names ({entries})", kind.size, kind.what);
+    let line = |call: &str, ours: f64, yard: Option<f64>, model: f64| {
+        let (y, ratio) = match yard {
+            Some(y) => (format!("{:.1}", micro(y)), format!("{:.2}", ours / y)),
+            None => ("-".into(), "-".into()),
+        };
+        println!(
+            "| {name} | {call} | {:.1} | {y} | {:.1} | {ratio} | {:.3} | {:.2} |",
+            micro(ours),
+            micro(model),
+            ours / model,
+            ours / test
+        );
+    };
+    line("test", test, Some(yard), model);
+    line("lookup", look, Some(yard_look), model_look);
+    line("insert, removal (each)", change, None, model_change);
+}
+
+fn main() {
+    hashes();
+    println!("| full blocks (entries) | call | library, us | yardstick, us | model, us | library / yardstick | library / model | call / test |");
+    println!("|---|---|---|---|---|---|---|---|");
+    for size in [4096, 16384] {
+        for (what, shortest, longest) in [
+            ("1 to 5 byte", 1, 5),
+            ("8 to 24 byte", 8, 24),
+            ("255 byte", 255, 255),
+        ] {
+            row(&Kind {
+                size,
+                what,
+                shortest,
+                longest,
+            });
+        }
+    }
+}

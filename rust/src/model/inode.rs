@@ -1,0 +1,62 @@
+//! The inode core.
+
+use super::*;
+use std::ops::Range;
+
+/// Where the literal area starts.
+pub const LITERAL: usize = 100;
+
+/// The fields handed out, all 0 beside a refusal.
+#[derive(Clone, Copy, Debug, Default, PartialEq, Eq)]
+pub struct Core {
+    pub refusal: u32,
+    pub magic: u32,
+    pub mode: u32,
+    pub version: u32,
+    pub format: u32,
+    pub forkoff: u32,
+    pub aformat: u32,
+    pub size: u64,
+}
+
+impl Core {
+    /// Where the data fork lies in an inode of `len` bytes.
+    pub fn data_fork(&self, len: usize) -> Range<usize> {
+        match self.forkoff {
+            0 => LITERAL..len,
+            _ => LITERAL..self.attr_fork(len).start,
+        }
+    }
+
+    /// Where the attribute fork lies when forkoff is not 0.
+    pub fn attr_fork(&self, len: usize) -> Range<usize> {
+        LITERAL + 8 * self.forkoff as usize..len
+    }
+}
+
+/// Tests 1 to 3 as far as they hold for every inode.
+pub fn read(inode: &[u8]) -> Result<Core, u32> {
+    want([256, 512, 1024, 2048].contains(&inode.len()), SIZE)?;
+    let small = |place: usize, width: usize| field(inode, place, width) as u32;
+    let core = Core {
+        refusal: 0,
+        magic: small(0, 2),
+        mode: small(2, 2),
+        version: small(4, 1),
+        format: small(5, 1),
+        forkoff: small(82, 1),
+        aformat: small(83, 1),
+        size: field(inode, 56, 8),
+    };
+    want(core.magic == 0x494e, MAGIC)?;
+    want([1, 2].contains(&core.version), KIND)?;
+    want(core.attr_fork(inode.len()).start <= inode.len(), KIND)?;
+    Ok(core)
+}
+
+pub fn test(inode: &[u8]) -> Core {
+    read(inode).unwrap_or_else(|refusal| Core {
+        refusal,
+        ..Core::default()
+    })
+}

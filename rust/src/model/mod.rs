@@ -1,0 +1,159 @@
+//! An independent model of the paper, for the tests and the bench.
+//!
+//! Ordinary Rust on ordinary data structures: a structure is read into lists, each rule is checked on the
+//! lists in number order, and a change writes the lists back. Clear rather than fast; any bytes get an
+//! answer. Refusals are the paper's numbers, 0 is done.
+
+pub mod attr;
+pub mod block;
+pub mod inode;
+pub mod sfdir;
+
+pub const SIZE: u32 = 1;
+pub const MAGIC: u32 = 2;
+pub const KIND: u32 = 3;
+pub const SPAN: u32 = 4;
+pub const TILE: u32 = 5;
+pub const NAME: u32 = 6;
+pub const NUMBER: u32 = 7;
+pub const INDEX: u32 = 8;
+pub const BEST: u32 = 9;
+pub const TWICE: u32 = 10;
+pub const ASKED: u32 = 11;
+pub const FIXED: u32 = 12;
+pub const ABSENT: u32 = 13;
+pub const EXISTS: u32 = 14;
+pub const NOROOM: u32 = 15;
+pub const NARROW: u32 = 16;
+
+/// The largest inode number that 4 bytes hold.
+pub const NARROW_MAX: u64 = 0xffff_ffff;
+
+/// A lookup's answer. `compared` is 0 in a short form.
+#[derive(Clone, Copy, Debug, Default, PartialEq, Eq)]
+pub struct Found {
+    pub refusal: u32,
+    pub number: u64,
+    pub compared: u64,
+}
+
+/// Where an attribute's value lies in the lent bytes.
+#[derive(Clone, Copy, Debug, Default, PartialEq, Eq)]
+pub struct Place {
+    pub refusal: u32,
+    pub start: u64,
+    pub len: u64,
+}
+
+pub const END: u32 = 0;
+pub const GAP: u32 = 1;
+pub const LIVE: u32 = 2;
+
+/// One step of a directory's walk; `seen` is END, GAP or LIVE.
+#[derive(Clone, Copy, Debug, Default, PartialEq, Eq)]
+pub struct Step {
+    pub refusal: u32,
+    pub seen: u32,
+    pub next: u64,
+    pub number: u64,
+    pub name_start: u64,
+    pub name_len: u64,
+}
+
+/// One step of an attribute list's walk; `seen` is END or LIVE.
+#[derive(Clone, Copy, Debug, Default, PartialEq, Eq)]
+pub struct AttrStep {
+    pub refusal: u32,
+    pub seen: u32,
+    pub next: u64,
+    pub flags: u64,
+    pub name_start: u64,
+    pub name_len: u64,
+    pub value_start: u64,
+    pub value_len: u64,
+}
+
+/// What a call that may write leaves behind: its answer, all bytes, and notes on how it came to that
+/// (which case of a rule was used), so that the tests can count what they reached.
+#[derive(Clone, Debug, PartialEq, Eq)]
+pub struct Change {
+    pub refusal: u32,
+    pub bytes: Vec<u8>,
+    pub notes: Vec<&'static str>,
+}
+
+impl Change {
+    fn refused(refusal: u32, bytes: &[u8]) -> Change {
+        Change {
+            refusal,
+            bytes: bytes.to_vec(),
+            notes: Vec::new(),
+        }
+    }
+
+    fn no_room(bytes: &[u8], why: &'static str) -> Change {
+        Change {
+            refusal: NOROOM,
+            bytes: bytes.to_vec(),
+            notes: vec![why],
+        }
+    }
+}
+
+/// A test of the paper: the refusal when what it wants does not hold.
+fn want(holds: bool, refusal: u32) -> Result<(), u32> {
+    if holds {
+        Ok(())
+    } else {
+        Err(refusal)
+    }
+}
+
+/// 0 or the refusal's number.
+pub fn code<T>(verdict: Result<T, u32>) -> u32 {
+    verdict.err().unwrap_or(0)
+}
+
+/// The big-endian number in `width` bytes at `place`, which the caller knows to be there.
+pub fn field(bytes: &[u8], place: usize, width: usize) -> u64 {
+    bytes[place..place + width]
+        .iter()
+        .fold(0, |number, &byte| number << 8 | u64::from(byte))
+}
+
+/// Writes a number big-endian into `width` bytes at `place`.
+pub fn put(bytes: &mut [u8], place: usize, width: usize, number: u64) {
+    bytes[place..place + width].copy_from_slice(&number.to_be_bytes()[8 - width..]);
+}
+
+/// The published xfs_da_hashname: for each byte, rotate left by 7, then exclusive-or the byte.
+pub fn hash(name: &[u8]) -> u32 {
+    name.iter()
+        .fold(0u32, |hash, &byte| hash.rotate_left(7) ^ u32::from(byte))
+}
+
+/// What an entry with a name of `name_len` bytes takes in a block: E.
+pub fn entry_size(name_len: usize) -> usize {
+    (11 + name_len).div_ceil(8) * 8
+}
+
+pub fn legal_name(name: &[u8]) -> bool {
+    legal_attr_name(name) && !name.contains(&b'/')
+}
+
+pub fn legal_attr_name(name: &[u8]) -> bool {
+    (1..=255).contains(&name.len()) && !name.contains(&0)
+}
+
+pub fn legal_number(number: u64) -> bool {
+    (1..1 << 56).contains(&number)
+}
+
+pub fn legal_block_size(len: u64) -> bool {
+    len.is_power_of_two() && (512..=16_384).contains(&len)
+}
+
+/// The two names that every directory has.
+pub fn is_dot(name: &[u8]) -> bool {
+    name == b"." || name == b".."
+}

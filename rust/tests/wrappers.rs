@@ -1,0 +1,208 @@
+//! The safe wrappers: each answer is the model's as a Rust value, over generated structures.
+
+mod common;
+
+use common::build::{self, INODE_SIZES};
+use common::{names, rounds, Rng};
+use pelunziwa::{attr, block, inode, model, sfdir, Refusal, Seen};
+
+fn code<T>(result: &Result<T, Refusal>) -> u32 {
+    match result {
+        Ok(_) => 0,
+        Err(refusal) => refusal.number(),
+    }
+}
+
+#[test]
+fn refusals() {
+    assert_eq!(Refusal::from_number(0), None);
+    assert_eq!(Refusal::from_number(17), None);
+    for number in 1..=16 {
+        let refusal = Refusal::from_number(number).expect("1 to 16");
+        assert_eq!(refusal.number(), number);
+        assert!(refusal.to_string().contains(refusal.name()));
+    }
+    assert_eq!(Refusal::Size.to_string(), "refused 1 (SIZE)");
+    assert_eq!(Refusal::Narrow.to_string(), "refused 16 (NARROW)");
+}
+
+#[test]
+fn hashes() {
+    let mut rng = Rng::new(1);
+    for len in 0..300 {
+        let name = rng.bytes(len);
+        assert_eq!(pelunziwa::hash(&name), model::hash(&name));
+    }
+}
+
+#[test]
+fn inodes() {
+    let mut rng = Rng::new(2);
+    for _ in 0..rounds(1000) {
+        let len = rng.pick(&INODE_SIZES);
+        let mut bytes = build::attrs(&mut rng, len, &[]);
+        bytes[82] = rng.byte();
+        bytes[4] = rng.below(4) as u8;
+        let want = model::inode::test(&bytes);
+        let got = inode::test(&bytes);
+        assert_eq!(code(&got), want.refusal);
+        if let Ok(core) = got {
+            let small = [core.magic, core.mode].map(u32::from);
+            assert_eq!(small, [want.magic, want.mode]);
+            let bytes = [core.version, core.format, core.forkoff, core.aformat].map(u32::from);
+            assert_eq!(
+                bytes,
+                [want.version, want.format, want.forkoff, want.aformat]
+            );
+            assert_eq!(core.size, want.size);
+        }
+    }
+}
+
+#[test]
+fn blocks() {
+    let mut rng = Rng::new(3);
+    for _ in 0..rounds(300) {
+        let len = build::block_len(&mut rng).min(4096);
+        let faults = build::faults(&mut rng);
+        let mut bytes = build::block(&mut rng, len, &faults);
+        listed_block(&bytes);
+        let held = match model::block::read(&bytes) {
+            Ok(block) => block.live().map(|entry| entry.2.to_vec()).collect(),
+            Err(_) => Vec::new(),
+        };
+        for _ in 0..10 {
+            let name = names::asked(&mut rng, &held);
+            let want = model::block::lookup(&bytes, &name);
+            match block::lookup(&bytes, &name) {
+                Ok(found) => assert_eq!((0, found.number), (want.refusal, want.number)),
+                Err(missed) => assert_eq!(missed.refusal.number(), want.refusal),
+            }
+            let compared = block::lookup(&bytes, &name);
+            let compared = compared.map_or_else(|missed| missed.compared, |f| f.compared);
+            assert_eq!(compared, want.compared);
+            let number = names::number(&mut rng);
+            let want = model::block::insert(&bytes, &name, number);
+            let got = block::insert(&mut bytes, &name, number);
+            assert_eq!((code(&got), &bytes), (want.refusal, &want.bytes));
+            let name = names::asked(&mut rng, &held);
+            let want = model::block::remove(&bytes, &name);
+            let got = block::remove(&mut bytes, &name);
+            assert_eq!((code(&got), &bytes), (want.refusal, &want.bytes));
+        }
+        listed_block(&bytes);
+    }
+}
+
+/// The entries as the model has them, or one refusal.
+fn listed_block(bytes: &[u8]) {
+    let got: Result<Vec<_>, Refusal> = block::entries(bytes).collect();
+    assert_eq!(code(&block::test(bytes)), model::block::test(bytes));
+    match model::block::read(bytes) {
+        Ok(block) => {
+            let got = got.expect("a right block is listed");
+            let got = got.iter().map(|e| (e.tag as usize, e.number, e.name));
+            assert!(got.eq(block.live()));
+            let end = block::step(bytes, block.data_end() as u64).expect("the data's end");
+            assert_eq!((end.next, end.seen), (block.data_end() as u64, Seen::End));
+        }
+        Err(refusal) => {
+            assert_eq!(code(&got), refusal);
+            assert_eq!(block::entries(bytes).count(), 1);
+        }
+    }
+}
+
+#[test]
+fn short_form_directories() {
+    let mut rng = Rng::new(4);
+    for _ in 0..rounds(600) {
+        let len = rng.pick(&INODE_SIZES);
+        let faults = build::faults(&mut rng);
+        let (mut bytes, size) = build::sfdir(&mut rng, len, &faults);
+        listed_sfdir(&bytes, size);
+        for _ in 0..10 {
+            let held = match model::sfdir::read(&bytes, size) {
+                Ok(dir) => dir.entries.into_iter().map(|entry| entry.name).collect(),
+                Err(_) => Vec::new(),
+            };
+            let name = names::asked(&mut rng, &held);
+            let want = model::sfdir::lookup(&bytes, size, &name);
+            let got = sfdir::lookup(&bytes, size, &name);
+            assert_eq!((code(&got), got.unwrap_or(0)), (want.refusal, want.number));
+            let number = names::number(&mut rng);
+            let want = model::sfdir::insert(&bytes, size, &name, number);
+            let got = sfdir::insert(&mut bytes, size, &name, number);
+            assert_eq!((code(&got), &bytes), (want.refusal, &want.bytes));
+            let name = names::asked(&mut rng, &held);
+            let want = model::sfdir::remove(&bytes, size, &name);
+            let got = sfdir::remove(&mut bytes, size, &name);
+            assert_eq!((code(&got), &bytes), (want.refusal, &want.bytes));
+        }
+        listed_sfdir(&bytes, size);
+    }
+}
+
+fn listed_sfdir(bytes: &[u8], size: u64) {
+    let got: Result<Vec<_>, Refusal> = sfdir::entries(bytes, size).collect();
+    assert_eq!(
+        code(&sfdir::test(bytes, size)),
+        model::sfdir::test(bytes, size)
+    );
+    match model::sfdir::read(bytes, size) {
+        Ok(dir) => {
+            let got = got.expect("a right directory is listed");
+            let got = got.iter().map(|e| (e.tag as usize, e.number, e.name));
+            let want = dir.entries.iter().map(|e| (e.tag, e.number, &e.name[..]));
+            assert!(got.eq(want));
+        }
+        Err(refusal) => assert_eq!(code(&got), refusal),
+    }
+}
+
+#[test]
+fn short_form_attributes() {
+    let mut rng = Rng::new(5);
+    for _ in 0..rounds(600) {
+        let len = rng.pick(&INODE_SIZES);
+        let faults = build::faults(&mut rng);
+        let mut bytes = build::attrs(&mut rng, len, &faults);
+        listed_attrs(&bytes);
+        for _ in 0..10 {
+            let flags = rng.pick(&[attr::USER, attr::TRUSTED, attr::SECURE, 1, 6]);
+            let name = build::attr_name(&mut rng, true);
+            let want = model::attr::lookup(&bytes, &name, flags);
+            let got = attr::lookup(&bytes, &name, flags);
+            assert_eq!(code(&got), want.refusal);
+            if let Ok(value) = got {
+                let start = value.as_ptr() as usize - bytes.as_ptr() as usize;
+                let place = (start as u64, value.len() as u64);
+                assert_eq!(place, (want.start, want.len));
+            }
+            let len = rng.pick(&[0, 1, 5, 255, 256]);
+            let value = rng.bytes(len);
+            let want = model::attr::set(&bytes, &name, flags, &value);
+            let got = attr::set(&mut bytes, &name, flags, &value);
+            assert_eq!((code(&got), &bytes), (want.refusal, &want.bytes));
+            let name = build::attr_name(&mut rng, true);
+            let want = model::attr::remove(&bytes, &name, flags);
+            let got = attr::remove(&mut bytes, &name, flags);
+            assert_eq!((code(&got), &bytes), (want.refusal, &want.bytes));
+        }
+        listed_attrs(&bytes);
+    }
+}
+
+fn listed_attrs(bytes: &[u8]) {
+    let got: Result<Vec<_>, Refusal> = attr::entries(bytes).collect();
+    assert_eq!(code(&attr::test(bytes)), model::attr::test(bytes));
+    match model::attr::read(bytes) {
+        Ok(attrs) => {
+            let got = got.expect("right attributes are listed");
+            let got = got.iter().map(|e| (e.flags, e.name, e.value));
+            let want = attrs.entries.iter();
+            assert!(got.eq(want.map(|e| (e.flags, &e.name[..], &e.value[..]))));
+        }
+        Err(refusal) => assert_eq!(code(&got), refusal),
+    }
+}
