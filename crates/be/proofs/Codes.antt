@@ -1,6 +1,6 @@
 -- A chain of tests that answers 0: each test passed.
 -- Assumes nothing.
-use Prim.Native.Nat.{ℕ, suc}
+use Prim.Native.Nat.{ℕ, suc, _≤_}
 use native.Mathlib.Omega.{arith}
 use mathlib.Core.Bool.{Bool, true, false}
 use mathlib.Core.Path.{_≡_, refl}
@@ -16,3 +16,8 @@ passes false n rest h = absurd (omega arith)
 
 pub both : (n rest : ℕ) → and-then n rest ≡ 0 → (n ≡ 0) × (rest ≡ 0)
 both n rest h = by-cases (eqb n 0) (λ q. (eqb-true n 0 q, rw q at h)) (λ q. absurd (eqb-false n 0 q (rw q at h)))
+
+-- the number of a chain is one of its own, so it is at most m if each of them is: cited along the chain
+pub otherwise-le : (t : Bool) (n rest m : ℕ) → n ≤ m → rest ≤ m → otherwise t n rest ≤ m
+otherwise-le true n rest m p q = q
+otherwise-le false n rest m p q = p

@@ -58,7 +58,7 @@ module _ (e : Edition) (b : List ℕ) where
 
   -- a test's number
   pub tested-is : tested-code (tested e b) ≡ inode-code e b
-  unfolding tested tested-code
+  unfolding tested
   tested-is = by-cases (eqb (inode-code e b) 0) (λ q. rw q (sym (eqb-true _ _ q))) (λ q. rw q refl)
 
   pub directory-refused : (directory-code e b ≡ 0 → ⊥) → Refused (directory-code e b) ≡ directory-fork e b

@@ -94,7 +94,7 @@ unfoldable pub tested : Edition → List ℕ → Tested
 tested e b = cond (eqb (inode-code e b) 0) (Sound (core-of b)) (Tested-refused (inode-code e b))
 
 -- its number, 0 when it hands the fields out
-unfoldable pub tested-code : Tested → ℕ
+abbrev pub tested-code : Tested → ℕ
 tested-code (Sound c) = 0
 tested-code (Tested-refused k) = k
 

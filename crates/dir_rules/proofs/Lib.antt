@@ -33,3 +33,4 @@ pub mod LookupRight
 pub mod WholeWalk
 pub mod BestAnew
 pub mod Capacity
+pub mod SmallCodes

@@ -1,5 +1,5 @@
-// Runs the block directory's calls on the block that document 004 dumps (standard input): its lookups, its walk, the block after
-// the removal that 004 shows, and a block for each refusal.
+// Runs the block directory's calls on the block that document 004 dumps (standard input): its lookups, its walk, a walker, the block
+// after the removal that 004 shows, and a block for each refusal.
 use dir_rules::Looked;
 use dir_rules::Seen;
 use dir_rules::Step;
@@ -63,11 +63,9 @@ fn seen(s: Step) {
     number(s.next as u64);
 }
 
-// One step of the walk: where it then stands.
-fn step(b: &[u8], p: usize) -> usize {
-    text(b"step");
-    number(p as u64);
-    match dir_block::step(b, p) {
+// What a step answers, and where it leads.
+fn answer(w: Walked) -> usize {
+    match w {
         Walked::Stepped(s) => {
             seen(s);
             text(b"\n");
@@ -80,6 +78,36 @@ fn step(b: &[u8], p: usize) -> usize {
             0
         }
     }
+}
+
+// One step of the walk: where it then stands.
+fn step(b: &[u8], p: usize) -> usize {
+    text(b"step");
+    number(p as u64);
+    answer(dir_block::step(b, p))
+}
+
+// What a walker meets at a place, and after some steps.
+fn walker_at(b: &[u8], p: usize) {
+    text(b"walker at");
+    number(p as u64);
+    answer(dir_walker::step_from(b, p));
+}
+
+fn walker_after(b: &[u8], steps: usize) {
+    text(b"walker after");
+    number(steps as u64);
+    answer(dir_walker::nth(b, steps));
+}
+
+fn walker(b: &[u8]) {
+    walker_at(b, 304);
+    walker_at(b, 24);
+    walker_after(b, 0);
+    walker_after(b, 1);
+    walker_after(b, 10);
+    walker_after(b, 12);
+    walker_after(b"X", 2);
 }
 
 // The walk from the start: as many steps as there are records, plus one.
@@ -141,6 +169,7 @@ fn cases(b: [u8; 4096]) {
     look(&b, b"frame/");
     walk(&b, 12);
     step(&b, 24);
+    walker(&b);
     let c = removed(b);
     test(b"removed", &c);
     look(&c, b"frame000003.tst");

@@ -12,3 +12,4 @@ pub mod Walks
 pub mod Tags
 pub mod Stored
 pub mod Whole
+pub mod SmallCodes

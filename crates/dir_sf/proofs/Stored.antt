@@ -22,7 +22,7 @@ use Rattle.dir_sf.proofs.Names.{fails, once-head, once-tail}
 use Rattle.dir_sf.proofs.Tested.{used-passes, names-known, once-known}
 
 pub looked-says : Looked-says
-unfolding Looked-says as-looked looked-code looked-inode
+unfolding Looked-says as-looked
 looked-says code i = (by-cases (eqb code 0) (λ q. rw q (sym (eqb-true code 0 q))) (λ q. rw q refl), refl)
 
 -- not "." and not ".."

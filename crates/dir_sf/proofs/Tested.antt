@@ -148,7 +148,7 @@ lent-readable e sane told c z b h f q = rw (used-is e sane told b (sym h ∙ f) 
 
 -- a lookup's number
 lookup-is : (e : Edition) (told : ℕ) (b n : List ℕ) → looked-code (lookup-answer e told b n) ≡ lookup-number e told b n
-unfolding lookup-answer lookup-number looked as-looked looked-code
+unfolding lookup-answer lookup-number looked as-looked
 lookup-is e told b n =
     by-cases (eqb (verdict e told b) 0)
     (λ q. by-cases (eqb (lookup-code e n (entries e (used e b))) 0) (λ h. rw (q, h) (sym (eqb-true _ _ h))) (λ h. rw (q, h) refl))

@@ -156,12 +156,12 @@ lent-short e z b h k = simp (length-take, length-drop) (omega arith)
 
 -- a step's number
 over-is : (e : Edition) (w k p : ℕ) (d : List ℕ) (place : ℕ) → walked-code (step-over e w k p d place) ≡ otherwise (is-place e w k p d place) 11 0
-unfolding step-over is-place walked-code at-end at-entry
+unfolding step-over is-place at-end at-entry
 over-is e w zero p d place = by-cases (eqb place p) (λ q. rw q refl) (λ q. rw q refl)
 over-is e w (suc k) p d place = by-cases (eqb place p) (λ q. rw q refl) (λ q. rw q (over-is e w k (p + long-in e w d) (drop (long-in e w d) d) place))
 
 step-is : (e : Edition) (told : ℕ) (b : List ℕ) (place : ℕ) → walked-code (step-answer e told b place) ≡ step-number e told b place
-unfolding step-answer step-number step-in walked-code
+unfolding step-answer step-number step-in
 step-is e told b place =
     let u : List ℕ = used e b in
     by-cases (eqb (verdict e told b) 0)

@@ -42,11 +42,11 @@ unfoldable pub as-looked : ℕ → ℕ → Looked
 as-looked code i = cond (eqb code 0) (Found i) (Refused code)
 
 -- 01's number for each case, 0 when found, and the inode number that it hands out
-unfoldable pub looked-code : Looked → ℕ
+abbrev pub looked-code : Looked → ℕ
 looked-code (Found i) = 0
 looked-code (Refused n) = n
 
-unfoldable pub looked-inode : Looked → ℕ
+abbrev pub looked-inode : Looked → ℕ
 looked-inode (Found i) = i
 looked-inode (Refused n) = 0
 

@@ -55,7 +55,7 @@ step-number e told b place =
     after-tests e told b (otherwise (is-place e (used-width u) (count-of u) (2 + used-width u) (list-of u) place) 11 0)
 
 -- the number of each case of an answer: 0 when the step is done
-unfoldable pub walked-code : Walked → ℕ
+abbrev pub walked-code : Walked → ℕ
 walked-code (Stepped s) = 0
 walked-code (Refused k) = k
 

@@ -1,0 +1,21 @@
+-- Every number that a test of an inode gives is 0 or one of the paper's 1 to 16.
+-- Assumes nothing.
+use Prim.Native.Nat.{ℕ, _≤_}
+use mathlib.Core.List.{List}
+use borrow.Author.Tests.{leb-true}
+use Rattle.be.proofs.Codes.{otherwise-le}
+use Rattle.edition.specs.declared.Edition.{Edition}
+use Rattle.dinode.specs.Core.{inode-code, directory-code, attributes-code}
+
+module _ (e : Edition) (b : List ℕ) where
+  pub inode-small : inode-code e b ≤ 16
+  unfolding inode-code
+  inode-small = search (otherwise-le, leb-true)
+
+  pub directory-small : directory-code e b ≤ 16
+  unfolding directory-code
+  directory-small = search (otherwise-le, inode-small, leb-true)
+
+  pub attributes-small : attributes-code e b ≤ 16
+  unfolding attributes-code
+  attributes-small = search (otherwise-le, inode-small, leb-true)

@@ -1,0 +1,4 @@
+pub mod Made
+pub mod PlainStep
+pub mod WalkerStep
+pub mod Within
