@@ -41,6 +41,7 @@ pub use refusal::Refusal;
 pub use walk::{Entry, Seen, Step};
 
 /// The published xfs_da_hashname of any bytes.
+#[inline]
 pub fn hash(name: &[u8]) -> u32 {
     // SAFETY: pointer and length are the slice's own; the call reads only.
     unsafe { raw::pzw_hash(name.as_ptr(), name.len()) }

@@ -95,23 +95,26 @@ fn medians<const N: usize>(calls: usize, mut jobs: [Box<dyn FnMut() + '_>; N]) -
     })
 }
 
+fn hashing<'a>(names: &'a [Vec<u8>], hash: impl Fn(&[u8]) -> u32 + 'a) -> Box<dyn FnMut() + 'a> {
+    Box::new(move || {
+        for name in names {
+            black_box(hash(black_box(name)));
+        }
+    })
+}
+
 fn hashes() {
     let mut random = Random(7);
     let names: Vec<_> = (0..1000).map(|_| random.name(255, 255)).collect();
-    let each = |hash: fn(&[u8]) -> u32| {
-        let names = &names;
-        let run = move || {
-            for name in names {
-                black_box(hash(black_box(name)));
-            }
-        };
-        Box::new(run) as Box<dyn FnMut()>
-    };
-    let [ours, rust] = medians(names.len(), [each(hash), each(yardstick::hash)]);
+    let jobs = [
+        hashing(&names, |n| hash(n)),
+        hashing(&names, |n| yardstick::hash(n)),
+    ];
+    let [ours, rust] = medians(names.len(), jobs);
     println!("| hash of 255 bytes | library, ns | Rust loop, ns | ratio |");
     println!("|---|---|---|---|");
     println!(
-        "| 1,000 names | {ours:.0} | {rust:.0} | {:.2} |\n",
+        "| 1,000 names | {ours:.1} | {rust:.1} | {:.2} |\n",
         ours / rust
     );
 }
