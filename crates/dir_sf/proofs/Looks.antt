@@ -5,10 +5,11 @@ use native.Mathlib.Omega.{arith}
 use mathlib.Core.Bool.{Bool, true, false, not}
 use mathlib.Core.Path.{_≡_, refl, sym, _∙_, ap, ap₂}
 use mathlib.Core.List.{List, [], _∷_}
+use lib.Arith.{lt-of-le-ne}
 use lib.Dec.{ltb}
 use lib.ListN.{length, drop}
 use lib.Seq.{drop-drop}
-use borrow.Author.Tests.{lt-ltb, le-ltb, ltb-true, ltb-false, not-true, not-false}
+use borrow.Author.Tests.{lt-ltb, le-ltb, ltb-true, not-true, not-false}
 use Rattle.be.specs.Lists.{same}
 use Rattle.be.specs.Bytes.{byte, field}
 use Rattle.be.proofs.Bools.{by-cases}
@@ -28,9 +29,6 @@ seek-le : (e : Edition) (n : List ℕ) (xs : List Entry) → seek e n xs ≤ len
 unfolding seek
 seek-le e n [] = omega arith
 seek-le e n (x ∷ xs) = by-cases (same-name e n (x .name)) (λ q. rw q (omega arith)) (λ q. rw q (omega (arith, seek-le e n xs)))
-
-below : (i k : ℕ) → i ≤ k → (i ≡ k → ⊥) → i < k
-below i k h f = by-cases (ltb i k) (λ q. ltb-true i k q) (λ q. absurd (f (omega (arith, ltb-false i k q))))
 
 -- the number of the entry that the search finds
 number-seek : (e : Edition) (n : List ℕ) (w k : ℕ) (d : List ℕ) → seek e n (entries-in e w k d) < k
@@ -66,7 +64,7 @@ module _ (e : Edition) (u n : List ℕ) (k wides w i q : ℕ) (a : k ≡ byte 0 
 
   module _ (f : i ≡ k → ⊥) where
     inside : i < k
-    inside = below i k (omega (arith, seek-le e n (entries-in e (width-of wides) k (drop (2 + w) u)), length-entries-in e (width-of wides) k (drop (2 + w) u))) f
+    inside = lt-of-le-ne (omega (arith, seek-le e n (entries-in e (width-of wides) k (drop (2 + w) u)), length-entries-in e (width-of wides) k (drop (2 + w) u))) f
 
     -- the entry that is found lies in the used bytes
     pub hit-in : Readable e u → enough e (width-of wides) 1 (drop q u) ≡ true
