@@ -10,11 +10,6 @@ use pelunziwa::model::{attr, END};
 
 const TESTS: [u32; 8] = [1, 2, 3, 4, 5, 6, 7, 10];
 
-/// The refusals that a call can give beyond those of the tests.
-fn with(more: &[u32]) -> Vec<u32> {
-    [&TESTS, more].concat()
-}
-
 #[test]
 fn short_form_attributes() {
     let mut lab = Lab::new(0xa77e);
@@ -24,9 +19,9 @@ fn short_form_attributes() {
     junk(&mut lab);
     lists(&mut lab);
     println!("{} calls", lab.cover.calls());
-    lab.cover.require("attr_test", &TESTS, &[]);
+    lab.cover.require("attr_test", &TESTS, &[], &[]);
     lab.cover
-        .require("attr_lookup", &with(&[11, 13]), &["empty value"]);
+        .require("attr_lookup", &TESTS, &[11, 13], &["empty value"]);
     let sets = [
         "replaced",
         "appended",
@@ -37,10 +32,10 @@ fn short_form_attributes() {
         "value of 255",
         "count of 255",
     ];
-    lab.cover.require("attr_set", &with(&[11, 15]), &sets);
-    lab.cover.require("attr_remove", &with(&[11, 13]), &[]);
+    lab.cover.require("attr_set", &TESTS, &[11, 15], &sets);
+    lab.cover.require("attr_remove", &TESTS, &[11, 13], &[]);
     lab.cover
-        .require("attr_step_at", &with(&[11]), &["live", "end"]);
+        .require("attr_step_at", &TESTS, &[11], &["live", "end"]);
 }
 
 type Key = (Vec<u8>, u32);

@@ -10,11 +10,6 @@ use pelunziwa::model::{block, entry_size, END};
 
 const TESTS: [u32; 9] = [1, 2, 4, 5, 6, 7, 8, 9, 10];
 
-/// The refusals that a call can give beyond those of the tests.
-fn with(more: &[u32]) -> Vec<u32> {
-    [&TESTS, more].concat()
-}
-
 #[test]
 fn blocks() {
     let mut lab = Lab::new(0xb10c);
@@ -24,14 +19,14 @@ fn blocks() {
     junk(&mut lab);
     lists(&mut lab);
     println!("{} calls", lab.cover.calls());
-    lab.cover.require("block_test", &TESTS, &[]);
+    lab.cover.require("block_test", &TESTS, &[], &[]);
     let compared = [
         "found after 2 or more",
         "absent after none",
         "absent after 2 or more",
     ];
     lab.cover
-        .require("block_lookup", &with(&[11, 13]), &compared);
+        .require("block_lookup", &TESTS, &[11, 13], &compared);
     let rooms = [
         "room (a)",
         "room (b)",
@@ -46,12 +41,12 @@ fn blocks() {
         "leaves no gap",
     ];
     lab.cover
-        .require("block_insert", &with(&[11, 12, 14, 15]), &rooms);
+        .require("block_insert", &TESTS, &[11, 12, 14, 15], &rooms);
     let joins = ["joins none", "joins left", "joins right", "joins both"];
     lab.cover
-        .require("block_remove", &with(&[11, 12, 13]), &joins);
+        .require("block_remove", &TESTS, &[11, 12, 13], &joins);
     let seen = ["live", "gap", "end"];
-    lab.cover.require("block_step", &with(&[11]), &seen);
+    lab.cover.require("block_step", &TESTS, &[11], &seen);
 }
 
 /// The names that the block holds, if it is right.

@@ -27,7 +27,7 @@ fn inodes() {
     forkoffs(&mut lab);
     junk(&mut lab);
     println!("{} calls", lab.cover.calls());
-    lab.cover.require("inode_test", &[1, 2, 3], &[]);
+    lab.cover.require("inode_test", &[1, 2, 3], &[], &[]);
 }
 
 /// Every forkoff and version in every size.
@@ -79,5 +79,5 @@ fn hashes() {
         lab.hash(&bytes);
     }
     println!("{} calls", lab.cover.calls());
-    lab.cover.require("hash", &[], &[]);
+    lab.cover.require("hash", &[], &[], &[]);
 }

@@ -10,11 +10,6 @@ use pelunziwa::model::{sfdir, END};
 
 const TESTS: [u32; 9] = [1, 2, 3, 4, 5, 6, 7, 8, 10];
 
-/// The refusals that a call can give beyond those of the tests.
-fn with(more: &[u32]) -> Vec<u32> {
-    [&TESTS, more].concat()
-}
-
 #[test]
 fn short_form_directories() {
     let mut lab = Lab::new(0x5fd1);
@@ -24,9 +19,9 @@ fn short_form_directories() {
     junk(&mut lab);
     lists(&mut lab);
     println!("{} calls", lab.cover.calls());
-    lab.cover.require("sfdir_test", &TESTS, &[]);
+    lab.cover.require("sfdir_test", &TESTS, &[], &[]);
     lab.cover
-        .require("sfdir_lookup", &with(&[11, 12, 13]), &["the parent"]);
+        .require("sfdir_lookup", &TESTS, &[11, 12, 13], &["the parent"]);
     let rooms = [
         "tag follows",
         "tag hole",
@@ -37,12 +32,12 @@ fn short_form_directories() {
         "fills the fork",
     ];
     lab.cover
-        .require("sfdir_insert", &with(&[11, 12, 14, 15]), &rooms);
+        .require("sfdir_insert", &TESTS, &[11, 12, 14, 15], &rooms);
     let widths = ["wide to narrow", "width kept"];
     lab.cover
-        .require("sfdir_remove", &with(&[11, 12, 13, 16]), &widths);
+        .require("sfdir_remove", &TESTS, &[11, 12, 13, 16], &widths);
     lab.cover
-        .require("sfdir_step", &with(&[11]), &["live", "end"]);
+        .require("sfdir_step", &TESTS, &[11], &["live", "end"]);
 }
 
 /// The names that the directory holds, if it is right.

@@ -135,8 +135,10 @@ impl Cover {
         answers.map(|(_, count)| count).sum()
     }
 
-    /// Prints the counts; fails if something that `call` can reach was not reached.
-    pub fn require(&self, call: &str, refusals: &[u32], notes: &[&str]) {
+    /// Prints the counts; fails if something that `call` can reach was not reached: the refusals of its structure's tests, `more`
+    /// of its own, done, and the notes.
+    pub fn require(&self, call: &str, tests: &[u32], more: &[u32], notes: &[&str]) {
+        let refusals = [tests, more].concat();
         let mut wanted: Vec<String> = refusals.iter().map(|n| format!("refused {n:02}")).collect();
         wanted.push("done".to_string());
         wanted.extend(notes.iter().map(|note| note.to_string()));
