@@ -9,7 +9,7 @@ use lib.Dec.{eqb}
 use lib.ListN.{length, length-append}
 use borrow.Author.Tests.{eq-eqb, eqb-true, not-true}
 use Rattle.be.specs.Lists.{every, some-of, same}
-use Rattle.be.proofs.Bools.{by-cases, and-left, and-right, and-both, clash, neither}
+use Rattle.be.proofs.Bools.{by-cases, and-left, and-right, and-both, clash, neither, or-false}
 use Rattle.name.proofs.Same.{same-eq, same-refl}
 use Rattle.attr_sf.specs.Entry.{Entry, entry, is-key, distinct, others, entry-bytes, run}
 use Rattle.attr_sf.specs.Fork.{size-at, entry-at, entries, tiled, seek}
@@ -90,10 +90,6 @@ distinct-more name flags value (e ∷ es) d n =
   where
     some-more : (p : Entry → Bool) (x : Entry) (es : List Entry) → some-of p (es ++ (x ∷ [])) ≡ (some-of p es || p x)
     some-more p x [] = or-false (p x)
-      where
-        or-false : (a : Bool) → (a || false) ≡ a
-        or-false true = refl
-        or-false false = refl
     some-more p x (e ∷ es) = by-cases (p e) (λ q. rw q) (λ q. rw q (some-more p x es))
 
 pub every-more : (p : Entry → Bool) (x : Entry) (es : List Entry) → every p es ≡ true → p x ≡ true → every p (es ++ (x ∷ [])) ≡ true

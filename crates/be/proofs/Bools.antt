@@ -24,6 +24,19 @@ pub not-right : (a b : Bool) → b ≡ false → (a && b) ≡ false
 not-right true b h = h
 not-right false b h = refl
 
+pub and-true : (a : Bool) → (a && true) ≡ a
+and-true true = refl
+and-true false = refl
+
+pub and-false : (a : Bool) → (a && false) ≡ false
+and-false true = refl
+and-false false = refl
+
+pub and-swap : (a b c : Bool) → (a && (b && c)) ≡ (b && (a && c))
+and-swap true b c = refl
+and-swap false true c = refl
+and-swap false false c = refl
+
 pub or-left : (a b : Bool) → a ≡ true → (a || b) ≡ true
 or-left a b h = rw h
 
@@ -40,9 +53,17 @@ pub neither : (a b : Bool) → (a || b) ≡ false → (a ≡ false) × (b ≡ fa
 neither true b h = absurd (true≢false h)
 neither false b h = (refl, h)
 
-pub or-nothing : (a : Bool) → (a || false) ≡ a
-or-nothing true = refl
-or-nothing false = refl
+pub or-true : (a : Bool) → (a || true) ≡ true
+or-true true = refl
+or-true false = refl
+
+pub or-false : (a : Bool) → (a || false) ≡ a
+or-false true = refl
+or-false false = refl
+
+pub or-cases : {P : Type 0} (a b : Bool) → (a || b) ≡ true → (a ≡ true → P) → (b ≡ true → P) → P
+or-cases true b h f g = f refl
+or-cases false b h f g = g h
 
 pub clash : {a : Bool} → a ≡ true → a ≡ false → ⊥
 clash p q = true≢false (sym p ∙ q)
@@ -65,6 +86,13 @@ module _ {A : Type 0} (p : A → Bool) where
   pub every-append : (xs ys : List A) → every p (xs ++ ys) ≡ (every p xs && every p ys)
   every-append [] ys = refl
   every-append (x ∷ xs) ys = by-cases (p x) (λ h. rw h (every-append xs ys)) (λ h. rw h refl)
+
+  pub every-keep : (q : A → Bool) (xs : List A) → every p xs ≡ true → every p (keep q xs) ≡ true
+  every-keep q [] h = refl
+  every-keep q (x ∷ xs) h =
+      by-cases (q x)
+      (λ y. rw y (every-cons x (keep q xs) (every-head x xs h) (every-keep q xs (every-tail x xs h))))
+      (λ y. rw y (every-keep q xs (every-tail x xs h)))
 
   pub keep-append : (xs ys : List A) → keep p (xs ++ ys) ≡ keep p xs ++ keep p ys
   keep-append [] ys = refl

@@ -10,12 +10,8 @@ use lib.ListN.{length}
 use borrow.Author.Tests.{eqb-true, eqb-false, leb-true}
 use Rattle.be.specs.Bytes.{byte}
 use Rattle.edition.specs.declared.Edition.{Edition}
-use Rattle.be.proofs.Bools.{by-cases, and-right}
+use Rattle.be.proofs.Bools.{by-cases, and-right, or-cases}
 use Rattle.dinode.specs.Core.{inode-size, version-ok, magic-ok, kind-ok, inode-code, directory-code, attributes-code, directory-ok, attributes-ok, attr-start}
-
-or-cases : {P : Type 0} (a b : Bool) → (a || b) ≡ true → (a ≡ true → P) → (b ≡ true → P) → P
-or-cases true b h f g = f refl
-or-cases false b h f g = g h
 
 pub size-long : (n : ℕ) → inode-size n ≡ true → (256 ≤ n) × (n ≤ 2048)
 unfolding inode-size

@@ -26,7 +26,7 @@ use Rattle.dir_laws.specs.Tiled.{Ready}
 use Rattle.dir_laws.specs.SlotPlaces.{all-below, all-from, Spot}
 use Rattle.dir_laws.proofs.RecordSteps.{end-fits}
 use Rattle.dir_laws.proofs.SlotSearch.{slots-drop, tiled, length-slots}
-use Rattle.dir_laws.proofs.IndexStores.{put-front, slot-front, one-slot, insert-at, tail-stored, stale-some}
+use Rattle.dir_laws.proofs.IndexStores.{put-front, slot-front, one-slot, insert-at, tail-stored, stale-some, take-slots}
 
 -- ---- one slot
 
@@ -137,12 +137,6 @@ slots-before b (suc k) o w xs h =
     ∙ ap₂ (λ (x y : List ℕ). slot (be x) (be y) ∷ slots-in k (drop (o + 8) (put b w xs))) (part-before b o 4 w xs (omega arith)) (part-before b (o + 4) 4 w xs (omega arith))
     ∙ ap (λ (l : List Slot). slot (field o 4 b) (field (o + 4) 4 b) ∷ l) (slots-before b k (o + 8) w xs (omega arith))
     ∙ sym (g b)
-
-take-slots : (k n : ℕ) (d : List ℕ) → k ≤ n → take k (slots-in n d) ≡ slots-in k d
-unfolding slots-in
-take-slots zero n d h = refl
-take-slots (suc k) zero d h = absurd (omega arith)
-take-slots (suc k) (suc n) d h = ap (λ (l : List Slot). slot (field 0 4 d) (field 4 4 d) ∷ l) (take-slots k n (drop 8 d) (omega arith))
 
 keep-below : (h : ℕ) (q : Slot → Bool) (l : List Slot) → all-below h l ≡ true → all-below h (keep q l) ≡ true
 unfolding all-below

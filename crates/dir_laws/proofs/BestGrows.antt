@@ -14,8 +14,8 @@ use Rattle.dir_rules.specs.Record.{Rec, size, besides}
 use Rattle.dir_rules.specs.Room.{longest}
 use Rattle.dir_rules.specs.Verdict.{Pair, pair}
 use Rattle.dir_rules.specs.Change.{best-of}
-use Rattle.be.proofs.Bools.{by-cases, every-head, every-tail, every-cons, keep-append}
-use Rattle.dir_rules.proofs.GoodParts.{every-longest}
+use Rattle.be.proofs.Bools.{by-cases, every-head, every-tail, every-cons, keep-append, every-keep}
+use Rattle.dir_rules.proofs.GoodParts.{every-longest, length-best}
 use Rattle.dir_laws.specs.BestSoFar.{ins}
 
 -- the longest with one record more at the end
@@ -39,12 +39,6 @@ longest-more (x ∷ xs) g h =
     (λ q. rw (e, q) (rw (le-ltb (size x) (size g) (omega (arith, leb-true (size (longest xs)) (size x) q, ltb-false (size (longest xs)) (size g) p)))))
     (λ q. rw (e, q) (rw p)))
 
-pub length-best : (k : ℕ) (gs : List Rec) → length (best-of k gs) ≡ k
-unfolding best-of
-length-best zero gs = refl
-length-best (suc k) [] = ap suc (length-best k [])
-length-best (suc k) (g ∷ gs) = ap suc (length-best k (besides (longest (g ∷ gs) .off) (g ∷ gs)))
-
 take-best : (k : ℕ) (gs : List Rec) → take k (best-of (suc k) gs) ≡ best-of k gs
 unfolding best-of
 take-best zero gs = refl
@@ -60,13 +54,6 @@ elsewhere o r = not (eqb (r .off) o)
 keep-all : (p : Rec → Bool) (l : List Rec) → every p l ≡ true → keep p l ≡ l
 keep-all p [] h = refl
 keep-all p (x ∷ l) h = rw (every-head p x l h, keep-all p l (every-tail p x l h))
-
-pub every-keep : (p q : Rec → Bool) (l : List Rec) → every p l ≡ true → every p (keep q l) ≡ true
-every-keep p q [] h = refl
-every-keep p q (x ∷ l) h =
-    by-cases (q x)
-    (λ y. rw y (every-cons p x (keep q l) (every-head p x l h) (every-keep p q l (every-tail p x l h))))
-    (λ y. rw y (every-keep p q l (every-tail p x l h)))
 
 -- one step of the table
 best-step : (k : ℕ) (gs : List Rec) → 0 < length gs → best-of (suc k) gs ≡ pair (longest gs .off) (size (longest gs)) ∷ best-of k (besides (longest gs .off) gs)

@@ -28,7 +28,7 @@ use Rattle.dir_laws.specs.Tiled.{Ready}
 use Rattle.dir_laws.specs.SlotPlaces.{all-below, all-from, Spot, First-stale}
 use Rattle.be.proofs.Writes.{put-next, put-comm, put-same, part-behind}
 use Rattle.dir_laws.proofs.RecordSteps.{end-fits}
-use Rattle.dir_laws.proofs.SlotSearch.{slots-drop, slot-at, tiled, length-slots}
+use Rattle.dir_laws.proofs.SlotSearch.{slots-drop, slot-at, tiled, length-slots, all-tail}
 
 -- ---- writes that keep what stands at one of their ends
 
@@ -53,7 +53,7 @@ put-front b o p xs ys h = sym (put-comm b o xs p ys (omega arith)) ∙ put-next 
 abbrev pub run-of : List ℕ → ℕ → ℕ → List Slot
 run-of b i k = take k (drop i (slots b))
 
-take-slots : (k n : ℕ) (d : List ℕ) → k ≤ n → take k (slots-in n d) ≡ slots-in k d
+pub take-slots : (k n : ℕ) (d : List ℕ) → k ≤ n → take k (slots-in n d) ≡ slots-in k d
 unfolding slots-in
 take-slots zero n d h = refl
 take-slots (suc k) zero d h = absurd (omega arith)
@@ -154,10 +154,6 @@ from-append : (h : ℕ) (us vs : List Slot) → all-from h (us ++ vs) ≡ (all-f
 unfolding all-from
 from-append h us vs = every-append (λ s. leb h (s .hash)) us vs
 
-from-tail : (h : ℕ) (s : Slot) (vs : List Slot) → all-from h (s ∷ vs) ≡ true → all-from h vs ≡ true
-unfolding all-from
-from-tail h s vs p = every-tail (λ s. leb h (s .hash)) s vs p
-
 pub run-split : (b : List ℕ) (i k m n : ℕ) → k + m ≡ n → run-of b i n ≡ run-of b i k ++ run-of b (i + k) m
 run-split b i k m n q =
     ap (λ (x : ℕ). take x (drop i (slots b))) (sym q) ∙ take-add k m (drop i (slots b)) ∙ ap (λ (l : List Slot). take k (drop i (slots b)) ++ take m l) (drop-drop k i (slots b))
@@ -245,7 +241,7 @@ module _ (e : Edition) (b : List ℕ) (r : Ready e b) (h a p j : ℕ) (s : Slot)
         sym (from-append (suc h) (run-of b p (j - p)) (s ∷ run-of b (j + 1) (count-of b - (j + 1)))) ∙ ap (all-from (suc h)) (sym w) ∙ above in
         from-append (suc h) (run-of b p (j - p)) (run-of b (j + 1) (count-of b - (j + 1)))
         ∙ and-both (all-from (suc h) (run-of b p (j - p))) (all-from (suc h) (run-of b (j + 1) (count-of b - (j + 1)))) (and-left (all-from (suc h) (run-of b p (j - p))) _ v)
-        (from-tail (suc h) s (run-of b (j + 1) (count-of b - (j + 1))) (and-right (all-from (suc h) (run-of b p (j - p))) _ v))
+        (all-tail (suc h) s (run-of b (j + 1) (count-of b - (j + 1))) (and-right (all-from (suc h) (run-of b p (j - p))) _ v))
 
     pub up-slots : insert-slot (slot h a) (without-first is-stale (slots b)) ≡ run-of b 0 p ++ slot h a ∷ (run-of b p (j - p) ++ run-of b (j + 1) (count-of b - (j + 1)))
     up-slots =

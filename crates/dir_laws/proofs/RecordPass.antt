@@ -10,6 +10,7 @@ use lib.Dec.{eqb}
 use lib.ListN.{take, drop, getD}
 use lib.Seq.{drop-drop, getD-drop}
 use borrow.Author.Tests.{eq-eqb, ne-eqb}
+use Rattle.dir_rules.proofs.InsertCases.{last-is}
 use Rattle.be.specs.Lists.{every}
 use Rattle.be.specs.Bytes.{be, be-from, field}
 use Rattle.be.proofs.Bools.{keep-append}
@@ -25,15 +26,15 @@ use Rattle.dir_laws.specs.Tiled.{Tiled}
 use Rattle.dir_laws.specs.BestSoFar.{ins}
 use Rattle.dir_laws.specs.Pass.{Passing, Scanned}
 use Rattle.dir_laws.proofs.BestGrows.{best-more, elsewhere}
-use Rattle.dir_laws.proofs.RecordSteps.{Here, here, none-left, laid-elsewhere, last-more}
+use Rattle.dir_laws.proofs.RecordSteps.{Here, here, none-left, laid-elsewhere}
 
 touch-gap : (o : ℕ) (xs : List Rec) (y : Rec) → is-gap y ≡ true → touching o (xs ++ (y ∷ [])) ≡ y
 unfolding touching
-touch-gap o xs y g = rw (last-more o xs y) (rw g)
+touch-gap o xs y g = rw (last-is o xs y) (rw g)
 
 touch-entry : (o : ℕ) (xs : List Rec) (y : Rec) → is-gap y ≡ false → touching o (xs ++ (y ∷ [])) ≡ rec o []
 unfolding touching
-touch-entry o xs y g = rw (last-more o xs y) (rw g)
+touch-entry o xs y g = rw (last-is o xs y) (rw g)
 
 gaps-gap : (xs : List Rec) (y : Rec) → is-gap y ≡ true → gaps (xs ++ (y ∷ [])) ≡ gaps xs ++ (y ∷ [])
 gaps-gap xs y g = keep-append is-gap xs (y ∷ []) ∙ ap (λ (l : List Rec). gaps xs ++ l) (rw g)

@@ -18,7 +18,7 @@ use Rattle.dir_rules.specs.Verdict.{span-ok}
 use Rattle.dir_rules.specs.Room.{last-of}
 use Rattle.be.proofs.Bools.{by-cases, and-left, every-cons, and-right}
 use Rattle.dir_rules.proofs.CutJoin.{Whole, Laid, join, join-append, laid-back, laid-front, says-append, gap-start-append}
-use Rattle.dir_rules.proofs.BlockParts.{tail-bytes, build-end, refit, rebuild}
+use Rattle.dir_rules.proofs.BlockParts.{tail-bytes, build-end, refit, rebuild, room-for as span-room, end-is as span-end}
 use Rattle.dir_laws.specs.Tiled.{Tiled}
 use Rattle.dir_laws.proofs.BestGrows.{elsewhere}
 
@@ -31,12 +31,6 @@ laid-elsewhere e o p q (x ∷ xs) l h =
     by-cases (q x)
     (λ y. rw y (every-cons (elsewhere p) x (keep q xs) (rw (ne-eqb (x .off) p (λ (z : x .off ≡ p). omega (arith, l .0, l .1 .least)))) r))
     (λ y. rw y r)
-
-pub last-more : (o : ℕ) (xs : List Rec) (y : Rec) → last-of o (xs ++ (y ∷ [])) ≡ y
-unfolding last-of
-last-more o [] y = refl
-last-more o (x ∷ []) y = refl
-last-more o (x ∷ z ∷ xs) y = last-more o (z ∷ xs) y
 
 -- the tail, as the code reads it
 pub count-read : (b : List ℕ) (x : ℕ) → x ≡ field (length b - 8) 4 b → x ≡ count-of b
@@ -53,16 +47,14 @@ end-read b x q = ap (λ (c : ℕ). length b - 8 - 8 * c) q
 
 module _ (e : Edition) (b : List ℕ) (t : Tiled e b) where
   pub room-for : e .header + 8 * count-of b + 8 ≤ length b
-  unfolding span-ok
-  room-for = leb-true (e .header + 8 * count-of b + 8) (length b) (and-left _ _ (t .span))
+  room-for = span-room e b (t .are-bytes) (t .span) (t .wholes)
 
   pub stale-most : stale-of b ≤ count-of b
   unfolding span-ok
   stale-most = leb-true (stale-of b) (count-of b) (and-right (leb (e .header + 8 * count-of b + 8) (length b)) _ (t .span))
 
   pub end-fits : data-end b + 8 * count-of b + 8 ≡ length b
-  unfolding data-end
-  end-fits = omega (arith, room-for)
+  end-fits = span-end e b (t .are-bytes) (t .span) (t .wholes)
 
   pub head-end : e .header ≤ data-end b
   unfolding data-end

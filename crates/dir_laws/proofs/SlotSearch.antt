@@ -209,7 +209,7 @@ seek-step : (e : Edition) (b n : List ℕ) (h k c : ℕ) (s : Slot) (ss : List S
 unfolding seek
 seek-step e b n h k c s ss = refl
 
-all-tail : (h : ℕ) (s : Slot) (ss : List Slot) → all-from h (s ∷ ss) ≡ true → all-from h ss ≡ true
+pub all-tail : (h : ℕ) (s : Slot) (ss : List Slot) → all-from h (s ∷ ss) ≡ true → all-from h ss ≡ true
 unfolding all-from
 all-tail h s ss p = every-tail (λ s. leb h (s .hash)) s ss p
 

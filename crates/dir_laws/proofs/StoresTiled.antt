@@ -22,17 +22,11 @@ use Rattle.be.proofs.Bools.{and-left}
 use Rattle.be.proofs.Writes.{length-put, put-next, drop-put}
 use Rattle.be.proofs.Numbers.{length-to-be}
 use Rattle.dir_rules.proofs.WritesLeave.{written-append}
-use Rattle.dir_rules.proofs.GoodParts.{block-bound}
+use Rattle.dir_rules.proofs.GoodParts.{block-bound, length-pair-bytes, length-best}
 use Rattle.dir_rules.proofs.Acceptance.{Passed, passed, tile-whole}
 use Rattle.dir_rules.proofs.StaysBytes.{bytes-written, all-remove}
 use Rattle.dir_rules.proofs.LookupFinds.{removed-of}
 use Rattle.dir_laws.specs.Tiled.{Tiled, Ready}
-use Rattle.dir_laws.proofs.BestGrows.{length-best}
-
-length-pairs : (ps : List Pair) → length (pair-bytes ps) ≡ 4 * length ps
-unfolding pair-bytes
-length-pairs [] = refl
-length-pairs (p ∷ ps) = simp (length-append, length-to-be) (omega (arith, length-pairs ps))
 
 -- the best-gap table stands in the header, so the rest is read as before
 module _ (e : Edition) (sane : Sane e) (w : List ℕ) where
@@ -40,7 +34,7 @@ module _ (e : Edition) (sane : Sane e) (w : List ℕ) where
   unfolding with-best written
   behind-header k h =
       drop-put w k (e .best) (pair-bytes (best-of 3 (gaps (records e w))))
-      (omega (arith, length-pairs (best-of 3 (gaps (records e w))), length-best 3 (gaps (records e w)), sane .best-inside))
+      (omega (arith, length-pair-bytes (best-of 3 (gaps (records e w))), length-best 3 (gaps (records e w)), sane .best-inside))
 
   long-same : length (with-best e w) ≡ length w
   unfolding with-best written

@@ -141,7 +141,7 @@ length-slots-in zero d = refl
 length-slots-in (suc n) d = ap suc (length-slots-in n (drop 8 d))
 
 module _ (e : Edition) (b : List ℕ) (h : bytes b ≡ true) (sp : span-ok e b ≡ true) (w : every (whole e) (records e b) ≡ true) where
-  room-for : e .header + 8 * count-of b + 8 ≤ length b
+  pub room-for : e .header + 8 * count-of b + 8 ≤ length b
   unfolding span-ok
   room-for = leb-true _ _ (and-left _ _ sp)
 
@@ -149,7 +149,7 @@ module _ (e : Edition) (b : List ℕ) (h : bytes b ≡ true) (sp : span-ok e b �
   unfolding slots
   slots-count = length-slots-in (count-of b) (drop (data-end b) b)
 
-  end-is : data-end b + 8 * count-of b + 8 ≡ length b
+  pub end-is : data-end b + 8 * count-of b + 8 ≡ length b
   unfolding data-end
   end-is = omega (arith, room-for)
 

@@ -15,7 +15,7 @@ use Rattle.dir_rules.specs.Record.{Rec, name, number, entries}
 use Rattle.dir_rules.specs.Block.{records}
 use Rattle.dir_rules.specs.Verdict.{once-ok}
 use Rattle.dir_rules.specs.Book.{Held, held, Book, book-of, named, holds, inode-of, same-held, SameBook}
-use Rattle.be.proofs.Bools.{and-left, and-right, and-both, by-cases, clash}
+use Rattle.be.proofs.Bools.{and-left, and-right, and-both, by-cases, clash, neither, and-false}
 use Rattle.dir_rules.proofs.OneMore.{some-mid, tally-mid, once-mid, alone}
 use Rattle.dir_rules.proofs.RecordPlaces.{Split, split-cons, some-split, some-at, tally-split}
 
@@ -78,11 +78,7 @@ some-sub p q f [] h = refl
 some-sub p q f (x ∷ l) h =
     by-cases (p x)
     (λ y. absurd (true≢false (rw (f x y) at h)))
-    (λ y. rw y (some-sub p q f l (or-no (q x) (some-of q l) h)))
-  where
-    or-no : (a b : Bool) → (a || b) ≡ false → b ≡ false
-    or-no true b h = absurd (true≢false h)
-    or-no false b h = h
+    (λ y. rw y (some-sub p q f l (neither (q x) (some-of q l) h .1)))
 
 -- names are stored once: what holds of one entry holds of each entry of the same name
 module _ (e : Edition) (es : List Rec) (once : once-ok e es ≡ true) where
@@ -96,15 +92,11 @@ module _ (e : Edition) (es : List Rec) (once : once-ok e es ≡ true) where
       sym (once-mid e (s .before) r (s .behind)) ∙ subst (λ (l : List Rec). once-ok e l ≡ true) (s .is) once in
       let nn : some-of nm rest ≡ false = not-true (some-of nm rest) (and-left (alone e r rest) (once-ok e rest) al) in
       let np : some-of p rest ≡ false = some-sub p nm (λ x y. and-left (same-name e (name r) (name x)) (not (q x)) y) rest nn in
-      let pr : p r ≡ false = rw qs (and-no (same-name e (name r) (name r))) in
+      let pr : p r ≡ false = rw qs (and-false (same-name e (name r) (name r))) in
       let all : some-of p es ≡ false = ap (some-of p) (s .is) ∙ some-mid p (s .before) r (s .behind) ∙ rw (pr, np) refl in
       by-cases (q (t .here)) (λ y. y)
       (λ y. let pt : p (t .here) ≡ true = rw (sn, y) refl in
       absurd (clash (ap (some-of p) (t .is) ∙ some-at p (t .before) (t .here) (t .behind) pt) all))
-    where
-      and-no : (a : Bool) → (a && false) ≡ false
-      and-no true = refl
-      and-no false = refl
 
   pub one-number : (s t : Split es) → same-name e (name (s .here)) (name (t .here)) ≡ true → number (t .here) ≡ number (s .here)
   one-number s t sn =

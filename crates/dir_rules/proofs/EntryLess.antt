@@ -13,7 +13,7 @@ use Rattle.name.specs.Name.{legal-name, legal-number, hash-of, fixed-name, dot,
 use Rattle.dir_rules.specs.Record.{Rec, apart, entries, name, number}
 use Rattle.dir_rules.specs.Block.{Slot, slot, is-stale, is-live}
 use Rattle.dir_rules.specs.Verdict.{names-ok, numbers-ok, once-ok, name-ok, entry-at, has-slot}
-use Rattle.be.proofs.Bools.{and-left, and-right, and-both, every-head, every-tail, every-cons, or-second}
+use Rattle.be.proofs.Bools.{and-left, and-right, and-both, every-head, every-tail, every-cons, or-second, neither}
 use Rattle.dir_rules.proofs.SlotCounts.{Apart, at-addr}
 use Rattle.dir_rules.proofs.SlotOrder.{From}
 use Rattle.dir_rules.proofs.IndexedEntries.{Indexed, Slotted, slotted, →slotted, at-both, addr-of}
@@ -70,10 +70,6 @@ or-none-left : (a b : Bool) → (a || b) ≡ false → a ≡ false
 or-none-left true b h = h
 or-none-left false b h = refl
 
-or-none-right : (a b : Bool) → (a || b) ≡ false → b ≡ false
-or-none-right true b h = absurd (true≢false h)
-or-none-right false b h = h
-
 pub good-remove : (e : Edition) (rs rs′ xs : List Rec) (x : Rec) (ys : List Rec) (us : List Slot) (s : Slot) (vs : List Slot) (st : ℕ)
     → Good e rs (us ++ s ∷ vs) st → Apart (s .addr ∷ map addr-of (xs ++ ys)) → apart rs′ ≡ true
     → entries rs ≡ xs ++ x ∷ ys → entries rs′ ≡ xs ++ ys → fixed-name (name x) ≡ false
@@ -93,7 +89,7 @@ good-remove e rs rs′ xs x ys us s vs st g a ap′ old new fx =
     let o0 : eqb (x .off) (e .header) ≡ false =
     beq-false (same (name x) dot) (eqb (x .off) (e .header)) (and-right l p (and-left (l && p) q nx)) (or-none-left (same (name x) dot) (same (name x) dotdot) fx) in
     let o1 : eqb (x .off) (e .header + 16) ≡ false =
-    beq-false (same (name x) dotdot) (eqb (x .off) (e .header + 16)) (and-right (l && p) q nx) (or-none-right (same (name x) dot) (same (name x) dotdot) fx) in
+    beq-false (same (name x) dotdot) (eqb (x .off) (e .header + 16)) (and-right (l && p) q nx) (neither (same (name x) dot) (same (name x) dotdot) fx .1) in
     let d0 : some-of (λ r. eqb (r .off) (e .header)) (xs ++ ys) ≡ true =
     or-second (eqb (x .off) (e .header)) (some-of (λ r. eqb (r .off) (e .header)) (xs ++ ys))
     (sym (some-mid (λ (r : Rec). eqb (r .off) (e .header)) xs x ys)

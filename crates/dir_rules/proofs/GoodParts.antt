@@ -19,7 +19,7 @@ use Rattle.dir_rules.specs.Block.{Slot, slot-bytes, is-stale}
 use Rattle.dir_rules.specs.Verdict.{Accepted, Pair, size-ok, magic-ok, span-ok, names-ok, numbers-ok, best-pairs, pairs-in, once-ok}
 use Rattle.dir_rules.specs.Room.{longest}
 use Rattle.dir_rules.specs.Change.{best-of, best-table, pair-bytes, with-best}
-use Rattle.be.proofs.Bools.{and-left, and-right, and-both, by-cases, every-head, every-tail, every-cons}
+use Rattle.be.proofs.Bools.{and-left, and-right, and-both, by-cases, every-head, every-tail, every-cons, every-keep}
 use Rattle.be.proofs.Parts.{piece}
 use Rattle.be.proofs.Numbers.{length-to-be}
 use Rattle.be.proofs.Writes.{put-inside, put-at, length-put}
@@ -50,13 +50,6 @@ laid-small e p o (r ∷ rs) l h =
     (and-both (ltb (r .off) (256 ^ 2)) (ltb (size r) (256 ^ 2)) (lt-ltb (r .off) (256 ^ 2) (omega (arith, l .0))) (lt-ltb (size r) (256 ^ 2) (omega arith))) rest))
     (λ q. rw q rest)
 
-every-keep : (p q : Rec → Bool) (l : List Rec) → every p l ≡ true → every p (keep q l) ≡ true
-every-keep p q [] h = refl
-every-keep p q (x ∷ l) h =
-    by-cases (q x)
-    (λ y. rw y (every-cons p x (keep q l) (every-head p x l h) (every-keep p q l (every-tail p x l h))))
-    (λ y. rw y (every-keep p q l (every-tail p x l h)))
-
 -- a test that passes at every record passes at the longest
 pub every-longest : (p : Rec → Bool) (g : Rec) (gs : List Rec) → every p (g ∷ gs) ≡ true → p (longest (g ∷ gs)) ≡ true
 unfolding longest
@@ -78,7 +71,7 @@ pairs-fit (suc k) (g ∷ gs) h =
       pairs-fit k (besides (m .off) (g ∷ gs)) (every-keep small (λ r. not (eqb (r .off) (m .off))) (g ∷ gs) h),
     )
 
-length-best : (k : ℕ) (gs : List Rec) → length (best-of k gs) ≡ k
+pub length-best : (k : ℕ) (gs : List Rec) → length (best-of k gs) ≡ k
 unfolding best-of
 length-best zero gs = refl
 length-best (suc k) [] = ap suc (length-best k [])
@@ -88,7 +81,7 @@ length-best (suc k) (g ∷ gs) = ap suc (length-best k (besides (longest (g ∷ 
 length-table : (gs : List Rec) → length (best-table gs) ≡ 3
 length-table gs = length-best _ gs
 
-length-pair-bytes : (ps : List Pair) → length (pair-bytes ps) ≡ 4 * length ps
+pub length-pair-bytes : (ps : List Pair) → length (pair-bytes ps) ≡ 4 * length ps
 unfolding pair-bytes
 length-pair-bytes [] = refl
 length-pair-bytes (p ∷ ps) = simp (length-append, length-to-be) (omega (arith, length-pair-bytes ps))

@@ -50,7 +50,7 @@ pub data Touch (o : ℕ) (rs : List Rec) : Type 0 where
   real : (xs : List Rec) (t : Rec) → rs ≡ xs ++ (t ∷ []) → is-gap t ≡ true → touching o rs ≡ t → Touch o rs
   unreal : touching o rs ≡ rec o [] → Touch o rs
 
-last-is : (o : ℕ) (xs : List Rec) (t : Rec) → last-of o (xs ++ (t ∷ [])) ≡ t
+pub last-is : (o : ℕ) (xs : List Rec) (t : Rec) → last-of o (xs ++ (t ∷ [])) ≡ t
 unfolding last-of
 last-is o [] t = refl
 last-is o (x ∷ []) t = refl

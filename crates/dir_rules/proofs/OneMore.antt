@@ -12,12 +12,7 @@ use Rattle.edition.specs.declared.Edition.{Edition}
 use Rattle.name.specs.Name.{same-name}
 use Rattle.dir_rules.specs.Record.{Rec, name}
 use Rattle.dir_rules.specs.Verdict.{once-ok}
-use Rattle.be.proofs.Bools.{by-cases}
-
-and-swap : (a b c : Bool) → (a && (b && c)) ≡ (b && (a && c))
-and-swap true b c = refl
-and-swap false true c = refl
-and-swap false false c = refl
+use Rattle.be.proofs.Bools.{by-cases, and-swap}
 
 or-swap : (a b c : Bool) → (a || (b || c)) ≡ (b || (a || c))
 or-swap false b c = refl

@@ -17,7 +17,7 @@ use Rattle.dinode.proofs.Sound.{sound-size, sound-fits, directory-sound}
 use Rattle.dir_sf.specs.Fork.{fork-verdict}
 use Rattle.dir_sf.specs.Inode.{verdict}
 
-least : (k : ℕ) → (k ≡ 0 → ⊥) → 1 ≤ k
+pub least : (k : ℕ) → (k ≡ 0 → ⊥) → 1 ≤ k
 least zero z = absurd (z refl)
 least (suc k) z = omega arith
 

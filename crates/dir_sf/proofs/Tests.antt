@@ -12,7 +12,7 @@ use lib.Seq.{drop-drop}
 use borrow.Author.Tests.{le-leb, lt-leb, lt-ltb, le-ltb, ltb-true, ltb-false, eq-eqb, ne-eqb, not-true, not-false}
 use Rattle.be.specs.Lists.{every}
 use Rattle.be.specs.Bytes.{field}
-use Rattle.be.proofs.Bools.{by-cases}
+use Rattle.be.proofs.Bools.{by-cases, and-false}
 use Rattle.edition.specs.declared.Edition.{Edition}
 use Rattle.edition.specs.Edition.{entry-size, Sane}
 use Rattle.name.specs.Name.{legal-name, legal-number, fixed-name, same-name}
@@ -22,10 +22,6 @@ use Rattle.dir_sf.specs.Change.{seek}
 use Rattle.dir_sf.proofs.Run.{Run, length-entries-in, run-start, run-on, run-rest, run-over, run-whole, long-at-is, name-at-is, tag-at-is, inode-at-is}
 
 -- ---- TILE
-
-and-false : (a : Bool) → (a && false) ≡ false
-and-false true = refl
-and-false false = refl
 
 tiles-on : (e : Edition) (w told all low k : ℕ) (d : List ℕ) → long-in e w d ≤ length d → entry-in e w d .tag % 8 ≡ 0 → low ≤ entry-in e w d .tag
     → tiles e w told all low (suc k) d ≡ tiles e w told all (next-tag e (entry-in e w d)) k (drop (long-in e w d) d)

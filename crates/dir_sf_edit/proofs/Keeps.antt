@@ -8,6 +8,7 @@ use mathlib.Core.List.{List, [], _∷_}
 use lib.Dec.{eqb, leb, ltb}
 use lib.ListN.{length, length-append}
 use borrow.Author.Tests.{leb-true, eqb-true, eqb-false, eq-eqb, not-true, lt-ltb}
+use Rattle.dir_sf.proofs.Inodes.{least}
 use Rattle.be.proofs.Bools.{and-left, and-right, and-both, by-cases}
 use Rattle.be.proofs.Codes.{passes}
 use Rattle.edition.specs.declared.Edition.{Edition}
@@ -20,10 +21,6 @@ use Rattle.dir_sf_edit.proofs.ReadBack.{length-entry-bytes, length-lay}
 use Rattle.dir_sf_edit.proofs.Accepted.{Good, laid-accepted}
 use Rattle.dir_sf_edit.proofs.Removes.{removed-good}
 use Rattle.dir_sf_edit.proofs.Inserts.{Tags, every-placed, length-placed, tally-placed, placed-once, placed-last, placed-in-gap, end-eights}
-
-least : (k : ℕ) → (k ≡ 0 → ⊥) → 1 ≤ k
-least zero z = absurd (z refl)
-least (suc k) z = omega arith
 
 -- what an insert that is done has passed
 module _ (e : Edition) (told p : ℕ) (n : List ℕ) (kind i : ℕ) (xs : List Entry) (fork : ℕ) (done : insert-code e told fork n kind i p xs ≡ 0) where

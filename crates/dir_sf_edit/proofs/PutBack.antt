@@ -8,6 +8,7 @@ use mathlib.Core.List.{List, [], _∷_}
 use lib.Dec.{leb}
 use lib.ListN.{length, length-append}
 use borrow.Author.Tests.{le-leb, ne-eqb, not-true}
+use Rattle.dir_sf_edit.proofs.TagScans.{end-cons, end-none, gap-here}
 use Rattle.be.specs.Lists.{every}
 use Rattle.be.proofs.Bools.{by-cases, clash, and-right, every-head, every-tail}
 use Rattle.be.proofs.Codes.{passes}
@@ -35,21 +36,9 @@ pub record Room (e : Edition) (long low : ℕ) (xs ys : List Entry) (last : Bool
   pub behind : last ≡ true → end-tag e low ys + long ≤ end-tag e low xs
   pub between : last ≡ false → 1 ≤ gap-tag e long low ys
 
-gap-first : (e : Edition) (long low : ℕ) (z : Entry) (zs : List Entry) → low + long ≤ z .tag → gap-tag e long low (z ∷ zs) ≡ low
-unfolding gap-tag
-gap-first e long low z zs h = rw (le-leb _ _ h) refl
-
 gap-more : (e : Edition) (long low : ℕ) (x : Entry) (ys : List Entry) → 1 ≤ low → 1 ≤ gap-tag e long (next-tag e x) ys → 1 ≤ gap-tag e long low (x ∷ ys)
 unfolding gap-tag
 gap-more e long low x ys h k = by-cases (leb (low + long) (x .tag)) (λ q. rw q h) (λ q. rw q k)
-
-end-next : (e : Edition) (low : ℕ) (x : Entry) (xs : List Entry) → end-tag e low (x ∷ xs) ≡ end-tag e (next-tag e x) xs
-unfolding end-tag
-end-next e low x xs = refl
-
-end-none : (e : Edition) (low : ℕ) → end-tag e low [] ≡ low
-unfolding end-tag
-end-none e low = refl
 
 -- whether the first entry of the name is the last of all
 last-of : Edition → List ℕ → List Entry → Bool
@@ -63,7 +52,7 @@ unfolding last-of
 head-room e n low x [] q l t =
     let g = tagged e low x [] t in
     record {
-      behind = λ z. omega (arith, end-next e low x [], end-none e (next-tag e x), end-none e low, same-size e n x q, g .least);
+      behind = λ z. omega (arith, end-cons e low x [], end-none e (next-tag e x), end-none e low, same-size e n x q, g .least);
       between = λ z. absurd (clash refl z);
     }
 head-room e n low x (y ∷ ys) q l t =
@@ -71,7 +60,7 @@ head-room e n low x (y ∷ ys) q l t =
     let h = tagged e (next-tag e x) y ys (g .rest) in
     record {
       behind = λ z. absurd (clash z (rw q refl));
-      between = λ z. omega (arith, gap-first e (entry-size e (length n)) low y ys (omega (arith, same-size e n x q, g .least, h .least)));
+      between = λ z. omega (arith, gap-here e (entry-size e (length n)) low y ys (omega (arith, same-size e n x q, g .least, h .least)));
     }
 
 last-tail : (e : Edition) (n : List ℕ) (x : Entry) (xs : List Entry) → same-name e n (x .name) ≡ false → holds e n xs ≡ true → last-of e n (x ∷ xs) ≡ last-of e n xs
@@ -82,7 +71,7 @@ last-tail e n x (y ∷ ys) q h = rw q refl
 tail-room : (e : Edition) (long low : ℕ) (x : Entry) (xs ys : List Entry) (last : Bool) → 1 ≤ low → Room e long (next-tag e x) xs ys last → Room e long low (x ∷ xs) (x ∷ ys) last
 tail-room e long low x xs ys last l r =
     record {
-      behind = λ z. omega (arith, r .behind z, end-next e low x xs, end-next e low x ys);
+      behind = λ z. omega (arith, r .behind z, end-cons e low x xs, end-cons e low x ys);
       between = λ z. gap-more e long low x ys l (r .between z);
     }
 

@@ -29,11 +29,11 @@ next-is e w u p n tag e₀ l q f g =
 
 -- ---- their end
 
-end-cons : (e : Edition) (low : ℕ) (x : Entry) (xs : List Entry) → end-tag e low (x ∷ xs) ≡ end-tag e (next-tag e x) xs
+pub end-cons : (e : Edition) (low : ℕ) (x : Entry) (xs : List Entry) → end-tag e low (x ∷ xs) ≡ end-tag e (next-tag e x) xs
 unfolding end-tag
 end-cons e low x xs = refl
 
-end-none : (e : Edition) (low : ℕ) → end-tag e low [] ≡ low
+pub end-none : (e : Edition) (low : ℕ) → end-tag e low [] ≡ low
 unfolding end-tag
 end-none e low = refl
 
@@ -60,7 +60,7 @@ ends-done e w u at k i p low s h = sym (s .rest ∙ ap (end-tag e low) (run-over
 
 -- ---- the lowest gap
 
-gap-here : (e : Edition) (long low : ℕ) (x : Entry) (xs : List Entry) → low + long ≤ x .tag → gap-tag e long low (x ∷ xs) ≡ low
+pub gap-here : (e : Edition) (long low : ℕ) (x : Entry) (xs : List Entry) → low + long ≤ x .tag → gap-tag e long low (x ∷ xs) ≡ low
 unfolding gap-tag
 gap-here e long low x xs h = rw (le-leb _ _ h) refl
 

@@ -10,7 +10,7 @@ use borrow.Author.Tests.{eqb-true, le-leb, lt-leb, leb-true, eq-eqb, not-true}
 use Rattle.be.specs.Lists.{every, some-of, keep}
 use Rattle.dir_rules.specs.Record.{Rec, size, besides}
 use Rattle.dir_rules.specs.Verdict.{Pair, is-gap-of, zero-pair, best-ok}
-use Rattle.be.proofs.Bools.{by-cases, and-left, and-right, every-head, every-tail, every-cons}
+use Rattle.be.proofs.Bools.{by-cases, and-left, and-right, every-head, every-tail, every-cons, and-true, and-false, and-swap, or-true, every-keep}
 use Rattle.dir_test.specs.Passes.{best-left, unnamed}
 
 -- gaps at places apart, none empty
@@ -21,23 +21,12 @@ Sep (g ∷ gs) = (0 < size g) × (every (λ h. not (eqb (h .off) (g .off))) gs �
 abbrev pub at-most : ℕ → List Rec → Bool
 at-most m gs = every (λ g. leb (size g) m) gs
 
-every-keep : (q p : Rec → Bool) (gs : List Rec) → every q gs ≡ true → every q (keep p gs) ≡ true
-every-keep q p [] h = refl
-every-keep q p (g ∷ gs) h =
-    by-cases (p g)
-    (λ z. rw z (every-cons q g (keep p gs) (every-head q g gs h) (every-keep q p gs (every-tail q g gs h))))
-    (λ z. rw z (every-keep q p gs (every-tail q g gs h)))
-
 sep-keep : (p : Rec → Bool) (gs : List Rec) → Sep gs → Sep (keep p gs)
 sep-keep p [] s = tt
 sep-keep p (g ∷ gs) s =
     by-cases (p g)
     (λ z. rw z (s .0, every-keep (λ h. not (eqb (h .off) (g .off))) p gs (s .1), sep-keep p gs (s .2)))
     (λ z. rw z (sep-keep p gs (s .2)))
-
-and-false : (x : Bool) → (x && false) ≡ false
-and-false true = refl
-and-false false = refl
 
 module _ (p : Pair) where
   -- a gap at another place is not named
@@ -83,17 +72,12 @@ module _ (p : Pair) where
       by-cases (is-gap-of p g)
       (λ a. let l : size g ≡ p .long = eqb-true (size g) (p .long) (and-right (eqb (g .off) (p .from)) (eqb (size g) (p .long)) a) in
       rw (a, l, bound-split m gs) (once (leb (p .long) m) (not (some-of (is-gap-of p) gs)) (at-most m (unnamed p gs))))
-      (λ a. rw (a, bound-split m gs) (swap (leb (size g) m) (not (some-of (is-gap-of p) gs) || leb (p .long) m) (at-most m (unnamed p gs))))
+      (λ a. rw (a, bound-split m gs) (and-swap (leb (size g) m) (not (some-of (is-gap-of p) gs) || leb (p .long) m) (at-most m (unnamed p gs))))
     where
       once : (x y z : Bool) → (x && ((y || x) && z)) ≡ (x && z)
       once true true z = refl
       once true false z = refl
       once false y z = refl
-
-      swap : (x y z : Bool) → (x && (y && z)) ≡ (y && (x && z))
-      swap true y z = refl
-      swap false true z = refl
-      swap false false z = refl
 
   pub bound-hit : (m : ℕ) (gs : List Rec) → some-of (is-gap-of p) gs ≡ true → at-most m gs ≡ (leb (p .long) m && at-most m (unnamed p gs))
   bound-hit m gs h = bound-split m gs ∙ rw h
@@ -110,10 +94,6 @@ bound-le m n l (g ∷ gs) h =
 unfoldable pub down : List Pair → ℕ → List Rec → Bool
 down [] l gs = at-most l gs
 down (p ∷ ps) l gs = leb (p .long) l && ((zero-pair p || some-of (is-gap-of p) gs) && down ps (p .long) (unnamed p gs))
-
-or-true : (x : Bool) → (x || true) ≡ true
-or-true true = refl
-or-true false = refl
 
 meet : (L K E F : Bool) → (L ≡ true → E ≡ true → F ≡ true) → (L && (K && E)) ≡ ((E && K) && (L && F))
 meet true true true F h = sym (h refl refl)
@@ -166,12 +146,7 @@ down-is (p ∷ ps) l (g ∷ gs) s =
 
 shuffle : (a b c d e x : Bool) → (a && (b && (c && (d && (e && x))))) ≡ (a && (c && (e && (b && (d && x)))))
 shuffle false b c d e x = refl
-shuffle true true true d e x = swap d e x
-  where
-    swap : (d e x : Bool) → (d && (e && x)) ≡ (e && (d && x))
-    swap true e x = refl
-    swap false true x = refl
-    swap false false x = refl
+shuffle true true true d e x = and-swap d e x
 shuffle true true false d e x = refl
 shuffle true false true d true x = refl
 shuffle true false true d false x = refl
@@ -186,10 +161,6 @@ best-law p q r l gs s m h =
     let d : down (p ∷ q ∷ r ∷ []) l gs ≡ best-ok (p ∷ q ∷ r ∷ []) gs = down-is (p ∷ q ∷ r ∷ []) l gs s ∙ rw m (and-true (best-ok (p ∷ q ∷ r ∷ []) gs)) in
     sym d ∙ three
   where
-    and-true : (w : Bool) → (w && true) ≡ w
-    and-true true = refl
-    and-true false = refl
-
     three : down (p ∷ q ∷ r ∷ []) l gs ≡ (leb (q .long) (p .long) && (leb (r .long) (q .long) && best-left (zero-pair p) (zero-pair q) (zero-pair r) p q r gs))
     three = rw (le-leb (p .long) l h)
         (shuffle true (zero-pair p || some-of (is-gap-of p) gs) (leb (q .long) (p .long)) (zero-pair q || some-of (is-gap-of q) (unnamed p gs)) (leb (r .long) (q .long))

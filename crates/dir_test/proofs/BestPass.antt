@@ -10,16 +10,8 @@ use borrow.Author.Tests.{le-leb, lt-leb, eq-eqb, ne-eqb}
 use Rattle.be.specs.Lists.{some-of}
 use Rattle.dir_rules.specs.Record.{Rec, is-gap, size, gaps}
 use Rattle.dir_rules.specs.Verdict.{Pair, is-gap-of}
-use Rattle.be.proofs.Bools.{by-cases}
+use Rattle.be.proofs.Bools.{by-cases, and-true, or-true, or-false}
 use Rattle.dir_test.specs.Passes.{best-left, which, unnamed}
-
-or-false : (x : Bool) → (x || false) ≡ x
-or-false true = refl
-or-false false = refl
-
-or-true : (x : Bool) → (x || true) ≡ true
-or-true true = refl
-or-true false = refl
 
 none-of : (x y z : Bool) → (x && (y && (z && false))) ≡ false
 none-of true true true = refl
@@ -109,7 +101,3 @@ module _ (p q r : Pair) (whole-answer : Bool) where
   pub best-end : (x y z : Bool) → Besting x y z [] → (x && (y && z)) ≡ whole-answer
   unfolding best-left
   best-end x y z h = sym (h ∙ rw (or-false x, or-false y, or-false z) (ap (λ (w : Bool). x && (y && w)) (and-true z)))
-    where
-      and-true : (w : Bool) → (w && true) ≡ w
-      and-true true = refl
-      and-true false = refl

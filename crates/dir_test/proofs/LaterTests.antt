@@ -10,6 +10,7 @@ use lib.Dec.{eqb, leb, ltb}
 use lib.ListN.{length, drop, getD}
 use lib.Seq.{drop-drop}
 use borrow.Author.Tests.{eqb-true, le-leb, lt-leb, leb-true, eq-eqb, ne-eqb, not-true, ltb-true, lt-ltb}
+use Rattle.dir_rules.proofs.BlockParts.{length-slots-in}
 use Rattle.be.specs.Lists.{every, tally, same}
 use Rattle.be.specs.Bytes.{part, field}
 use Rattle.edition.specs.declared.Edition.{Edition}
@@ -18,7 +19,7 @@ use Rattle.name.specs.Name.{dot, legal-name}
 use Rattle.dir_rules.specs.Record.{Rec, rec, whole, is-gap, is-entry, entries, gaps, name}
 use Rattle.dir_rules.specs.Block.{Slot, slots-in, is-live, is-stale}
 use Rattle.dir_rules.specs.Verdict.{tile-ok, entry-at, name-ok, names-ok, numbers-ok, index-ok, rising, best-ok, best-pairs, pairs-in, pair, Pair, zero-pair, once-ok}
-use Rattle.be.proofs.Bools.{by-cases, and-left, and-right, every-head, every-tail, every-cons}
+use Rattle.be.proofs.Bools.{by-cases, and-left, and-right, every-head, every-tail, every-cons, and-false}
 use Rattle.dir_rules.proofs.CutJoin.{Laid, join, join-cut}
 use Rattle.dir_rules.proofs.SlotCounts.{Apart}
 use Rattle.dir_rules.proofs.IndexedEntries.{addr-of, Indexed, indexed}
@@ -39,19 +40,10 @@ use Rattle.dir_test.proofs.BestNamed.{at-most, best-law}
 use Rattle.dir_test.proofs.TwinSlots.{twice-law, once-free}
 use Rattle.dir_test.proofs.TiledParts.{sep-laid, small-most, placed, rest-placed, laid-rest, at-head, head-of}
 
-and-false : (w : Bool) → (w && false) ≡ false
-and-false true = refl
-and-false false = refl
-
 pub both-there : {r x y u v : Bool} → r ≡ (x && y) → x ≡ u → y ≡ v → r ≡ (u && v)
 both-there h p q = h ∙ ap₂ (λ (a c : Bool). a && c) p q
 
 module _ (e : Edition) (sane : Sane e) (b : List ℕ) (t n : ℕ) where
-  length-slots : (k : ℕ) (d : List ℕ) → length (slots-in k d) ≡ k
-  unfolding slots-in
-  length-slots zero d = refl
-  length-slots (suc k) d = ap suc (length-slots k (drop 8 d))
-
   live-stale : (ss : List Slot) → tally is-live ss + tally is-stale ss ≡ length ss
   live-stale [] = refl
   live-stale (s ∷ ss) =
@@ -60,7 +52,7 @@ module _ (e : Edition) (sane : Sane e) (b : List ℕ) (t n : ℕ) where
 
   count-is : tally is-live (slots-from b t n 0) + tally is-stale (slots-from b t n 0) ≡ n
   unfolding slots-from
-  count-is = live-stale (slots-from b t n 0) ∙ length-slots (n - 0) (drop (t + 8 * 0) b) ∙ sub-zero n
+  count-is = live-stale (slots-from b t n 0) ∙ length-slots-in (n - 0) (drop (t + 8 * 0) b) ∙ sub-zero n
 
   module _ (T : Tiled e b t n) where
     abbrev pub RS : List Rec

@@ -14,14 +14,14 @@ use Rattle.dir_rules.specs.Record.{Rec, name}
 use Rattle.dir_rules.specs.Block.{Slot, is-live}
 use Rattle.dir_rules.specs.Lookup.{name-at}
 use Rattle.dir_rules.specs.Verdict.{once-ok, has-slot}
-use Rattle.be.proofs.Bools.{by-cases, and-left, and-right, and-both, clash}
+use Rattle.be.proofs.Bools.{by-cases, and-left, and-right, and-both, clash, and-false}
 use Rattle.dir_rules.proofs.SlotOrder.{From}
 use Rattle.dir_rules.proofs.OneMore.{some-mid, tally-mid, once-mid}
 use Rattle.name.proofs.Same.{same-name-swap, same-name-hash}
 use Rattle.dir_rules.proofs.SlotCounts.{Apart, at-addr}
 use Rattle.dir_rules.proofs.IndexedEntries.{Indexed, addr-of, at-both, Slotted, slotted}
 use Rattle.dir_rules.proofs.RecordPlaces.{Split, some-split, some-at, every-at, tally-split, apart-pos, split-cons, apart-front, every-map}
-use Rattle.dir_rules.proofs.SearchFinds.{Owner, owner, Reads}
+use Rattle.dir_rules.proofs.SearchFinds.{Owner, owner, Reads, read-at as reads}
 use Rattle.dir_test.specs.Passes.{clash-from, once-in, name-of}
 
 pub eqb-swap : (x y : ℕ) → eqb x y ≡ eqb y x
@@ -47,10 +47,6 @@ module _ {A : Type 0} (c : A → A → Bool) where
       by-cases (c x z)
       (λ q. rw (some-mid (c z) xs x ys, sy z x, q))
       (λ q. rw (free-mid sy xs x ys (rw q at h)) (and-false (not (some-of (c z) (xs ++ x ∷ ys)))))
-    where
-      and-false : (w : Bool) → (w && false) ≡ false
-      and-false true = refl
-      and-false false = refl
 
   -- the other way, for a relation that is symmetric
   pub unfree : ((x y : A) → c x y ≡ c y x) → (xs : List A) (s : Split xs) → some-of (c (s .here)) (s .before ++ s .behind) ≡ true → free xs ≡ false
@@ -113,9 +109,7 @@ module _ (e : Edition) (b : List ℕ) (es : List Rec) (ss : List Slot) (m : ℕ)
   like r s = same-name e (name r) (name s)
 
   read-at : (t : Split es) → name-at b (8 * addr-of (t .here)) ≡ name (t .here)
-  read-at t =
-      ap (λ (o : ℕ). name-at b o) (eqb-true (8 * addr-of (t .here)) (t .here .off) (every-at (λ r. eqb (8 * addr-of r) (r .off)) (t .before) (t .here) (t .behind) (rw (t .is) at (d .eights))))
-      ∙ d .named t
+  read-at = reads e b [] es ss m i a d
 
   slot-of : (t : Split es) → Slotted e ss (t .here)
   slot-of t = slotted e ss (t .here) (every-at (has-slot e ss) (t .before) (t .here) (t .behind) (rw (t .is) at (i .each)))

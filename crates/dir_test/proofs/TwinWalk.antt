@@ -8,7 +8,7 @@ use mathlib.Core.List.{List, [], _∷_}
 use lib.Dec.{eqb}
 use lib.ListN.{length, getD}
 use borrow.Author.Tests.{eq-eqb, ne-eqb}
-use Rattle.be.proofs.Bools.{not-right}
+use Rattle.be.proofs.Bools.{and-false}
 use Rattle.edition.specs.declared.Edition.{Edition}
 use Rattle.name.specs.Name.{same-name}
 use Rattle.dir_rules.specs.Block.{Slot}
@@ -84,9 +84,6 @@ apart : (e : Edition) (b : List ℕ) (h c : ℕ) (ss : List Slot) → runs-on h 
 unfolding runs-on clash-from
 apart e b h c [] z = refl
 apart e b h c (s ∷ ss) z = rw z
-
-and-false : (x : Bool) → (x && false) ≡ false
-and-false x = not-right x false refl
 
 -- a live slot whose later ones were searched, and a stale one
 module _ (e : Edition) (b : List ℕ) (t n i a : ℕ) (ea : a ≡ addr-at b t i) where

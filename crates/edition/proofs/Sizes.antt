@@ -6,6 +6,7 @@ use mathlib.Core.Bool.{Bool, true, false, _||_, false≢true}
 use mathlib.Core.Path.{_≡_, refl}
 use lib.Dec.{eqb}
 use borrow.Author.Tests.{eqb-true}
+use Rattle.be.proofs.Bools.{or-cases, or-false}
 use Rattle.edition.specs.declared.Edition.{Edition}
 use Rattle.edition.specs.Edition.{v4, Sane, block-size, entry-size, largest-block}
 
@@ -42,18 +43,10 @@ entry-size-mono e n m h = omega arith
 
 -- ---- the sizes of a block
 
-or-end : (a : Bool) → (a || false) ≡ a
-or-end true = refl
-or-end false = refl
-
 -- the tests one after the other
 pub block-size-is : (n : ℕ) → (eqb n 512 || (eqb n 1024 || (eqb n 2048 || (eqb n 4096 || (eqb n 8192 || eqb n largest-block))))) ≡ block-size n
 unfolding block-size
-block-size-is n = rw (or-end (eqb n largest-block))
-
-or-cases : {P : Type 0} (a b : Bool) → (a || b) ≡ true → (a ≡ true → P) → (b ≡ true → P) → P
-or-cases true b h f g = f refl
-or-cases false b h f g = g h
+block-size-is n = rw (or-false (eqb n largest-block))
 
 pub block-size-bounds : (n : ℕ) → block-size n ≡ true → (512 ≤ n) × (n ≤ largest-block) × (n % 8 ≡ 0)
 unfolding block-size

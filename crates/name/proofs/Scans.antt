@@ -11,7 +11,7 @@ use lib.ListN.{length, drop, getD}
 use lib.Seq.{drop-cons, drop-length}
 use borrow.Author.Tests.{eq-eqb, ne-eqb}
 use Rattle.be.specs.Lists.{every, same}
-use Rattle.be.proofs.Bools.{by-cases}
+use Rattle.be.proofs.Bools.{by-cases, and-true}
 use Rattle.name.specs.Name.{clear-of}
 
 -- ---- a test of every byte
@@ -49,23 +49,19 @@ pub and-on : (p : ℕ → Bool) (s : List ℕ) (i : ℕ) (a d : Bool) → i < le
     → every p s ≡ (d && every p (drop i s)) → every p s ≡ (a && every p (drop (i + 1) s))
 and-on p s i a d h q v =
     v ∙ by-cases (p (getD s i 0))
-    (λ t. rw (q, t, every-on p s i h t) (and-true d (every p (drop (i + 1) s))))
-    (λ t. rw (q, t, every-stop p s i h t) (and-false d (every p (drop (i + 1) s))))
+    (λ t. rw (q, t, every-on p s i h t) (and-on-true d (every p (drop (i + 1) s))))
+    (λ t. rw (q, t, every-stop p s i h t) (and-on-false d (every p (drop (i + 1) s))))
   where
-    and-true : (d r : Bool) → (d && r) ≡ (d && true && r)
-    and-true true r = refl
-    and-true false r = refl
+    and-on-true : (d r : Bool) → (d && r) ≡ (d && true && r)
+    and-on-true true r = refl
+    and-on-true false r = refl
 
-    and-false : (d r : Bool) → (d && false) ≡ (d && false && r)
-    and-false true r = refl
-    and-false false r = refl
+    and-on-false : (d r : Bool) → (d && false) ≡ (d && false && r)
+    and-on-false true r = refl
+    and-on-false false r = refl
 
 pub and-end : (p : ℕ → Bool) (s : List ℕ) (i : ℕ) (d : Bool) → i ≡ length s → every p s ≡ (d && every p (drop i s)) → d ≡ every p s
-and-end p s i d h v = sym (v ∙ rw (every-end p s i h) (and-one d))
-  where
-    and-one : (d : Bool) → (d && true) ≡ d
-    and-one true = refl
-    and-one false = refl
+and-end p s i d h v = sym (v ∙ rw (every-end p s i h) (and-true d))
 
 -- ---- two runs of bytes, byte by byte
 
