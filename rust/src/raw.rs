@@ -1,7 +1,8 @@
-//! The boundary: the C functions that the proved library exports.
+//! The boundary: the C functions that the proved library exports, and their answers, in which the model answers too.
 
+/// The fields handed out, all 0 beside a refusal.
 #[repr(C)]
-#[derive(Clone, Copy, Debug, PartialEq, Eq)]
+#[derive(Clone, Copy, Debug, Default, PartialEq, Eq)]
 pub struct Core {
     pub refusal: u32,
     pub magic: u32,
@@ -13,24 +14,27 @@ pub struct Core {
     pub size: u64,
 }
 
+/// A lookup's answer. `compared` is 0 in a short form.
 #[repr(C)]
-#[derive(Clone, Copy, Debug, PartialEq, Eq)]
+#[derive(Clone, Copy, Debug, Default, PartialEq, Eq)]
 pub struct Found {
     pub refusal: u32,
     pub number: u64,
     pub compared: u64,
 }
 
+/// Where an attribute's value lies in the lent bytes.
 #[repr(C)]
-#[derive(Clone, Copy, Debug, PartialEq, Eq)]
+#[derive(Clone, Copy, Debug, Default, PartialEq, Eq)]
 pub struct Place {
     pub refusal: u32,
     pub start: u64,
     pub len: u64,
 }
 
+/// One step of a directory's walk; `seen` is 0 at the end, 1 at a gap, 2 at a live entry.
 #[repr(C)]
-#[derive(Clone, Copy, Debug, PartialEq, Eq)]
+#[derive(Clone, Copy, Debug, Default, PartialEq, Eq)]
 pub struct Step {
     pub refusal: u32,
     pub seen: u32,
@@ -40,8 +44,9 @@ pub struct Step {
     pub name_len: u64,
 }
 
+/// One step of an attribute list's walk; `seen` is 0 at the end, 2 at a live entry.
 #[repr(C)]
-#[derive(Clone, Copy, Debug, PartialEq, Eq)]
+#[derive(Clone, Copy, Debug, Default, PartialEq, Eq)]
 pub struct AttrStep {
     pub refusal: u32,
     pub seen: u32,

@@ -106,10 +106,7 @@ fn hashing<'a>(names: &'a [Vec<u8>], hash: impl Fn(&[u8]) -> u32 + 'a) -> Box<dy
 fn hashes() {
     let mut random = Random(7);
     let names: Vec<_> = (0..1000).map(|_| random.name(255, 255)).collect();
-    let jobs = [
-        hashing(&names, |n| hash(n)),
-        hashing(&names, |n| yardstick::hash(n)),
-    ];
+    let jobs = [hashing(&names, hash), hashing(&names, yardstick::hash)];
     let [ours, rust] = medians(names.len(), jobs);
     println!("| hash of 255 bytes | library, ns | Rust loop, ns | ratio |");
     println!("|---|---|---|---|");

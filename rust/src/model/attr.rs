@@ -52,7 +52,7 @@ pub fn read(inode: &[u8]) -> Result<Attrs, u32> {
     let core = inode::read(inode)?;
     want(core.aformat == 1 && core.forkoff != 0, KIND)?;
 
-    let fork = core.attr_fork(inode.len());
+    let fork = inode::attr_fork(&core, inode.len());
     want(fork.len() >= HEADER, SPAN)?;
     let totsize = field(inode, fork.start, 2) as usize;
     want((HEADER..=fork.len()).contains(&totsize), SPAN)?;

@@ -6,32 +6,17 @@ use std::ops::Range;
 /// Where the literal area starts.
 pub const LITERAL: usize = 100;
 
-/// The fields handed out, all 0 beside a refusal.
-#[derive(Clone, Copy, Debug, Default, PartialEq, Eq)]
-pub struct Core {
-    pub refusal: u32,
-    pub magic: u32,
-    pub mode: u32,
-    pub version: u32,
-    pub format: u32,
-    pub forkoff: u32,
-    pub aformat: u32,
-    pub size: u64,
+/// Where the data fork lies in an inode of `len` bytes.
+pub fn data_fork(core: &Core, len: usize) -> Range<usize> {
+    match core.forkoff {
+        0 => LITERAL..len,
+        _ => LITERAL..attr_fork(core, len).start,
+    }
 }
 
-impl Core {
-    /// Where the data fork lies in an inode of `len` bytes.
-    pub fn data_fork(&self, len: usize) -> Range<usize> {
-        match self.forkoff {
-            0 => LITERAL..len,
-            _ => LITERAL..self.attr_fork(len).start,
-        }
-    }
-
-    /// Where the attribute fork lies when forkoff is not 0.
-    pub fn attr_fork(&self, len: usize) -> Range<usize> {
-        LITERAL + 8 * self.forkoff as usize..len
-    }
+/// Where the attribute fork lies when forkoff is not 0.
+pub fn attr_fork(core: &Core, len: usize) -> Range<usize> {
+    LITERAL + 8 * core.forkoff as usize..len
 }
 
 /// Tests 1 to 3 as far as they hold for every inode.
@@ -50,7 +35,7 @@ pub fn read(inode: &[u8]) -> Result<Core, u32> {
     };
     want(core.magic == 0x494e, MAGIC)?;
     want([1, 2].contains(&core.version), KIND)?;
-    want(core.attr_fork(inode.len()).start <= inode.len(), KIND)?;
+    want(attr_fork(&core, inode.len()).start <= inode.len(), KIND)?;
     Ok(core)
 }
 

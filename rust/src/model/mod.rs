@@ -9,6 +9,8 @@ pub mod block;
 pub mod inode;
 pub mod sfdir;
 
+pub use crate::raw::{AttrStep, Core, Found, Place, Step};
+
 pub const SIZE: u32 = 1;
 pub const MAGIC: u32 = 2;
 pub const KIND: u32 = 3;
@@ -29,49 +31,10 @@ pub const NARROW: u32 = 16;
 /// The largest inode number that 4 bytes hold.
 pub const NARROW_MAX: u64 = 0xffff_ffff;
 
-/// A lookup's answer. `compared` is 0 in a short form.
-#[derive(Clone, Copy, Debug, Default, PartialEq, Eq)]
-pub struct Found {
-    pub refusal: u32,
-    pub number: u64,
-    pub compared: u64,
-}
-
-/// Where an attribute's value lies in the lent bytes.
-#[derive(Clone, Copy, Debug, Default, PartialEq, Eq)]
-pub struct Place {
-    pub refusal: u32,
-    pub start: u64,
-    pub len: u64,
-}
-
+/// What a step meets.
 pub const END: u32 = 0;
 pub const GAP: u32 = 1;
 pub const LIVE: u32 = 2;
-
-/// One step of a directory's walk; `seen` is END, GAP or LIVE.
-#[derive(Clone, Copy, Debug, Default, PartialEq, Eq)]
-pub struct Step {
-    pub refusal: u32,
-    pub seen: u32,
-    pub next: u64,
-    pub number: u64,
-    pub name_start: u64,
-    pub name_len: u64,
-}
-
-/// One step of an attribute list's walk; `seen` is END or LIVE.
-#[derive(Clone, Copy, Debug, Default, PartialEq, Eq)]
-pub struct AttrStep {
-    pub refusal: u32,
-    pub seen: u32,
-    pub next: u64,
-    pub flags: u64,
-    pub name_start: u64,
-    pub name_len: u64,
-    pub value_start: u64,
-    pub value_len: u64,
-}
 
 /// What a call that may write leaves behind: its answer, all bytes, and notes on how it came to that
 /// (which case of a rule was used), so that the tests can count what they reached.

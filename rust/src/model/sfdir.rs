@@ -74,7 +74,7 @@ fn tile(inode: &[u8], block_size: u64) -> Result<Dir, u32> {
     let core = inode::read(inode)?;
     want(core.mode / 4096 == 4 && core.format == 1, KIND)?;
 
-    let fork = core.data_fork(inode.len());
+    let fork = inode::data_fork(&core, inode.len());
     let i8count = field(inode, LITERAL + 1, 1);
     let width = number_width(i8count);
     let header = header_size(width);

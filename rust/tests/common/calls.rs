@@ -11,59 +11,6 @@ pub struct Lab {
     pub cover: Cover,
 }
 
-fn core(core: raw::Core) -> inode::Core {
-    inode::Core {
-        refusal: core.refusal,
-        magic: core.magic,
-        mode: core.mode,
-        version: core.version,
-        format: core.format,
-        forkoff: core.forkoff,
-        aformat: core.aformat,
-        size: core.size,
-    }
-}
-
-fn found(found: raw::Found) -> model::Found {
-    model::Found {
-        refusal: found.refusal,
-        number: found.number,
-        compared: found.compared,
-    }
-}
-
-fn place(place: raw::Place) -> model::Place {
-    model::Place {
-        refusal: place.refusal,
-        start: place.start,
-        len: place.len,
-    }
-}
-
-fn step(step: raw::Step) -> model::Step {
-    model::Step {
-        refusal: step.refusal,
-        seen: step.seen,
-        next: step.next,
-        number: step.number,
-        name_start: step.name_start,
-        name_len: step.name_len,
-    }
-}
-
-fn attr_step(step: raw::AttrStep) -> model::AttrStep {
-    model::AttrStep {
-        refusal: step.refusal,
-        seen: step.seen,
-        next: step.next,
-        flags: step.flags,
-        name_start: step.name_start,
-        name_len: step.name_len,
-        value_start: step.value_start,
-        value_len: step.value_len,
-    }
-}
-
 impl Lab {
     pub fn new(seed: u64) -> Lab {
         Lab {
@@ -127,7 +74,7 @@ impl Lab {
             "inode_test",
             &(),
             &[inode],
-            |b| core(unsafe { raw::pzw_inode_test(b[0].ptr(), b[0].len()) }),
+            |b| unsafe { raw::pzw_inode_test(b[0].ptr(), b[0].len()) },
             want,
             inode,
         );
@@ -158,7 +105,7 @@ impl Lab {
             &[inode, name],
             |b| {
                 let (lent, name) = (&b[0], &b[1]);
-                found(unsafe {
+                unsafe {
                     raw::pzw_sfdir_lookup(
                         lent.ptr(),
                         lent.len(),
@@ -166,7 +113,7 @@ impl Lab {
                         name.ptr(),
                         name.len(),
                     )
-                })
+                }
             },
             want,
             inode,
@@ -225,7 +172,7 @@ impl Lab {
             "sfdir_step",
             &(block_size, place),
             &[inode],
-            |b| step(unsafe { raw::pzw_sfdir_step(b[0].ptr(), b[0].len(), block_size, place) }),
+            |b| unsafe { raw::pzw_sfdir_step(b[0].ptr(), b[0].len(), block_size, place) },
             want,
             inode,
         );
@@ -265,9 +212,9 @@ impl Lab {
             &[inode, name],
             |b| {
                 let (lent, name) = (&b[0], &b[1]);
-                place(unsafe {
+                unsafe {
                     raw::pzw_attr_lookup(lent.ptr(), lent.len(), name.ptr(), name.len(), flags)
-                })
+                }
             },
             want,
             inode,
@@ -329,7 +276,7 @@ impl Lab {
             "attr_step_at",
             &place,
             &[inode],
-            |b| attr_step(unsafe { raw::pzw_attr_step_at(b[0].ptr(), b[0].len(), place) }),
+            |b| unsafe { raw::pzw_attr_step_at(b[0].ptr(), b[0].len(), place) },
             want,
             inode,
         );
@@ -361,9 +308,7 @@ impl Lab {
             &[block, name],
             |b| {
                 let (lent, name) = (&b[0], &b[1]);
-                found(unsafe {
-                    raw::pzw_block_lookup(lent.ptr(), lent.len(), name.ptr(), name.len())
-                })
+                unsafe { raw::pzw_block_lookup(lent.ptr(), lent.len(), name.ptr(), name.len()) }
             },
             want,
             block,
@@ -423,7 +368,7 @@ impl Lab {
             "block_step",
             &place,
             &[block],
-            |b| step(unsafe { raw::pzw_block_step(b[0].ptr(), b[0].len(), place) }),
+            |b| unsafe { raw::pzw_block_step(b[0].ptr(), b[0].len(), place) },
             want,
             block,
         );
