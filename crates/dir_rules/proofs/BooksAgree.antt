@@ -11,19 +11,27 @@ use Rattle.name.proofs.Same.{same-refl, same-eq, same-name-sym, same-name-trans
 use Rattle.be.specs.Lists.{some-of, tally, without-first, same}
 use Rattle.edition.specs.declared.Edition.{Edition}
 use Rattle.name.specs.Name.{same-name}
-use Rattle.dir_rules.specs.Record.{Rec, name, number, entries}
+use Rattle.dir_rules.specs.Record.{Rec, Target, target, same-target, target-of, name, number, entries}
 use Rattle.dir_rules.specs.Block.{records}
 use Rattle.dir_rules.specs.Verdict.{once-ok}
-use Rattle.dir_rules.specs.Book.{Held, held, Book, book-of, named, holds, inode-of, same-held, SameBook}
+use Rattle.dir_rules.specs.Book.{Held, held, Book, book-of, named, holds, aim-of, same-held, SameBook}
 use Rattle.be.proofs.Bools.{and-left, and-right, and-both, by-cases, clash, neither, and-false}
 use Rattle.dir_rules.proofs.OneMore.{some-mid, tally-mid, once-mid, alone}
 use Rattle.dir_rules.proofs.RecordPlaces.{Split, split-cons, some-split, some-at, tally-split}
 
+target-self : (t : Target) → same-target t t ≡ true
+target-self t = and-both (eqb (t .inode) (t .inode)) (eqb (t .kind) (t .kind)) (eq-eqb (t .inode) (t .inode) refl) (eq-eqb (t .kind) (t .kind) refl)
+
+target-eq : (s t : Target) → same-target s t ≡ true → s ≡ t
+target-eq s t h =
+    ap₂ (λ (i k : ℕ). target i k) (eqb-true (s .inode) (t .inode) (and-left (eqb (s .inode) (t .inode)) (eqb (s .kind) (t .kind)) h))
+    (eqb-true (s .kind) (t .kind) (and-right (eqb (s .inode) (t .inode)) (eqb (s .kind) (t .kind)) h))
+
 held-self : (h : Held) → same-held h h ≡ true
-held-self h = and-both (same (h .name) (h .name)) (eqb (h .inode) (h .inode)) (same-refl (h .name)) (eq-eqb (h .inode) (h .inode) refl)
+held-self h = and-both (same (h .name) (h .name)) (same-target (h .aim) (h .aim)) (same-refl (h .name)) (target-self (h .aim))
 
 -- what one book holds, the other holds
-pub in-other : (j k : Book) → SameBook j k → (s : Split j) → (t : Split k) × (t .here .name ≡ s .here .name) × (t .here .inode ≡ s .here .inode)
+pub in-other : (j k : Book) → SameBook j k → (s : Split j) → (t : Split k) × (t .here .name ≡ s .here .name) × (t .here .aim ≡ s .here .aim)
 unfolding SameBook
 in-other j k m s =
     let h : Held = s .here in
@@ -31,8 +39,8 @@ in-other j k m s =
     ap (tally (same-held h)) (s .is) ∙ tally-mid (same-held h) (s .before) h (s .behind) ∙ rw (held-self h) in
     let t : (t : Split k) × (same-held h (t .here) ≡ true) = tally-split (same-held h) k (omega (arith, c, m h)) in
     let n : Bool = same (h .name) (t .0 .here .name) in
-    let i : Bool = eqb (h .inode) (t .0 .here .inode) in
-    (t .0, sym (same-eq (h .name) (t .0 .here .name) (and-left n i (t .1))), sym (eqb-true (h .inode) (t .0 .here .inode) (and-right n i (t .1))))
+    let i : Bool = same-target (h .aim) (t .0 .here .aim) in
+    (t .0, sym (same-eq (h .name) (t .0 .here .name) (and-left n i (t .1))), sym (target-eq (h .aim) (t .0 .here .aim) (and-right n i (t .1))))
 
 pub book-sym : (j k : Book) → SameBook j k → SameBook k j
 unfolding SameBook
@@ -41,7 +49,7 @@ book-sym j k m = λ h. sym (m h)
 holds-true : (e : Edition) (n : List ℕ) (j k : Book) → SameBook j k → holds e n j ≡ true → holds e n k ≡ true
 holds-true e n j k m h =
     let s : (s : Split j) × (named e n (s .here) ≡ true) = some-split (named e n) j h in
-    let t : (t : Split k) × (t .here .name ≡ s .0 .here .name) × (t .here .inode ≡ s .0 .here .inode) = in-other j k m (s .0) in
+    let t : (t : Split k) × (t .here .name ≡ s .0 .here .name) × (t .here .aim ≡ s .0 .here .aim) = in-other j k m (s .0) in
     ap (some-of (named e n)) (t .0 .is) ∙ some-at (named e n) (t .0 .before) (t .0 .here) (t .0 .behind) (ap (same-name e n) (t .1) ∙ s .1)
 
 pub holds-same : (e : Edition) (n : List ℕ) (j k : Book) → SameBook j k → holds e n j ≡ holds e n k
@@ -54,23 +62,23 @@ some-map : {A B : Type 0} (p : B → Bool) (f : A → B) (l : List A) → some-o
 some-map p f [] = refl
 some-map p f (x ∷ l) = ap (λ (t : Bool). p (f x) || t) (some-map p f l)
 
-abbrev pub entry-held : Rec → Held
-entry-held r = held (name r) (number r)
+abbrev pub entry-held : Edition → Rec → Held
+entry-held e r = held (name r) (target-of e r)
 
 pub holds-entries : (e : Edition) (n b : List ℕ) → holds e n (book-of e b) ≡ some-of (λ r. same-name e n (name r)) (entries (records e b))
 unfolding book-of
-holds-entries e n b = some-map (named e n) entry-held (entries (records e b))
+holds-entries e n b = some-map (named e n) (entry-held e) (entries (records e b))
 
-map-split : (es : List Rec) → (s : Split (map entry-held es)) → (t : Split es) × (name (t .here) ≡ s .here .name) × (number (t .here) ≡ s .here .inode)
-map-split es s = go es (s .before) (s .here) (s .behind) (s .is)
+map-split : (e : Edition) (es : List Rec) → (s : Split (map (entry-held e) es)) → (t : Split es) × (name (t .here) ≡ s .here .name) × (target-of e (t .here) ≡ s .here .aim)
+map-split e es s = go es (s .before) (s .here) (s .behind) (s .is)
   where
-    go : (es : List Rec) (xs : List Held) (x : Held) (ys : List Held) → map entry-held es ≡ xs ++ x ∷ ys → (t : Split es) × (name (t .here) ≡ x .name) × (number (t .here) ≡ x .inode)
+    go : (es : List Rec) (xs : List Held) (x : Held) (ys : List Held) → map (entry-held e) es ≡ xs ++ x ∷ ys → (t : Split es) × (name (t .here) ≡ x .name) × (target-of e (t .here) ≡ x .aim)
     go [] [] x ys q = absurd (nil≢cons q)
     go [] (z ∷ xs) x ys q = absurd (nil≢cons q)
     go (r ∷ es) [] x ys q =
-        (record { before = []; here = r; behind = es; is = refl }, ap (λ (h : Held). h .name) (head-eq-of-cons-eq q), ap (λ (h : Held). h .inode) (head-eq-of-cons-eq q))
+        (record { before = []; here = r; behind = es; is = refl }, ap (λ (h : Held). h .name) (head-eq-of-cons-eq q), ap (λ (h : Held). h .aim) (head-eq-of-cons-eq q))
     go (r ∷ es) (z ∷ xs) x ys q =
-        let w : (t : Split es) × (name (t .here) ≡ x .name) × (number (t .here) ≡ x .inode) = go es xs x ys (tail-eq-of-cons-eq q) in
+        let w : (t : Split es) × (name (t .here) ≡ x .name) × (target-of e (t .here) ≡ x .aim) = go es xs x ys (tail-eq-of-cons-eq q) in
         (split-cons r es (w .0), w .1, w .2)
 
 some-sub : {A : Type 0} (p q : A → Bool) → ((x : A) → p x ≡ true → q x ≡ true) → (l : List A) → some-of q l ≡ false → some-of p l ≡ false
@@ -98,9 +106,9 @@ module _ (e : Edition) (es : List Rec) (once : once-ok e es ≡ true) where
       (λ y. let pt : p (t .here) ≡ true = rw (sn, y) refl in
       absurd (clash (ap (some-of p) (t .is) ∙ some-at p (t .before) (t .here) (t .behind) pt) all))
 
-  pub one-number : (s t : Split es) → same-name e (name (s .here)) (name (t .here)) ≡ true → number (t .here) ≡ number (s .here)
-  one-number s t sn =
-      eqb-true (number (t .here)) (number (s .here)) (one-entry (λ x. eqb (number x) (number (s .here))) s t (eq-eqb (number (s .here)) (number (s .here)) refl) sn)
+  pub one-target : (s t : Split es) → same-name e (name (s .here)) (name (t .here)) ≡ true → target-of e (t .here) ≡ target-of e (s .here)
+  one-target s t sn =
+      target-eq (target-of e (t .here)) (target-of e (s .here)) (one-entry (λ x. same-target (target-of e x) (target-of e (s .here))) s t (target-self (target-of e (s .here))) sn)
 
   pub one-name : (s t : Split es) → same-name e (name (s .here)) (name (t .here)) ≡ true → name (t .here) ≡ name (s .here)
   one-name s t sn = same-eq (name (t .here)) (name (s .here)) (one-entry (λ x. same (name x) (name (s .here))) s t (same-refl (name (s .here))) sn)
@@ -109,55 +117,55 @@ module _ (e : Edition) (es : List Rec) (once : once-ok e es ≡ true) where
 pub record First-named (e : Edition) (n : List ℕ) (k : Book) : Type 0 where
   pub split : Split k
   pub is-named : named e n (split .here) ≡ true
-  pub inode-is : inode-of e n k ≡ split .here .inode
+  pub aim-is : aim-of e n k ≡ split .here .aim
   pub without : (p : Held → Bool) → cond (p (split .here)) 1 0 + tally p (without-first (named e n) k) ≡ tally p k
 
 pub first-named : (e : Edition) (n : List ℕ) (k : Book) → holds e n k ≡ true → First-named e n k
-unfolding inode-of
+unfolding aim-of
 first-named e n [] h = absurd (false≢true h)
 first-named e n (x ∷ k) h =
     by-cases (named e n x)
-    (λ q. record { split = record { before = []; here = x; behind = k; is = refl }; is-named = q; inode-is = rw q refl; without = λ p. rw q refl })
+    (λ q. record { split = record { before = []; here = x; behind = k; is = refl }; is-named = q; aim-is = rw q refl; without = λ p. rw q refl })
     (λ q. let r : First-named e n k = first-named e n k (rw q at h) in
-    record { split = split-cons x k (r .split); is-named = r .is-named; inode-is = rw q (r .inode-is); without = λ p. rw q (omega (arith, r .without p)) })
+    record { split = split-cons x k (r .split); is-named = r .is-named; aim-is = rw q (r .aim-is); without = λ p. rw q (omega (arith, r .without p)) })
 
 -- an entry's name in the book: its number is the entry's
 module _ (e : Edition) (b n : List ℕ) (k : Book) (m : SameBook (book-of e b) k) (once : once-ok e (entries (records e b)) ≡ true)
     (s : Split (entries (records e b))) (sn : same-name e n (name (s .here)) ≡ true) where
-  pub first-is : (f : First-named e n k) → (f .split .here .name ≡ name (s .here)) × (f .split .here .inode ≡ number (s .here))
+  pub first-is : (f : First-named e n k) → (f .split .here .name ≡ name (s .here)) × (f .split .here .aim ≡ target-of e (s .here))
   unfolding book-of
   first-is f =
-      let o : (t : Split (book-of e b)) × (t .here .name ≡ f .split .here .name) × (t .here .inode ≡ f .split .here .inode) = in-other k (book-of e b) (book-sym (book-of e b) k m) (f .split) in
-      let r : (t : Split (entries (records e b))) × (name (t .here) ≡ o .0 .here .name) × (number (t .here) ≡ o .0 .here .inode) = map-split (entries (records e b)) (o .0) in
+      let o : (t : Split (book-of e b)) × (t .here .name ≡ f .split .here .name) × (t .here .aim ≡ f .split .here .aim) = in-other k (book-of e b) (book-sym (book-of e b) k m) (f .split) in
+      let r : (t : Split (entries (records e b))) × (name (t .here) ≡ o .0 .here .name) × (target-of e (t .here) ≡ o .0 .here .aim) = map-split e (entries (records e b)) (o .0) in
       let nr : f .split .here .name ≡ name (r .0 .here) = sym (o .1) ∙ sym (r .1) in
       let sr : same-name e (name (s .here)) (name (r .0 .here)) ≡ true =
       same-name-trans e (name (s .here)) n (name (r .0 .here)) (same-name-sym e n (name (s .here)) sn) (subst (λ (m : List ℕ). same-name e n m ≡ true) nr (f .is-named)) in (
         nr ∙ one-name e (entries (records e b)) once s (r .0) sr,
-        sym (o .2) ∙ sym (r .2) ∙ one-number e (entries (records e b)) once s (r .0) sr,
+        sym (o .2) ∙ sym (r .2) ∙ one-target e (entries (records e b)) once s (r .0) sr,
       )
 
 -- the book after an insert and after a removal
-tally-map : (p : Held → Bool) (xs : List Rec) (x : Rec) (ys : List Rec)
-    → tally p (map entry-held (xs ++ x ∷ ys)) ≡ cond (p (entry-held x)) 1 0 + tally p (map entry-held (xs ++ ys))
-tally-map p [] x ys = refl
-tally-map p (z ∷ xs) x ys = rw (tally-map p xs x ys) (omega arith)
+tally-map : (e : Edition) (p : Held → Bool) (xs : List Rec) (x : Rec) (ys : List Rec)
+    → tally p (map (entry-held e) (xs ++ x ∷ ys)) ≡ cond (p (entry-held e x)) 1 0 + tally p (map (entry-held e) (xs ++ ys))
+tally-map e p [] x ys = refl
+tally-map e p (z ∷ xs) x ys = rw (tally-map e p xs x ys) (omega arith)
 
 module _ (e : Edition) (b c : List ℕ) (k : Book) (m : SameBook (book-of e b) k) (xs : List Rec) (x : Rec) (ys : List Rec) where
-  pub book-inserted : entries (records e b) ≡ xs ++ ys → entries (records e c) ≡ xs ++ x ∷ ys → SameBook (book-of e c) (entry-held x ∷ k)
+  pub book-inserted : entries (records e b) ≡ xs ++ ys → entries (records e c) ≡ xs ++ x ∷ ys → SameBook (book-of e c) (entry-held e x ∷ k)
   unfolding SameBook book-of
   book-inserted old new = λ h.
-      ap (λ (l : List Rec). tally (same-held h) (map entry-held l)) new ∙ tally-map (same-held h) xs x ys
-      ∙ ap (λ (t : ℕ). cond (same-held h (entry-held x)) 1 0 + t) (ap (λ (l : List Rec). tally (same-held h) (map entry-held l)) (sym old) ∙ m h)
+      ap (λ (l : List Rec). tally (same-held h) (map (entry-held e) l)) new ∙ tally-map e (same-held h) xs x ys
+      ∙ ap (λ (t : ℕ). cond (same-held h (entry-held e x)) 1 0 + t) (ap (λ (l : List Rec). tally (same-held h) (map (entry-held e) l)) (sym old) ∙ m h)
 
   pub book-removed : (n : List ℕ) → entries (records e b) ≡ xs ++ x ∷ ys → entries (records e c) ≡ xs ++ ys → once-ok e (entries (records e b)) ≡ true
       → same-name e n (name x) ≡ true → (f : First-named e n k) → SameBook (book-of e c) (without-first (named e n) k)
   unfolding SameBook book-of
   book-removed n old new once sn f = λ h.
       let s : Split (entries (records e b)) = record { before = xs; here = x; behind = ys; is = old } in
-      let w : (f .split .here .name ≡ name x) × (f .split .here .inode ≡ number x) = first-is e b n k m once s sn f in
-      let g : same-held h (f .split .here) ≡ same-held h (entry-held x) =
-      ap₂ (λ (a : List ℕ) (i : ℕ). same (h .name) a && eqb (h .inode) i) (w .0) (w .1) in
-      let all : tally (same-held h) (map entry-held (entries (records e b))) ≡ cond (same-held h (entry-held x)) 1 0 + tally (same-held h) (map entry-held (entries (records e c))) =
-      ap (λ (l : List Rec). tally (same-held h) (map entry-held l)) old ∙ tally-map (same-held h) xs x ys
-      ∙ ap (λ (l : List Rec). cond (same-held h (entry-held x)) 1 0 + tally (same-held h) (map entry-held l)) (sym new) in
+      let w : (f .split .here .name ≡ name x) × (f .split .here .aim ≡ target-of e x) = first-is e b n k m once s sn f in
+      let g : same-held h (f .split .here) ≡ same-held h (entry-held e x) =
+      ap₂ (λ (a : List ℕ) (i : Target). same (h .name) a && same-target (h .aim) i) (w .0) (w .1) in
+      let all : tally (same-held h) (map (entry-held e) (entries (records e b))) ≡ cond (same-held h (entry-held e x)) 1 0 + tally (same-held h) (map (entry-held e) (entries (records e c))) =
+      ap (λ (l : List Rec). tally (same-held h) (map (entry-held e) l)) old ∙ tally-map e (same-held h) xs x ys
+      ∙ ap (λ (l : List Rec). cond (same-held h (entry-held e x)) 1 0 + tally (same-held h) (map (entry-held e) l)) (sym new) in
       omega (arith, all, m h, rw g at (f .without (same-held h)))

@@ -18,14 +18,14 @@ use Rattle.be.specs.Bytes.{bytes}
 use Rattle.edition.specs.declared.Edition.{Edition}
 use Rattle.edition.specs.Edition.{entry-size, Sane}
 use Rattle.name.specs.Name.{legal-name, legal-number, fixed-name, same-name, dot, dotdot}
-use Rattle.dir_rules.specs.Record.{Rec, size, entries, gaps, name}
+use Rattle.dir_rules.specs.Record.{Target, target, kept-of, Rec, size, entries, gaps, name}
 use Rattle.dir_rules.specs.Block.{records, stale-of}
-use Rattle.dir_rules.specs.Verdict.{Accepted, names-ok, name-ok, entry-at}
-use Rattle.dir_rules.specs.Lookup.{lookup, lookup-refusal, sought, number-at}
+use Rattle.dir_rules.specs.Verdict.{Accepted, legal-target, names-ok, name-ok, entry-at}
+use Rattle.dir_rules.specs.Lookup.{lookup, lookup-refusal, sought, number-at, kind-at}
 use Rattle.dir_rules.specs.Room.{some-stale, room, longest, has-room}
 use Rattle.dir_rules.specs.Change.{insert-writes, insert-code, insert-block, remove-writes, remove-code, remove-block}
-use Rattle.dir_rules.specs.Calls.{done-or, Call, look-up, insert, remove, done, refuse, reply, after, call-name}
-use Rattle.dir_rules.specs.Book.{first-of, held, Book, book-of, named, holds, inode-of, SameBook, book-reply, book-after, entered, is-done}
+use Rattle.dir_rules.specs.Calls.{done-or, Call, look-up, insert, remove, found, done, refuse, reply, after, call-name}
+use Rattle.dir_rules.specs.Book.{first-of, held, Book, book-of, named, holds, aim-of, SameBook, book-reply, book-after, entered, is-done}
 use Rattle.dir_rules.specs.Demand.{Reuse, Call-right, call-bytes}
 use Rattle.be.proofs.Bools.{and-left, and-right, by-cases, clash}
 use Rattle.dir_rules.proofs.RecordPlaces.{Split, some-split, some-at, every-at}
@@ -36,7 +36,7 @@ use Rattle.dir_rules.proofs.PartsAddUp.{adds-up}
 use Rattle.dir_rules.proofs.BooksAgree.{holds-same, holds-entries, first-named, First-named, first-is, book-inserted, book-removed}
 use Rattle.dir_rules.proofs.InsertFree.{Asked}
 use Rattle.dir_rules.proofs.InsertCases.{Inserted, insert-any}
-use Rattle.dir_rules.proofs.LookupFinds.{Removed, hit-of, spot, spot-name, number-found, removed-of}
+use Rattle.dir_rules.proofs.LookupFinds.{Removed, hit-of, spot, spot-name, target-found, removed-of}
 use Rattle.dir_rules.proofs.StaysBytes.{bytes-changed, all-insert, all-remove}
 use Rattle.dir_rules.proofs.EveryList.{Steps}
 
@@ -85,23 +85,23 @@ module _ (e : Edition) (sane : Sane e) (b : List ℕ) (h : bytes b ≡ true) (a 
   hit-holds k m n = hit-of e sane b h a n ∙ sym (holds-entries e n b) ∙ holds-same e n (book-of e b) k m
 
   -- lookup
-  lookup-hit : (k : Book) → SameBook (book-of e b) k → (n : List ℕ) → sought e b n .hit ≡ true → number-at b (sought e b n .at) ≡ inode-of e n k
+  lookup-hit : (k : Book) → SameBook (book-of e b) k → (n : List ℕ) → sought e b n .hit ≡ true → target (number-at b (sought e b n .at)) (kind-at e b (sought e b n .at)) ≡ aim-of e n k
   lookup-hit k m n q =
       let f : First-named e n k = first-named e n k (sym (hit-holds k m n) ∙ q) in
-      number-found e sane b h a n q
-      ∙ sym (f .inode-is ∙ first-is e b n k m (good-of e sane b h a .once) (spot e sane b h a n q) (spot-name e sane b h a n q) f .1)
+      target-found e sane b h a n q
+      ∙ sym (f .aim-is ∙ first-is e b n k m (good-of e sane b h a .once) (spot e sane b h a n q) (spot-name e sane b h a n q) f .1)
 
   lookup-reply : (k : Book) → SameBook (book-of e b) k → (n : List ℕ) (r : Bool) → reply e b (look-up n) ≡ book-reply e k r (look-up n)
   unfolding reply lookup lookup-refusal book-reply
   lookup-reply k m n r =
       by-cases (legal-name e n)
       (λ l. by-cases (sought e b n .hit)
-      (λ q. rw (a, l, q, sym (hit-holds k m n) ∙ q, lookup-hit k m n q) refl)
+      (λ q. rw (a, l, q, sym (hit-holds k m n) ∙ q) (ap found (lookup-hit k m n q)))
       (λ q. rw (a, l, q, sym (hit-holds k m n) ∙ q) refl))
       (λ l. rw (a, l) refl)
 
-  pub insert-code-is : (n : List ℕ) (i : ℕ) → insert-code e b n i
-      ≡ otherwise (legal-name e n && legal-number i) 11 (otherwise (not (fixed-name n)) 12 (otherwise (not (sought e b n .hit)) 14 (otherwise (has-room e b n) 15 0)))
+  pub insert-code-is : (n : List ℕ) (i : Target) → insert-code e b n i
+      ≡ otherwise (legal-name e n && legal-target e i) 11 (otherwise (not (fixed-name n)) 12 (otherwise (not (sought e b n .hit)) 14 (otherwise (has-room e b n) 15 0)))
   unfolding insert-code
   insert-code-is n i = rw a refl
 
@@ -109,11 +109,11 @@ module _ (e : Edition) (sane : Sane e) (b : List ℕ) (h : bytes b ≡ true) (a 
   unfolding remove-code
   remove-code-is n = rw a refl
 
-  insert-reply : (k : Book) → SameBook (book-of e b) k → (n : List ℕ) (i : ℕ) → reply e b (insert n i) ≡ book-reply e k (has-room e b n) (insert n i)
+  insert-reply : (k : Book) → SameBook (book-of e b) k → (n : List ℕ) (i : Target) → reply e b (insert n i) ≡ book-reply e k (has-room e b n) (insert n i)
   unfolding reply book-reply
   insert-reply k m n i =
-      ap done-or (insert-code-is n i) ∙ insert-chain (legal-name e n && legal-number i) (not (fixed-name n)) (not (sought e b n .hit)) (has-room e b n)
-      ∙ ap (λ (t : Bool). first-of (legal-name e n && legal-number i) (refuse 11) (first-of (not (fixed-name n)) (refuse 12) (first-of (not t) (refuse 14) (first-of (has-room e b n) (refuse 15) done)))) (hit-holds k m n)
+      ap done-or (insert-code-is n i) ∙ insert-chain (legal-name e n && legal-target e i) (not (fixed-name n)) (not (sought e b n .hit)) (has-room e b n)
+      ∙ ap (λ (t : Bool). first-of (legal-name e n && legal-target e i) (refuse 11) (first-of (not (fixed-name n)) (refuse 12) (first-of (not t) (refuse 14) (first-of (has-room e b n) (refuse 15) done)))) (hit-holds k m n)
 
   remove-reply : (k : Book) → SameBook (book-of e b) k → (n : List ℕ) (r : Bool) → reply e b (remove n) ≡ book-reply e k r (remove n)
   unfolding reply book-reply
@@ -122,16 +122,16 @@ module _ (e : Edition) (sane : Sane e) (b : List ℕ) (h : bytes b ≡ true) (a 
       ∙ ap (λ (t : Bool). first-of (legal-name e n) (refuse 11) (first-of (not (fixed-name n)) (refuse 12) (first-of t (refuse 13) done))) (hit-holds k m n)
 
   -- an insert that is done
-  pub insert-facts : (n : List ℕ) (i : ℕ) → insert-code e b n i ≡ 0
-      → (legal-name e n ≡ true) × (legal-number i ≡ true) × (fixed-name n ≡ false) × (sought e b n .hit ≡ false) × (has-room e b n ≡ true)
+  pub insert-facts : (n : List ℕ) (i : Target) → insert-code e b n i ≡ 0
+      → (legal-name e n ≡ true) × (legal-target e i ≡ true) × (fixed-name n ≡ false) × (sought e b n .hit ≡ false) × (has-room e b n ≡ true)
   insert-facts n i q =
-      let p1 : _ = passes (legal-name e n && legal-number i) 10 (otherwise (not (fixed-name n)) 12 (otherwise (not (sought e b n .hit)) 14 (otherwise (has-room e b n) 15 0))) (sym (insert-code-is n i) ∙ q) in
+      let p1 : _ = passes (legal-name e n && legal-target e i) 10 (otherwise (not (fixed-name n)) 12 (otherwise (not (sought e b n .hit)) 14 (otherwise (has-room e b n) 15 0))) (sym (insert-code-is n i) ∙ q) in
       let p2 : _ = passes (not (fixed-name n)) 11 (otherwise (not (sought e b n .hit)) 14 (otherwise (has-room e b n) 15 0)) (p1 .1) in
       let p3 : _ = passes (not (sought e b n .hit)) 13 (otherwise (has-room e b n) 15 0) (p2 .1) in
       let p4 : _ = passes (has-room e b n) 14 0 (p3 .1) in
-      (and-left (legal-name e n) (legal-number i) (p1 .0), and-right (legal-name e n) (legal-number i) (p1 .0), not-true (fixed-name n) (p2 .0), not-true (sought e b n .hit) (p3 .0), p4 .0)
+      (and-left (legal-name e n) (legal-target e i) (p1 .0), and-right (legal-name e n) (legal-target e i) (p1 .0), not-true (fixed-name n) (p2 .0), not-true (sought e b n .hit) (p3 .0), p4 .0)
 
-  pub insert-done : (n : List ℕ) (i : ℕ) → bytes n ≡ true → insert-code e b n i ≡ 0 → Inserted e b n i (insert-block e b n i)
+  pub insert-done : (n : List ℕ) (i : Target) → bytes n ≡ true → insert-code e b n i ≡ 0 → Inserted e b n i (insert-block e b n i)
   unfolding insert-block
   insert-done n i nb q =
       let f : _ = insert-facts n i q in
@@ -210,7 +210,7 @@ module _ (e : Edition) (sane : Sane e) (b : List ℕ) (h : bytes b ≡ true) (a 
       rw (t, le-leb (entry-size e (length m)) (size (longest (gaps (records e b)))) l) refl
 
   -- a legal absent name with a legal number goes in where (a) finds room
-  goes-in : (m : List ℕ) (i : ℕ) → legal-name e m ≡ true → legal-number i ≡ true → holds e m (book-of e b) ≡ false → has-room e b m ≡ true → reply e b (insert m i) ≡ done
+  goes-in : (m : List ℕ) (i : Target) → legal-name e m ≡ true → legal-target e i ≡ true → holds e m (book-of e b) ≡ false → has-room e b m ≡ true → reply e b (insert m i) ≡ done
   unfolding reply
   goes-in m i lg ln hd rm =
       let nh : some-of (λ r. same-name e m (name r)) (entries (records e b)) ≡ false = sym (holds-entries e m b) ∙ hd in
@@ -231,19 +231,19 @@ module _ (e : Edition) (sane : Sane e) (b : List ℕ) (h : bytes b ≡ true) (a 
   unfolding book-after
   refused-is c an q = rw (ap is-done (sym an) ∙ q) refl
 
-  insert-right : (n : List ℕ) (i : ℕ) → bytes n ≡ true → Call-right e k b (insert n i)
+  insert-right : (n : List ℕ) (i : Target) → bytes n ≡ true → Call-right e k b (insert n i)
   unfolding after reply Reuse insert-block
   insert-right n i nb =
       let an : reply e b (insert n i) ≡ book-reply e k (has-room e b n) (insert n i) = insert-reply e sane b h a k m n i in
       by-cases (eqb (insert-code e b n i) 0)
       (λ z. let q : insert-code e b n i ≡ 0 = eqb-true (insert-code e b n i) 0 z in
       let w : Inserted e b n i (insert-block e b n i) = insert-done e sane b h a n i nb q in
-      let bk : book-after e k (has-room e b n) (insert n i) ≡ held n i ∷ k = done-is (insert n i) an (rw z refl) in
+      let bk : book-after e k (has-room e b n) (insert n i) ≡ held n (kept-of e i) ∷ k = done-is (insert n i) an (rw z refl) in
       record {
         answers = an;
         accepted = w .accepted;
         lengths = w .long;
-        listed = subst (λ (j : Book). SameBook (book-of e (insert-block e b n i)) j) (ap₂ (λ (x : List ℕ) (y : ℕ). held x y ∷ k) (w .named) (w .numbered) ∙ sym bk)
+        listed = subst (λ (j : Book). SameBook (book-of e (insert-block e b n i)) j) (ap₂ (λ (x : List ℕ) (y : Target). held x y ∷ k) (w .named) (w .aimed) ∙ sym bk)
             (book-inserted e b (insert-block e b n i) k m (w .before) (w .new) (w .behind) (w .old-entries) (w .new-entries-are));
         adds-up = adds-up e sane (insert-block e b n i) (stays-bytes e sane b h a (insert n i) nb) (w .accepted);
         reuse = tt;

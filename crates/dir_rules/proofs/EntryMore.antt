@@ -1,25 +1,27 @@
 -- One entry more: the parts stay good.
 -- Assumes nothing.
-use Prim.Native.Nat.{ℕ, _+_, _-_, _/_, _^_, _<_}
+use Prim.Native.Nat.{ℕ, zero, suc, _+_, _-_, _/_, _^_, _≤_, _<_}
 use native.Mathlib.Omega.{arith}
 use mathlib.Core.Bool.{Bool, true, false, not, _&&_, _||_, true≢false}
-use mathlib.Core.Path.{_≡_, refl, sym, _∙_, ap, subst}
+use mathlib.Core.Path.{_≡_, refl, sym, _∙_, ap, ap₂, subst}
 use mathlib.Core.List.{List, _∷_, _++_, map, append-assoc}
-use lib.Dec.{eqb}
-use lib.ListN.{replicate, length, take}
+use lib.Dec.{eqb, leb}
+use lib.ListN.{replicate, length, take, getD, length-append}
 use lib.Seq.{take-append-seam, take-at}
-use borrow.Author.Tests.{eqb-true, eqb-false, ne-eqb, not-true}
+use borrow.Author.Tests.{eqb-true, eqb-false, ne-eqb, not-true, leb-true}
 use Rattle.be.specs.Lists.{every, some-of, same}
-use Rattle.be.specs.Bytes.{be, to-be}
+use Rattle.be.specs.Bytes.{be, be-from, to-be, field}
 use Rattle.edition.specs.declared.Edition.{Edition}
 use Rattle.edition.specs.Edition.{entry-size, Sane}
 use Rattle.name.specs.Name.{legal-name, legal-number, hash-of, same-name, fixed-name, dot, dotdot}
-use Rattle.dir_rules.specs.Record.{Rec, rec, apart, entries, is-entry, name, number, entry-bytes}
+use Rattle.dir_rules.specs.Record.{Target, target, target-of, kept-of, kind-of, pad, Rec, rec, apart, entries, is-entry, name, number, entry-bytes}
 use Rattle.dir_rules.specs.Block.{Slot, slot}
-use Rattle.dir_rules.specs.Verdict.{names-ok, numbers-ok, name-ok, entry-at}
+use Rattle.dir_rules.specs.Verdict.{legal-type, legal-target, names-ok, numbers-ok, name-ok, entry-at}
 use Rattle.dir_rules.specs.Change.{insert-slot}
-use Rattle.be.proofs.Bools.{and-left, and-right, and-both, or-right, neither}
+use Rattle.be.proofs.Bools.{and-left, and-right, and-both, or-right, neither, by-cases}
 use Rattle.be.proofs.Numbers.{be-to-be, length-to-be}
+use Rattle.be.proofs.Parts.{part-at}
+use Rattle.dir_rules.proofs.WritesLeave.{entry-namelen}
 use Rattle.dir_rules.proofs.CutJoin.{Laid}
 use Rattle.dir_rules.proofs.SlotCounts.{Apart}
 use Rattle.dir_rules.proofs.IndexedEntries.{Kept, indexed-insert, addr-of}
@@ -27,20 +29,59 @@ use Rattle.dir_rules.proofs.OneMore.{every-mid, some-mid, once-mid}
 use Rattle.dir_rules.proofs.RecordPlaces.{Split, some-split, every-at, every-map, apart-keep, apart-front}
 use Rattle.dir_rules.proofs.GoodParts.{Good}
 
+ne-zero : (f : ℕ) → (f ≡ 0 → ⊥) → f ≤ 1 → f ≡ 1
+ne-zero zero h l = absurd (h refl)
+ne-zero (suc f) h l = omega arith
+
+type-fits : (e : Edition) (k : ℕ) → e .ftype ≡ 1 → (leb 1 k && leb k 8) ≡ true → k < 256 ^ e .ftype
+type-fits e k q h = rw q (omega (arith, leb-true k 8 (and-right (leb 1 k) (leb k 8) h)))
+
+no-bytes : (v : ℕ) → be (to-be 0 v) ≡ 0
+unfolding be be-from to-be
+no-bytes v = refl
+
+-- a legal target has a legal number and a legal type
+pub target-number : (e : Edition) (i : Target) → legal-target e i ≡ true → legal-number (i .inode) ≡ true
+unfolding legal-target
+target-number e i h = and-left (legal-number (i .inode)) (legal-type e (i .kind)) h
+
+pub target-type : (e : Edition) (i : Target) → legal-target e i ≡ true → legal-type e (i .kind) ≡ true
+unfolding legal-target
+target-type e i h = and-right (legal-number (i .inode)) (legal-type e (i .kind)) h
+
 -- the name and the number of a new entry
-pub entry-name : (e : Edition) (o i : ℕ) (n : List ℕ) → name (rec o (entry-bytes e o i n)) ≡ n
+pub entry-name : (e : Edition) (o : ℕ) (i : Target) (n : List ℕ) → name (rec o (entry-bytes e o i n)) ≡ n
 unfolding entry-bytes to-be
 entry-name e o i n =
-    let pd : List ℕ = replicate (entry-size e (length n) - (11 + length n)) 0 in
+    let pd : List ℕ = pad e (i .kind) n in
     ap (take (length n)) (append-assoc n pd (to-be 2 o)) ∙ take-append-seam n (pd ++ to-be 2 o)
 
-pub entry-number : (e : Edition) (o i : ℕ) (n : List ℕ) → i < 256 ^ 8 → number (rec o (entry-bytes e o i n)) ≡ i
+pub entry-number : (e : Edition) (o : ℕ) (i : Target) (n : List ℕ) → i .inode < 256 ^ 8 → number (rec o (entry-bytes e o i n)) ≡ i .inode
 unfolding entry-bytes
 entry-number e o i n h =
-    let pd : List ℕ = replicate (entry-size e (length n) - (11 + length n)) 0 in
-    let q : entry-bytes e o i n ≡ to-be 8 i ++ ((length n ∷ n) ++ (pd ++ to-be 2 o)) =
-    append-assoc (to-be 8 i ++ (length n ∷ n)) pd (to-be 2 o) ∙ append-assoc (to-be 8 i) (length n ∷ n) (pd ++ to-be 2 o) in
-    ap be (ap (take 8) q ∙ take-at (to-be 8 i) ((length n ∷ n) ++ (pd ++ to-be 2 o)) 8 (length-to-be 8 i)) ∙ be-to-be 8 i h
+    let pd : List ℕ = pad e (i .kind) n in
+    let q : entry-bytes e o i n ≡ to-be 8 (i .inode) ++ ((length n ∷ n) ++ (pd ++ to-be 2 o)) =
+    append-assoc (to-be 8 (i .inode) ++ (length n ∷ n)) pd (to-be 2 o) ∙ append-assoc (to-be 8 (i .inode)) (length n ∷ n) (pd ++ to-be 2 o) in
+    ap be (ap (take 8) q ∙ take-at (to-be 8 (i .inode)) ((length n ∷ n) ++ (pd ++ to-be 2 o)) 8 (length-to-be 8 (i .inode))) ∙ be-to-be 8 (i .inode) h
+
+-- and its file type, where the edition has one
+pub entry-kind : (e : Edition) → Sane e → (o : ℕ) (i : Target) (n : List ℕ) → legal-type e (i .kind) ≡ true → kind-of e (rec o (entry-bytes e o i n)) ≡ kept-of e i .kind
+unfolding entry-bytes pad legal-type
+entry-kind e sane o i n h =
+    let t : List ℕ = to-be (e .ftype) (i .kind) in
+    let z : List ℕ = replicate (entry-size e (length n) - (11 + e .ftype + length n)) 0 in
+    let f : List ℕ = to-be 8 (i .inode) ++ (length n ∷ n) in
+    let q : entry-bytes e o i n ≡ f ++ (t ++ (z ++ to-be 2 o)) = append-assoc f (t ++ z) (to-be 2 o) ∙ ap (λ (l : List ℕ). f ++ l) (append-assoc t z (to-be 2 o)) in
+    let l : length f ≡ 9 + length n = simp (length-append, length-to-be) (omega arith) in
+    let nl : getD (entry-bytes e o i n) 8 0 ≡ length n = entry-namelen e o i n in
+    ap₂ (λ (k : ℕ) (c : List ℕ). field (9 + k) (e .ftype) c) nl q
+    ∙ ap be (part-at f t (z ++ to-be 2 o) (9 + length n) (e .ftype) l (length-to-be (e .ftype) (i .kind)))
+    ∙ by-cases (eqb (e .ftype) 0)
+    (λ y. rw (y, eqb-true (e .ftype) 0 y) (no-bytes (i .kind)))
+    (λ y. rw y (be-to-be (e .ftype) (i .kind) (type-fits e (i .kind) (ne-zero (e .ftype) (eqb-false (e .ftype) 0 y) (sane .ftype-most)) (rw y at h))))
+
+pub entry-target : (e : Edition) → Sane e → (o : ℕ) (i : Target) (n : List ℕ) → i .inode < 256 ^ 8 → legal-type e (i .kind) ≡ true → target-of e (rec o (entry-bytes e o i n)) ≡ kept-of e i
+entry-target e sane o i n h k = ap₂ (λ (j t : ℕ). target j t) (entry-number e o i n h) (entry-kind e sane o i n k)
 
 -- an entry elsewhere has another offset
 other-off : (x : Rec) (es : List Rec) (o : ℕ) → Apart (addr-of x ∷ map addr-of es) → some-of (λ r. eqb (r .off) o) es ≡ true → eqb (x .off) o ≡ false

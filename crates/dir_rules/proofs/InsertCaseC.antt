@@ -12,7 +12,7 @@ use Rattle.be.specs.Bytes.{bytes, written, Write}
 use Rattle.edition.specs.declared.Edition.{Edition}
 use Rattle.edition.specs.Edition.{entry-size, Sane}
 use Rattle.name.specs.Name.{hash-of}
-use Rattle.dir_rules.specs.Record.{Rec, size, is-gap, is-entry, entries, gap-writes}
+use Rattle.dir_rules.specs.Record.{Target, Rec, size, is-gap, is-entry, entries, gap-writes}
 use Rattle.dir_rules.specs.Block.{Slot, slot, slot-bytes, records, slots, stale-of}
 use Rattle.dir_rules.specs.Verdict.{Accepted}
 use Rattle.dir_rules.specs.Change.{changed, entry-writes, index-writes, insert-slot}
@@ -30,7 +30,7 @@ use Rattle.dir_rules.proofs.AcceptedParts.{fit-of, good-of, block-aroun
 use Rattle.dir_rules.proofs.ChangeAccepted.{After, finish, short, total-long, three-long, long-index, length-insert}
 use Rattle.dir_rules.proofs.InsertFree.{Asked, asked-small}
 
-module _ (e : Edition) (sane : Sane e) (b : List ℕ) (h : bytes b ≡ true) (a : Accepted e b) (i : ℕ) (n : List ℕ) (ask : Asked e b n i)
+module _ (e : Edition) (sane : Sane e) (b : List ℕ) (h : bytes b ≡ true) (a : Accepted e b) (i : Target) (n : List ℕ) (ask : Asked e b n i)
     (xs : List Rec) (g : Rec) (ys : List Rec) (t : Rec) (q : records e b ≡ xs ++ (g ∷ (ys ++ (t ∷ [])))) (gp : is-gap g ≡ true) (tp : is-gap t ≡ true)
     (fits : entry-size e (length n) ≤ size g) (eight : 8 ≤ size t) (none : stale-of b ≡ 0) where
   here : Laid e (e .header + length (join xs)) (g ∷ (ys ++ (t ∷ [])))

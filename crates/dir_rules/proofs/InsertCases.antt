@@ -13,6 +13,7 @@ use Rattle.be.specs.Bytes.{bytes, Write}
 use Rattle.edition.specs.declared.Edition.{Edition}
 use Rattle.edition.specs.Edition.{entry-size, Sane}
 use Rattle.name.specs.Name.{hash-of}
+use Rattle.dir_rules.specs.Record.{Target, target-of, kept-of}
 use Rattle.dir_rules.specs.Record.{gap-writes, Rec, rec, size, is-gap, entries, gaps, name, number, besides}
 use Rattle.dir_rules.specs.Block.{Slot, slot, slot-bytes, records, slots, stale-of, data-end, is-stale, is-live}
 use Rattle.dir_rules.specs.Verdict.{Accepted, best-pairs}
@@ -24,7 +25,7 @@ use Rattle.dir_rules.proofs.CutJoin.{join, Laid, laid-back}
 use Rattle.dir_rules.proofs.BlockParts.{length-slot-bytes}
 use Rattle.dir_rules.proofs.RecordPlaces.{Split}
 use Rattle.dir_rules.proofs.GoodParts.{tally-length}
-use Rattle.dir_rules.proofs.EntryMore.{entry-name, entry-number}
+use Rattle.dir_rules.proofs.EntryMore.{entry-name, entry-target, target-type}
 use Rattle.dir_rules.proofs.InsertGood.{new-records, new-entry, new-entries}
 use Rattle.dir_rules.proofs.AcceptedParts.{Found-in, keep-find, fit-of, good-of, end-of-data}
 use Rattle.dir_rules.proofs.ChangeAccepted.{After, longest-in}
@@ -33,7 +34,7 @@ use Rattle.dir_rules.proofs.RemoveAccepted.{snoc}
 use Rattle.dir_rules.proofs.InsertCaseC.{insert-c, records-c, writes-of-c, index-c, behind, entries-old}
 
 -- what an insert leaves: one entry more, at its place among the others
-pub record Inserted (e : Edition) (b n : List ℕ) (i : ℕ) (c : List ℕ) : Type 0 where
+pub record Inserted (e : Edition) (b n : List ℕ) (i : Target) (c : List ℕ) : Type 0 where
   pub before : List Rec
   pub behind : List Rec
   pub new : Rec
@@ -43,7 +44,7 @@ pub record Inserted (e : Edition) (b n : List ℕ) (i : ℕ) (c : List ℕ) : Ty
   pub old-entries : entries (records e b) ≡ before ++ behind
   pub new-entries-are : entries (records e c) ≡ before ++ new ∷ behind
   pub named : name new ≡ n
-  pub numbered : number new ≡ i
+  pub aimed : target-of e new ≡ kept-of e i
 
 -- T, real or not
 pub data Touch (o : ℕ) (rs : List Rec) : Type 0 where
@@ -85,7 +86,7 @@ last-behind o rs ws t q zs g (x ∷ vs) r ne =
 stale-least : (m : Room) → some-stale m ≡ true → 1 ≤ m .stale
 stale-least m q = omega (arith, leb-true)
 
-module _ (e : Edition) (sane : Sane e) (b : List ℕ) (h : bytes b ≡ true) (a : Accepted e b) (i : ℕ) (n : List ℕ) (ask : Asked e b n i) where
+module _ (e : Edition) (sane : Sane e) (b : List ℕ) (h : bytes b ≡ true) (a : Accepted e b) (i : Target) (n : List ℕ) (ask : Asked e b n i) where
   from-free : (xs : List Rec) (c : List ℕ) (ys : List Rec) (r : List ℕ) (o : ℕ) (ts : List Slot) (m : ℕ) (f : Free e sane b h a i n ask xs c ys r o ts m)
       → Inserted e b n i (changed e b (free-writes e sane b h a i n ask xs c ys r o ts m f))
   unfolding new-entry
@@ -102,7 +103,7 @@ module _ (e : Edition) (sane : Sane e) (b : List ℕ) (h : bytes b ≡ true) (a 
         old-entries = f .entries-old;
         new-entries-are = ap entries (w .records-are) ∙ new-entries e sane i n xs c ys o (asked-small e b n i ask);
         named = entry-name e o i n;
-        numbered = entry-number e o i n (omega (arith, asked-small e b n i ask));
+        aimed = entry-target e sane o i n (omega (arith, asked-small e b n i ask)) (target-type e i (ask .number-legal));
       }
 
   need : ℕ
@@ -203,7 +204,7 @@ module _ (e : Edition) (sane : Sane e) (b : List ℕ) (h : bytes b ≡ true) (a 
         old-entries = entries-old e sane b h a i n ask xs g ys t q gp tp f k z;
         new-entries-are = ap entries (w .records-are) ∙ new-entries e sane i n xs (g .raw) (behind e sane b h a i n ask xs g ys t q gp tp f k z) (g .off) (asked-small e b n i ask);
         named = entry-name e (g .off) i n;
-        numbered = entry-number e (g .off) i n (omega (arith, asked-small e b n i ask));
+        aimed = entry-target e sane (g .off) i n (omega (arith, asked-small e b n i ask)) (target-type e i (ask .number-legal));
       }
 
   go-c : Touch (data-end b) (records e b) → stale-of b ≡ 0 → 8 ≤ size T → entry-size e (length n) ≤ size (longest (besides (T .off) (gaps (records e b))))

@@ -13,9 +13,9 @@ use Rattle.be.specs.Bytes.{bytes, to-be, written, Write}
 use Rattle.edition.specs.declared.Edition.{Edition}
 use Rattle.edition.specs.Edition.{entry-size, Sane}
 use Rattle.name.specs.Name.{hash-of, same-name, legal-name, legal-number, fixed-name}
-use Rattle.dir_rules.specs.Record.{Rec, size, is-gap, is-entry, entries, name}
+use Rattle.dir_rules.specs.Record.{Target, Rec, size, is-gap, is-entry, entries, name}
 use Rattle.dir_rules.specs.Block.{Slot, slot, slot-bytes, records, slots, stale-of, is-stale, is-live}
-use Rattle.dir_rules.specs.Verdict.{Accepted}
+use Rattle.dir_rules.specs.Verdict.{Accepted, legal-target}
 use Rattle.dir_rules.specs.Change.{changed, entry-writes, index-writes, insert-slot}
 use Rattle.be.proofs.Numbers.{length-to-be}
 use Rattle.edition.proofs.Sizes.{entry-size-eights}
@@ -28,22 +28,23 @@ use Rattle.dir_rules.proofs.InsertGood.{new-records, new-apart, new-lai
 use Rattle.dir_rules.proofs.GapsApart.{Follows, follows, follows-front, follows-back}
 use Rattle.dir_rules.proofs.AcceptedParts.{fit-of, good-of, block-around, index-bytes, place-of, fit-insert, fit-without, fit-keep}
 use Rattle.name.proofs.Legality.{number-bounds}
+use Rattle.dir_rules.proofs.EntryMore.{target-number}
 use Rattle.dir_rules.proofs.ChangeAccepted.{After, finish, short, laid-mod, length-insert, length-without, length-live, long-index}
 
--- a legal request to insert name n with number i, where no live entry of the block bears the name
-pub record Asked (e : Edition) (b n : List ℕ) (i : ℕ) : Type 0 where
+-- a legal request to insert name n with target i, where no live entry of the block bears the name
+pub record Asked (e : Edition) (b n : List ℕ) (i : Target) : Type 0 where
   pub name-bytes : bytes n ≡ true
   pub name-legal : legal-name e n ≡ true
-  pub number-legal : legal-number i ≡ true
+  pub number-legal : legal-target e i ≡ true
   pub not-fixed : fixed-name n ≡ false
   pub absent : some-of (λ r. same-name e n (name r)) (entries (records e b)) ≡ false
 
 -- its number fits an entry
-pub asked-small : (e : Edition) (b n : List ℕ) (i : ℕ) → Asked e b n i → i < 2 ^ 56
-asked-small e b n i ask = number-bounds i (ask .number-legal) .1
+pub asked-small : (e : Edition) (b n : List ℕ) (i : Target) → Asked e b n i → i .inode < 2 ^ 56
+asked-small e b n i ask = number-bounds (i .inode) (target-number e i (ask .number-legal)) .1
 
 -- an insert into free bytes c behind the records xs, with the records ys behind them: (a), (b) and (d)
-module _ (e : Edition) (sane : Sane e) (b : List ℕ) (h : bytes b ≡ true) (a : Accepted e b) (i : ℕ) (n : List ℕ) (ask : Asked e b n i) where
+module _ (e : Edition) (sane : Sane e) (b : List ℕ) (h : bytes b ≡ true) (a : Accepted e b) (i : Target) (n : List ℕ) (ask : Asked e b n i) where
   pub record Free (xs : List Rec) (c : List ℕ) (ys : List Rec) (r : List ℕ) (o : ℕ) (ts : List Slot) (m : ℕ) : Type 0 where
     pub around : b ≡ take (e .header) b ++ (join xs ++ (c ++ (join ys ++ r)))
     pub place : e .header + length (join xs) ≡ o
@@ -105,7 +106,7 @@ module _ (e : Edition) (sane : Sane e) (b : List ℕ) (h : bytes b ≡ true) (a 
     insert-free = finish e sane b h a free-writes (new-records e sane i n xs c ys o) new-index m written-new fit-new good-new
 
 -- where the free bytes lie, by each case
-module _ (e : Edition) (sane : Sane e) (b : List ℕ) (h : bytes b ≡ true) (a : Accepted e b) (i : ℕ) (n : List ℕ) (ask : Asked e b n i) where
+module _ (e : Edition) (sane : Sane e) (b : List ℕ) (h : bytes b ≡ true) (a : Accepted e b) (i : Target) (n : List ℕ) (ask : Asked e b n i) where
   module _ (xs : List Rec) (g : Rec) (ys : List Rec) (q : records e b ≡ xs ++ (g ∷ ys)) (gp : is-gap g ≡ true) where
     here : Laid e (e .header + length (join xs)) (g ∷ ys)
     here = place-of e sane b h a xs (g ∷ []) ys q

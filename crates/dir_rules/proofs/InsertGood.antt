@@ -13,14 +13,15 @@ use Rattle.be.specs.Bytes.{be, be-from}
 use Rattle.edition.specs.declared.Edition.{Edition}
 use Rattle.edition.specs.Edition.{entry-size, Sane}
 use Rattle.name.specs.Name.{hash-of, same-name, legal-name, legal-number, fixed-name}
-use Rattle.dir_rules.specs.Record.{Rec, rec, is-entry, entries, apart, gap-start, name, number, entry-bytes}
+use Rattle.dir_rules.specs.Record.{Target, Rec, rec, is-entry, entries, apart, gap-start, name, number, entry-bytes}
 use Rattle.dir_rules.specs.Block.{Slot, slot}
+use Rattle.dir_rules.specs.Verdict.{legal-target}
 use Rattle.dir_rules.specs.Change.{insert-slot}
 use Rattle.dir_rules.proofs.CutJoin.{join, Laid, laid-append}
 use Rattle.dir_rules.proofs.WritesLeave.{free, Gapful, gap-raw, entry-no-gap}
 use Rattle.dir_rules.proofs.IndexedEntries.{Kept}
 use Rattle.dir_rules.proofs.GoodParts.{Good}
-use Rattle.dir_rules.proofs.EntryMore.{good-insert, entry-name, entry-number}
+use Rattle.dir_rules.proofs.EntryMore.{good-insert, entry-name, entry-number, target-number}
 use Rattle.dir_rules.proofs.InsertWrites.{placed, placed-laid, length-placed}
 use Rattle.dir_rules.proofs.GapsApart.{Follows, from-follows, weaken, last-gap?, follows-append, follows-entry}
 
@@ -41,7 +42,7 @@ pub free-follows : (o : ℕ) (c : List ℕ) (ys : List Rec) → Follows true ys 
 free-follows o [] ys h = weaken true ys h
 free-follows o (x ∷ xs) ys h = (refl, rw (gap-raw-gap o (x ∷ xs)) h)
 
-module _ (e : Edition) (sane : Sane e) (i : ℕ) (n : List ℕ) (xs : List Rec) (c : List ℕ) (ys : List Rec) (o : ℕ) where
+module _ (e : Edition) (sane : Sane e) (i : Target) (n : List ℕ) (xs : List Rec) (c : List ℕ) (ys : List Rec) (o : ℕ) where
   E : ℕ
   E = entry-size e (length n)
 
@@ -51,7 +52,7 @@ module _ (e : Edition) (sane : Sane e) (i : ℕ) (n : List ℕ) (xs : List Rec) 
   unfoldable pub new-records : List Rec
   new-records = xs ++ (placed e o i n c ++ ys)
 
-  pub new-entries : i < 2 ^ 56 → entries new-records ≡ entries xs ++ new-entry ∷ entries ys
+  pub new-entries : i .inode < 2 ^ 56 → entries new-records ≡ entries xs ++ new-entry ∷ entries ys
   unfolding new-records new-entry
   new-entries k =
       keep-append is-entry xs (placed e o i n c ++ ys)
@@ -61,7 +62,7 @@ module _ (e : Edition) (sane : Sane e) (i : ℕ) (n : List ℕ) (xs : List Rec) 
       (keep-append is-entry (free (o + entry-size e (length n)) (drop (entry-size e (length n)) c)) ys
       ∙ ap (λ (l : List Rec). l ++ entries ys) (free-entries (o + entry-size e (length n)) (drop (entry-size e (length n)) c)))))
 
-  pub new-apart : i < 2 ^ 56 → Follows false xs → Follows true ys → apart new-records ≡ true
+  pub new-apart : i .inode < 2 ^ 56 → Follows false xs → Follows true ys → apart new-records ≡ true
   unfolding new-records
   new-apart k fx fy =
       from-follows false (xs ++ (placed e o i n c ++ ys))
@@ -69,7 +70,7 @@ module _ (e : Edition) (sane : Sane e) (i : ℕ) (n : List ℕ) (xs : List Rec) 
       (follows-entry (last-gap? false xs) (rec o (entry-bytes e o i n)) (free (o + entry-size e (length n)) (drop (entry-size e (length n)) c) ++ ys) (entry-no-gap e o i n k)
       (free-follows (o + entry-size e (length n)) (drop (entry-size e (length n)) c) ys fy)))
 
-  pub new-laid : i < 2 ^ 56 → e .header + length (join xs) ≡ o → entry-size e (length n) ≤ length c → length c % 8 ≡ 0 → o + length c < 256 ^ 2
+  pub new-laid : i .inode < 2 ^ 56 → e .header + length (join xs) ≡ o → entry-size e (length n) ≤ length c → length c % 8 ≡ 0 → o + length c < 256 ^ 2
       → Laid e (e .header) xs → Laid e (o + length c) ys → Laid e (e .header) new-records
   unfolding new-records
   new-laid k q l m b lx ly =
@@ -79,13 +80,13 @@ module _ (e : Edition) (sane : Sane e) (i : ℕ) (n : List ℕ) (xs : List Rec) 
 
   pub new-good : (rs : List Rec) (ss ts : List Slot) (st m : ℕ) → Good e rs ss st → Kept ss ts m
       → entries rs ≡ entries xs ++ entries ys → Laid e (e .header) new-records → apart new-records ≡ true
-      → legal-name e n ≡ true → legal-number i ≡ true → i < 2 ^ 56 → fixed-name n ≡ false
+      → legal-name e n ≡ true → legal-target e i ≡ true → i .inode < 2 ^ 56 → fixed-name n ≡ false
       → some-of (λ r. same-name e n (name r)) (entries xs ++ entries ys) ≡ false
       → Good e new-records (insert-slot (slot (hash-of e n) (o / 8)) ts) m
   unfolding new-entry
   new-good rs ss ts st m g k old l ap′ lg ln ib fx ab =
       let nm : name new-entry ≡ n = entry-name e o i n in
-      let nr : number new-entry ≡ i = entry-number e o i n (omega arith) in
+      let nr : number new-entry ≡ i .inode = entry-number e o i n (omega arith) in
       subst (λ (w : List ℕ). Good e new-records (insert-slot (slot (hash-of e w) (o / 8)) ts) m) nm
       (good-insert e rs new-records (entries xs) new-entry (entries ys) ss ts st m sane g k l ap′ old (new-entries ib)
-      (rw nm lg) (rw nr ln) (rw nm fx) (rw nm ab))
+      (rw nm lg) (rw nr (target-number e i ln)) (rw nm fx) (rw nm ab))

@@ -17,7 +17,7 @@ use Rattle.edition.proofs.Sizes.{v4-sane}
 use Rattle.name.specs.Name.{hash-of, same-name, legal-name}
 use Rattle.name.proofs.Same.{same-name-sym, same-name-trans, same-name-hash}
 use Rattle.dir_rules.specs.declared.Looked.the-variants.{Found, Absent}
-use Rattle.dir_rules.specs.Record.{Rec, entries, name, number}
+use Rattle.dir_rules.specs.Record.{Rec, Target, entries, name, number}
 use Rattle.dir_rules.specs.Block.{Slot, records, slots, stale-of, is-live}
 use Rattle.dir_rules.specs.Verdict.{Accepted}
 use Rattle.dir_rules.specs.Lookup.{candidate, match, step-if, seek, sought, name-at, number-at, bears, up-to, names-compared, lookup, lookup-refusal, lookup-code, looked-code}
@@ -25,7 +25,7 @@ use Rattle.dir_rules.specs.Claims.{borne, Lookup-right}
 use Rattle.dir_rules.proofs.RecordPlaces.{Split, split-cons, some-at, some-split}
 use Rattle.dir_rules.proofs.SearchFinds.{Owner, owner, read-at}
 use Rattle.dir_rules.proofs.AcceptedParts.{good-of, apart-of, reads-of}
-use Rattle.dir_rules.proofs.BooksAgree.{one-number}
+use Rattle.dir_rules.proofs.BooksAgree.{one-target}
 use Rattle.dir_rules.proofs.LookupFinds.{hit-of, spot, spot-name, number-found}
 
 -- a lookup's number
@@ -100,7 +100,7 @@ module _ (e : Edition) (sane : Sane e) (b : List ℕ) (h : bytes b ≡ true) (a 
         let rs : same-name e (name r) (name (s .here)) ≡ true =
         same-name-trans e (name r) n (name (s .here)) (same-name-sym e n (name r) sn) (spot-name e sane b h a n ht) in
         let nr : number-at b (sought e b n .at) ≡ number r =
-        number-found e sane b h a n ht ∙ one-number e (entries (records e b)) (good-of e sane b h a .once) t s rs in
+        number-found e sane b h a n ht ∙ ap (λ (i : Target). i .inode) (one-target e (entries (records e b)) (good-of e sane b h a .once) t s rs) in
         rw (a, l, ht, nr, compared-right) refl
 
     looked-absent : borne e b n ≡ false → lookup e b n ≡ Absent (names-compared e b n)

@@ -1,9 +1,10 @@
 -- Where records stand, and what a block reads at their offsets.
 -- Assumes nothing.
 use Prim.Native.Nat.{ℕ, _+_, _*_, _%_, _≤_, _<_}
+use native.Mathlib.Nat.{add-assoc}
 use native.Mathlib.Omega.{arith}
 use mathlib.Core.Bool.{Bool, true, false, not, _&&_, false≢true}
-use mathlib.Core.Path.{_≡_, refl, sym, _∙_, ap}
+use mathlib.Core.Path.{_≡_, refl, sym, _∙_, ap, ap₂}
 use mathlib.Core.List.{List, [], _∷_, _++_, map}
 use lib.Dec.{eqb}
 use lib.ListN.{length, take, drop, getD, length-drop, List·getD-append}
@@ -12,8 +13,8 @@ use borrow.Author.Tests.{eqb-false, eq-eqb, ne-eqb, not-true}
 use Rattle.be.specs.Lists.{every, some-of, tally, keep}
 use Rattle.be.specs.Bytes.{be, part}
 use Rattle.edition.specs.declared.Edition.{Edition}
-use Rattle.dir_rules.specs.Record.{Rec, says, size, name, number, is-gap}
-use Rattle.dir_rules.specs.Lookup.{name-at, number-at}
+use Rattle.dir_rules.specs.Record.{Rec, says, size, name, number, kind-of, is-gap}
+use Rattle.dir_rules.specs.Lookup.{name-at, number-at, kind-at}
 use Rattle.be.proofs.Bools.{and-left, and-right, by-cases, every-cons, every-head, every-tail}
 use Rattle.edition.proofs.Sizes.{entry-size-least}
 use Rattle.dir_rules.proofs.CutJoin.{Laid, Whole}
@@ -103,7 +104,7 @@ laid-eights e p o (r ∷ rs) h l =
 
 -- what a block reads at an entry's offset
 module _ (e : Edition) (p q : List ℕ) (r : Rec) (w : Whole e r) (i : is-gap r ≡ false) (h : length p ≡ r .off) where
-  entry-long : 11 + getD (r .raw) 8 0 ≤ size r
+  entry-long : 11 + e .ftype + getD (r .raw) 8 0 ≤ size r
   unfolding says
   entry-long = omega (arith, rw i at (w .spans), entry-size-least e (getD (r .raw) 8 0))
 
@@ -118,11 +119,21 @@ module _ (e : Edition) (p q : List ℕ) (r : Rec) (w : Whole e r) (i : is-gap r 
       ∙ ap (take (getD (r .raw) 8 0)) (drop-append-add p (r .raw ++ q) 9 ∙ drop-append-le 9 (r .raw) q (omega (arith, entry-long)))
       ∙ take-append-le (getD (r .raw) 8 0) (drop 9 (r .raw)) q (simp length-drop (omega (arith, entry-long)))
 
+  long-there : getD (p ++ (r .raw ++ q)) (r .off + 8) 0 ≡ getD (r .raw) 8 0
+  long-there =
+      ap (λ (n : ℕ). getD (p ++ (r .raw ++ q)) (n + 8) 0) (sym h) ∙ getD-append-add p (r .raw ++ q) 8 0 ∙ List·getD-append (r .raw) q 0 8 (omega (arith, entry-long))
+
   pub name-there : name-at (p ++ (r .raw ++ q)) (r .off) ≡ name r
   name-there =
-      let long : getD (p ++ (r .raw ++ q)) (r .off + 8) 0 ≡ getD (r .raw) 8 0 =
-      ap (λ (n : ℕ). getD (p ++ (r .raw ++ q)) (n + 8) 0) (sym h) ∙ getD-append-add p (r .raw ++ q) 8 0 ∙ List·getD-append (r .raw) q 0 8 (omega (arith, entry-long)) in
-      ap (λ (n : ℕ). part (r .off + 9) n (p ++ (r .raw ++ q))) long ∙ part-there
+      ap (λ (n : ℕ). part (r .off + 9) n (p ++ (r .raw ++ q))) long-there ∙ part-there
+
+  pub kind-there : kind-at e (p ++ (r .raw ++ q)) (r .off) ≡ kind-of e r
+  kind-there =
+      let k : ℕ = getD (r .raw) 8 0 in
+      ap₂ (λ (o n : ℕ). be (take (e .ftype) (drop (o + 9 + n) (p ++ (r .raw ++ q))))) (sym h) long-there
+      ∙ ap (λ (o : ℕ). be (take (e .ftype) (drop o (p ++ (r .raw ++ q))))) (add-assoc (length p) 9 k)
+      ∙ ap (λ (l : List ℕ). be (take (e .ftype) l)) (drop-append-add p (r .raw ++ q) (9 + k) ∙ drop-append-le (9 + k) (r .raw) q (omega (arith, entry-long)))
+      ∙ ap be (take-append-le (e .ftype) (drop (9 + k) (r .raw)) q (simp length-drop (omega (arith, entry-long))))
 
 pub apart-pos : (es : List Rec) → Apart (map addr-of es) → every (λ r. not (eqb (addr-of r) 0)) es ≡ true
 apart-pos [] a = refl

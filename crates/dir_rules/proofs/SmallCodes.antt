@@ -5,6 +5,7 @@ use mathlib.Core.List.{List}
 use borrow.Author.Tests.{leb-true}
 use Rattle.be.proofs.Codes.{otherwise-le}
 use Rattle.edition.specs.declared.Edition.{Edition}
+use Rattle.dir_rules.specs.Record.{Target}
 use Rattle.dir_rules.specs.Verdict.{verdict}
 use Rattle.dir_rules.specs.Lookup.{lookup-refusal, lookup-code}
 use Rattle.dir_rules.specs.Change.{insert-code, remove-code}
@@ -19,7 +20,7 @@ module _ (e : Edition) (b : List ℕ) where
   unfolding lookup-code lookup-refusal
   lookup-small n = search (otherwise-le, verdict-small, leb-true) depth 8
 
-  pub insert-small : (n : List ℕ) (i : ℕ) → insert-code e b n i ≤ 16
+  pub insert-small : (n : List ℕ) (i : Target) → insert-code e b n i ≤ 16
   unfolding insert-code
   insert-small n i = search (otherwise-le, verdict-small, leb-true) depth 8
 

@@ -12,7 +12,7 @@ use Rattle.be.specs.Lists.{keep, without-first}
 use Rattle.be.specs.Bytes.{bytes, to-be, put, written, Write, write}
 use Rattle.edition.specs.declared.Edition.{Edition}
 use Rattle.edition.specs.Edition.{entry-size}
-use Rattle.dir_rules.specs.Record.{Rec, size, entry-bytes, gap-writes, gaps}
+use Rattle.dir_rules.specs.Record.{Target, pad, Rec, size, entry-bytes, gap-writes, gaps}
 use Rattle.dir_rules.specs.Block.{Slot, slot, slots, slot-bytes, records, stale-of, data-end, is-stale, is-live}
 use Rattle.name.specs.Name.{hash-of}
 use Rattle.dir_rules.specs.Lookup.{sought}
@@ -59,13 +59,18 @@ bytes-zeros : (n : ℕ) → bytes (replicate n 0) ≡ true
 bytes-zeros zero = refl
 bytes-zeros (suc n) = bytes-zeros n
 
-bytes-entry : (e : Edition) (o i : ℕ) (n : List ℕ) → bytes n ≡ true → length n < 256 → bytes (entry-bytes e o i n) ≡ true
+bytes-pad : (e : Edition) (k : ℕ) (n : List ℕ) → bytes (pad e k n) ≡ true
+unfolding pad
+bytes-pad e k n =
+    bytes-append (to-be (e .ftype) k) (replicate (entry-size e (length n) - (11 + e .ftype + length n)) 0) (bytes-to-be (e .ftype) k) (bytes-zeros (entry-size e (length n) - (11 + e .ftype + length n)))
+
+bytes-entry : (e : Edition) (o : ℕ) (i : Target) (n : List ℕ) → bytes n ≡ true → length n < 256 → bytes (entry-bytes e o i n) ≡ true
 unfolding entry-bytes
 bytes-entry e o i n h l =
-    bytes-append (to-be 8 i ++ (length n ∷ n) ++ replicate (entry-size e (length n) - (11 + length n)) 0) (to-be 2 o)
-    (bytes-append (to-be 8 i ++ (length n ∷ n)) (replicate (entry-size e (length n) - (11 + length n)) 0)
-    (bytes-append (to-be 8 i) (length n ∷ n) (bytes-to-be 8 i) (every-cons (λ z. ltb z 256) (length n) n (lt-ltb (length n) 256 l) h))
-    (bytes-zeros (entry-size e (length n) - (11 + length n))))
+    bytes-append (to-be 8 (i .inode) ++ (length n ∷ n) ++ pad e (i .kind) n) (to-be 2 o)
+    (bytes-append (to-be 8 (i .inode) ++ (length n ∷ n)) (pad e (i .kind) n)
+    (bytes-append (to-be 8 (i .inode)) (length n ∷ n) (bytes-to-be 8 (i .inode)) (every-cons (λ z. ltb z 256) (length n) n (lt-ltb (length n) 256 l) h))
+    (bytes-pad e (i .kind) n))
     (bytes-to-be 2 o)
 
 all-gap : (o n : ℕ) → All (gap-writes o n)
@@ -95,18 +100,18 @@ bytes-changed e b ws h a =
     bytes-written (written b ws) (write (e .best) (pair-bytes (best-table (gaps (records e (written b ws))))) ∷ []) (bytes-written b ws h a)
     (bytes-pairs (best-table (gaps (records e (written b ws)))), tt)
 
-all-entry : (e : Edition) (i : ℕ) (n : List ℕ) (o u : ℕ) → bytes n ≡ true → length n < 256 → All (entry-writes e i n o u)
+all-entry : (e : Edition) (i : Target) (n : List ℕ) (o u : ℕ) → bytes n ≡ true → length n < 256 → All (entry-writes e i n o u)
 all-entry e i n o u h l = (bytes-entry e o i n h l, all-gap (o + entry-size e (length n)) (u - (o + entry-size e (length n))))
 
-all-two : (e : Edition) (i : ℕ) (n : List ℕ) (o u len : ℕ) (ss : List Slot) (s : ℕ) → bytes n ≡ true → length n < 256 → All (entry-writes e i n o u ++ index-writes len ss s)
+all-two : (e : Edition) (i : Target) (n : List ℕ) (o u len : ℕ) (ss : List Slot) (s : ℕ) → bytes n ≡ true → length n < 256 → All (entry-writes e i n o u ++ index-writes len ss s)
 all-two e i n o u len ss s h l = all-append (entry-writes e i n o u) (index-writes len ss s) (all-entry e i n o u h l) (all-index len ss s)
 
-all-three : (e : Edition) (i : ℕ) (n : List ℕ) (o u p q len : ℕ) (ss : List Slot) (s : ℕ) → bytes n ≡ true → length n < 256
+all-three : (e : Edition) (i : Target) (n : List ℕ) (o u p q len : ℕ) (ss : List Slot) (s : ℕ) → bytes n ≡ true → length n < 256
     → All (entry-writes e i n o u ++ (gap-writes p q ++ index-writes len ss s))
 all-three e i n o u p q len ss s h l =
     all-append (entry-writes e i n o u) (gap-writes p q ++ index-writes len ss s) (all-entry e i n o u h l) (all-append (gap-writes p q) (index-writes len ss s) (all-gap p q) (all-index len ss s))
 
-pub all-insert : (e : Edition) (b n : List ℕ) (i : ℕ) → bytes n ≡ true → length n < 256 → All (insert-writes e b n i)
+pub all-insert : (e : Edition) (b n : List ℕ) (i : Target) → bytes n ≡ true → length n < 256 → All (insert-writes e b n i)
 unfolding insert-writes writes-a writes-b writes-c writes-d
 all-insert e b n i h l =
     let m : Room = room e b n in

@@ -11,7 +11,7 @@ use borrow.Author.Tests.{ne-eqb}
 use Rattle.be.specs.Bytes.{be, be-from, to-be, part, field, put, written, Write}
 use Rattle.edition.specs.declared.Edition.{Edition}
 use Rattle.edition.specs.Edition.{entry-size}
-use Rattle.dir_rules.specs.Record.{Rec, rec, says, tag, gap-start, entry-bytes, gap-writes}
+use Rattle.dir_rules.specs.Record.{Target, pad, Rec, rec, says, tag, gap-start, entry-bytes, gap-writes}
 use Rattle.dir_rules.specs.Block.{Slot, slot-bytes}
 use Rattle.dir_rules.specs.Change.{entry-writes, index-writes}
 use Rattle.be.proofs.Numbers.{length-to-be, be-to-be}
@@ -105,32 +105,33 @@ free-laid e o [] h k l = tt
 free-laid e o (x ∷ xs) h k l = (refl, gap-whole e o (x ∷ xs) (h .0) (h .1) k l, tt)
 
 -- a new entry is whole
-abbrev pub pad : Edition → List ℕ → List ℕ
-pad e n = replicate (entry-size e (length n) - (11 + length n)) 0
+pub length-pad : (e : Edition) (k : ℕ) (n : List ℕ) → length (pad e k n) ≡ entry-size e (length n) - (11 + length n)
+unfolding pad
+length-pad e k n = simp (length-append, length-to-be, length-replicate) (omega (arith, entry-size-least e (length n)))
 
-pub length-entry-bytes : (e : Edition) (o i : ℕ) (n : List ℕ) → length (entry-bytes e o i n) ≡ entry-size e (length n)
+pub length-entry-bytes : (e : Edition) (o : ℕ) (i : Target) (n : List ℕ) → length (entry-bytes e o i n) ≡ entry-size e (length n)
 unfolding entry-bytes
 length-entry-bytes e o i n =
-    simp (length-append, length-to-be, length-replicate) (omega (arith, entry-size-least e (length n)))
+    simp (length-append, length-to-be, length-pad) (omega (arith, entry-size-least e (length n)))
 
-entry-tag : (e : Edition) (o i : ℕ) (n : List ℕ) → o < 256 ^ 2 → tag (rec o (entry-bytes e o i n)) ≡ o
+entry-tag : (e : Edition) (o : ℕ) (i : Target) (n : List ℕ) → o < 256 ^ 2 → tag (rec o (entry-bytes e o i n)) ≡ o
 unfolding entry-bytes
 entry-tag e o i n h =
-    let f : List ℕ = to-be 8 i ++ (length n ∷ n) ++ pad e n in
+    let f : List ℕ = to-be 8 (i .inode) ++ (length n ∷ n) ++ pad e (i .kind) n in
     let k : length f ≡ length (entry-bytes e o i n) - 2 =
-    rw (length-entry-bytes e o i n) (simp (length-append, length-to-be, length-replicate) (omega (arith, entry-size-least e (length n)))) in
+    rw (length-entry-bytes e o i n) (simp (length-append, length-to-be, length-pad) (omega (arith, entry-size-least e (length n)))) in
     ap be (drop-at f (to-be 2 o) (length (entry-bytes e o i n) - 2) k) ∙ be-to-be 2 o h
 
 -- an inode number below 2^56 doesn't start with 0xffff
-pub entry-no-gap : (e : Edition) (o i : ℕ) (n : List ℕ) → i < 2 ^ 56 → gap-start (entry-bytes e o i n) ≡ false
+pub entry-no-gap : (e : Edition) (o : ℕ) (i : Target) (n : List ℕ) → i .inode < 2 ^ 56 → gap-start (entry-bytes e o i n) ≡ false
 unfolding entry-bytes to-be be be-from
 entry-no-gap e o i n h = ne-eqb (field 0 2 (entry-bytes e o i n)) 0xffff (λ (q : field 0 2 (entry-bytes e o i n) ≡ 0xffff). omega arith)
 
-entry-namelen : (e : Edition) (o i : ℕ) (n : List ℕ) → getD (entry-bytes e o i n) 8 0 ≡ length n
+pub entry-namelen : (e : Edition) (o : ℕ) (i : Target) (n : List ℕ) → getD (entry-bytes e o i n) 8 0 ≡ length n
 unfolding entry-bytes to-be
 entry-namelen e o i n = refl
 
-pub entry-whole : (e : Edition) (o i : ℕ) (n : List ℕ) → i < 2 ^ 56 → o < 256 ^ 2 → Whole e (rec o (entry-bytes e o i n))
+pub entry-whole : (e : Edition) (o : ℕ) (i : Target) (n : List ℕ) → i .inode < 2 ^ 56 → o < 256 ^ 2 → Whole e (rec o (entry-bytes e o i n))
 unfolding says entry-size
 entry-whole e o i n h k =
     record {
@@ -141,7 +142,7 @@ entry-whole e o i n h k =
     }
 
 -- an entry's writes over the free bytes c behind p: the entry, and a gap of what is left
-pub entry-written : (e : Edition) (i : ℕ) (n p c q : List ℕ) (o : ℕ) → length p ≡ o → entry-size e (length n) ≤ length c → Gapful (drop (entry-size e (length n)) c)
+pub entry-written : (e : Edition) (i : Target) (n p c q : List ℕ) (o : ℕ) → length p ≡ o → entry-size e (length n) ≤ length c → Gapful (drop (entry-size e (length n)) c)
     → written (p ++ (c ++ q)) (entry-writes e i n o (o + length c))
     ≡ p ++ (join (rec o (entry-bytes e o i n) ∷ free (o + entry-size e (length n)) (drop (entry-size e (length n)) c)) ++ q)
 unfolding written

@@ -6,16 +6,17 @@ use mathlib.Core.List.{List}
 use lib.Dec.{eqb}
 use Rattle.edition.specs.declared.Edition.{Edition}
 use Rattle.dir_rules.specs.declared.Looked.{Looked}
-use Rattle.dir_rules.specs.Lookup.{lookup, looked-code, looked-inode}
+use Rattle.dir_rules.specs.Record.{Target, target}
+use Rattle.dir_rules.specs.Lookup.{lookup, sought, kind-at, looked-code, looked-inode}
 use Rattle.dir_rules.specs.Change.{insert-code, insert-block, remove-code, remove-block}
 
 pub data Call : Type 0 where
   look-up : List ℕ → Call
-  insert : List ℕ → ℕ → Call
+  insert : List ℕ → Target → Call
   remove : List ℕ → Call
 
 pub data Reply : Type 0 where
-  found : ℕ → Reply
+  found : Target → Reply
   done : Reply
   refuse : ℕ → Reply
 
@@ -24,15 +25,15 @@ call-name (look-up n) = n
 call-name (insert n i) = n
 call-name (remove n) = n
 
--- the answer, the names compared left out
-abbrev pub found-or : Looked → Reply
-found-or a = cond (eqb (looked-code a) 0) (found (looked-inode a)) (refuse (looked-code a))
+-- the answer, the names compared left out; k is the file type where the name was found
+abbrev pub found-or : ℕ → Looked → Reply
+found-or k a = cond (eqb (looked-code a) 0) (found (target (looked-inode a) k)) (refuse (looked-code a))
 
 abbrev pub done-or : ℕ → Reply
 done-or k = cond (eqb k 0) done (refuse k)
 
 unfoldable pub reply : Edition → List ℕ → Call → Reply
-reply e b (look-up n) = found-or (lookup e b n)
+reply e b (look-up n) = found-or (kind-at e b (sought e b n .at)) (lookup e b n)
 reply e b (insert n i) = done-or (insert-code e b n i)
 reply e b (remove n) = done-or (remove-code e b n)
 

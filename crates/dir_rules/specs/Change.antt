@@ -11,10 +11,10 @@ use Rattle.be.specs.Bytes.{to-be, Write, write, written}
 use Rattle.be.specs.Codes.{otherwise, and-then}
 use Rattle.edition.specs.declared.Edition.{Edition}
 use Rattle.edition.specs.Edition.{entry-size}
-use Rattle.name.specs.Name.{hash-of, legal-name, legal-number, fixed-name}
-use Rattle.dir_rules.specs.Record.{Rec, size, gaps, besides, entry-bytes, gap-writes}
+use Rattle.name.specs.Name.{hash-of, legal-name, fixed-name}
+use Rattle.dir_rules.specs.Record.{Rec, Target, size, gaps, besides, entry-bytes, gap-writes}
 use Rattle.dir_rules.specs.Block.{records, slots, Slot, slot, slot-bytes, is-stale, is-live, stale-of, data-end}
-use Rattle.dir_rules.specs.Verdict.{verdict, Pair, pair}
+use Rattle.dir_rules.specs.Verdict.{verdict, legal-target, Pair, pair}
 use Rattle.dir_rules.specs.Lookup.{sought}
 use Rattle.dir_rules.specs.Room.{Room, room, longest, other-gaps, case-a, case-b, case-c, has-room}
 
@@ -56,12 +56,12 @@ insert-slot s [] = s ∷ []
 insert-slot s (t ∷ ts) = let r = insert-slot s ts in cond (in-front s t) (t ∷ r) (s ∷ t ∷ ts)
 
 -- the entry goes at its gap's start: at the start of the free bytes from o up to u, with a gap of what is left of them
-abbrev pub entry-writes : Edition → ℕ → List ℕ → ℕ → ℕ → List Write
+abbrev pub entry-writes : Edition → Target → List ℕ → ℕ → ℕ → List Write
 entry-writes e i n o u =
     write o (entry-bytes e o i n) ∷ gap-writes (o + entry-size e (length n)) (u - (o + entry-size e (length n)))
 
 -- an insert by each case of the room rule
-module _ (e : Edition) (b n : List ℕ) (i : ℕ) where
+module _ (e : Edition) (b n : List ℕ) (i : Target) where
   abbrev pub new-slot : ℕ → Slot
   new-slot o = slot (hash-of e n) (o / 8)
 
@@ -112,7 +112,7 @@ module _ (e : Edition) (b n : List ℕ) (i : ℕ) where
   unfoldable pub insert-code : ℕ
   insert-code =
       and-then (verdict e b) (
-      otherwise (legal-name e n && legal-number i) 11 (
+      otherwise (legal-name e n && legal-target e i) 11 (
       otherwise (not (fixed-name n)) 12 (
       otherwise (not (sought e b n .hit)) 14 (
       otherwise (has-room e b n) 15 0))))

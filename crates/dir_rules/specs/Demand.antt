@@ -9,9 +9,10 @@ use lib.ListN.{length}
 use Rattle.be.specs.Lists.{every}
 use Rattle.be.specs.Bytes.{bytes}
 use Rattle.edition.specs.declared.Edition.{Edition}
-use Rattle.name.specs.Name.{legal-name, legal-number}
+use Rattle.name.specs.Name.{legal-name}
 use Rattle.dir_rules.specs.Block.{sum-of-parts}
-use Rattle.dir_rules.specs.Verdict.{Accepted}
+use Rattle.dir_rules.specs.Verdict.{Accepted, legal-target}
+use Rattle.dir_rules.specs.Record.{Target}
 use Rattle.dir_rules.specs.Room.{has-room}
 use Rattle.dir_rules.specs.Calls.{Call, look-up, insert, remove, Reply, done, reply, after, call-name}
 use Rattle.dir_rules.specs.Book.{Book, book-of, holds, book-reply, book-after, SameBook}
@@ -21,7 +22,7 @@ unfoldable pub Reuse : Edition → List ℕ → Call → Reply → Type 0
 Reuse e b (look-up n) r = Unit {0}
 Reuse e b (insert n i) r = Unit {0}
 Reuse e b (remove n) r =
-    r ≡ done → (m : List ℕ) (i : ℕ) → bytes m ≡ true → legal-name e m ≡ true → legal-number i ≡ true
+    r ≡ done → (m : List ℕ) (i : Target) → bytes m ≡ true → legal-name e m ≡ true → legal-target e i ≡ true
     → holds e m (book-of e b) ≡ false → length m ≤ length n → reply e b (insert m i) ≡ done
 
 -- one call c on block b, with book k

@@ -21,6 +21,10 @@ name-at b o = part (o + 9) (byte (o + 8) b) b
 abbrev pub number-at : List ℕ → ℕ → ℕ
 number-at b o = field o 8 b
 
+-- and its file type, after the name; 0 where the edition has none
+abbrev pub kind-at : Edition → List ℕ → ℕ → ℕ
+kind-at e b o = field (o + 9 + byte (o + 8) b) (e .ftype) b
+
 -- what a search of the slots finds: the slot's place in the index, the entry's offset, and the names compared
 pub record Sought : Type 0 where
   pub hit : Bool

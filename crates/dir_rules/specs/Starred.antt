@@ -11,15 +11,15 @@ use Rattle.edition.specs.declared.Edition.{Edition}
 use Rattle.edition.specs.Edition.{v4, block-size, entry-size}
 use Rattle.name.specs.Name.{legal-name, legal-number, hash-of, hash-from, hash-byte, rol, same-name, fixed-name, dot, dotdot}
 use Rattle.name.specs.Starred.{Row, row, right, hash-rows}
-use Rattle.dir_rules.specs.Record.{Rec, says, cut, whole, apart, size, gaps, entry-bytes, gap-writes}
+use Rattle.dir_rules.specs.Record.{Rec, Target, target, pad, says, cut, whole, apart, size, gaps, entry-bytes, gap-writes}
 use Rattle.dir_rules.specs.Block.{records, slots, slots-in, slot, slot-bytes, count-of, stale-of, data-end}
-use Rattle.dir_rules.specs.Verdict.{best-pairs, pairs-in, verdict, size-ok, magic-ok, span-ok, tile-ok, names-ok, numbers-ok, index-ok, rising, best-ok, once-ok}
+use Rattle.dir_rules.specs.Verdict.{best-pairs, pairs-in, verdict, size-ok, magic-ok, span-ok, tile-ok, names-ok, numbers-ok, legal-target, legal-type, index-ok, rising, best-ok, once-ok}
 use Rattle.dir_rules.specs.Lookup.{seek, sought, lookup, lookup-refusal, looked-code, looked-inode, looked-compared}
 use Rattle.dir_rules.specs.Room.{longest, last-of, touching, room, has-room, case-a, case-b}
 use Rattle.dir_rules.specs.Change.{pair-bytes, best-of, with-best, changed, index-writes, insert-slot, writes-a, writes-b, writes-c, writes-d, insert-writes, insert-code, insert-block, gap-start-before, gap-end-after, remove-writes, remove-code, remove-block}
 
--- a block of n bytes that holds only "." and "..", both with number i
-unfoldable pub fresh : Edition → ℕ → ℕ → List ℕ
+-- a block of n bytes that holds only "." and "..", both with target i
+unfoldable pub fresh : Edition → ℕ → Target → List ℕ
 fresh e n i =
     with-best e (written (replicate n 0)
     (write 0 (to-be 4 (e .magic)) ∷ write (e .header) (entry-bytes e (e .header) i dot)
@@ -44,7 +44,7 @@ answer b n =
 
 -- what an insert of n answers, and the block it leaves
 unfoldable pub inserted : List ℕ → List ℕ → List ℕ
-inserted b n = insert-code v4 b n 150 ∷ shape (insert-block v4 b n 150)
+inserted b n = insert-code v4 b n (target 150 0) ∷ shape (insert-block v4 b n (target 150 0))
 
 -- names: "a", and k bytes "b" or "c"
 abbrev pub a₁ : List ℕ
@@ -58,11 +58,11 @@ c′s k = replicate k 99
 
 -- C1: 512 bytes, only "." and ".." (both 128)
 unfoldable pub c1 : List ℕ
-c1 = fresh v4 512 128
+c1 = fresh v4 512 (target 128 0)
 
 -- C2: insert "a" (131)
 unfoldable pub c2 : List ℕ
-c2 = insert-block v4 c1 a₁ 131
+c2 = insert-block v4 c1 a₁ (target 131 0)
 
 -- C3: remove it
 unfoldable pub c3 : List ℕ
@@ -70,11 +70,11 @@ c3 = remove-block v4 c2 a₁
 
 -- C4: C1 plus a 255-byte name
 unfoldable pub c4 : List ℕ
-c4 = insert-block v4 c1 (b′s 255) 140
+c4 = insert-block v4 c1 (b′s 255) (target 140 0)
 
 -- C5: C1 plus names of 255, 1 and 117 bytes; then the last two removed
 unfoldable pub full : List ℕ
-full = insert-block v4 (insert-block v4 c4 a₁ 141) (c′s 117) 142
+full = insert-block v4 (insert-block v4 c4 a₁ (target 141 0)) (c′s 117) (target 142 0)
 
 unfoldable pub c5 : List ℕ
 c5 = remove-block v4 (remove-block v4 full a₁) (c′s 117)
@@ -110,5 +110,5 @@ unfoldable pub rows : List Row
 rows = hash-rows ++ block-rows
 
 pub starred : every right rows ≡ true
-unfolding rows hash-rows block-rows block-size rol hash-byte hash-from places shape answer inserted c1 c2 c3 c4 c5 full by-case fresh best-pairs be be-from to-be slots-in slot-bytes pairs-in pair-bytes put written entry-size legal-name legal-number hash-of same-name fixed-name says cut whole apart entry-bytes gap-writes records slots count-of stale-of data-end verdict size-ok magic-ok span-ok tile-ok names-ok numbers-ok index-ok rising best-ok once-ok seek sought lookup lookup-refusal longest last-of touching room has-room best-of with-best changed insert-slot writes-a writes-b writes-c writes-d insert-writes insert-code insert-block gap-start-before gap-end-after remove-writes remove-code remove-block
+unfolding rows hash-rows block-rows block-size rol hash-byte hash-from places shape answer inserted c1 c2 c3 c4 c5 full by-case fresh best-pairs be be-from to-be slots-in slot-bytes pairs-in pair-bytes put written entry-size legal-name legal-number hash-of same-name fixed-name says cut whole apart entry-bytes pad gap-writes records slots count-of stale-of data-end verdict size-ok magic-ok span-ok tile-ok names-ok numbers-ok legal-target legal-type index-ok rising best-ok once-ok seek sought lookup lookup-refusal longest last-of touching room has-room best-of with-best changed insert-slot writes-a writes-b writes-c writes-d insert-writes insert-code insert-block gap-start-before gap-end-after remove-writes remove-code remove-block
 starred = refl

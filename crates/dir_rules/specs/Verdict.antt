@@ -1,7 +1,7 @@
 -- The tests of a block, in number order; the first that fails is the answer, 0 if none does.
 -- Assumes nothing.
 use Prim.Native.Nat.{ℕ, zero, suc, _+_, _*_, _/_}
-use mathlib.Core.Bool.{Bool, true, not, cond, _&&_, Bool·beq}
+use mathlib.Core.Bool.{Bool, true, not, cond, _&&_, _||_, Bool·beq}
 use mathlib.Core.Path.{_≡_}
 use mathlib.Core.List.{List, [], _∷_}
 use lib.Dec.{eqb, leb}
@@ -12,7 +12,7 @@ use Rattle.be.specs.Bytes.{field}
 use Rattle.edition.specs.declared.Edition.{Edition}
 use Rattle.edition.specs.Edition.{block-size}
 use Rattle.name.specs.Name.{legal-name, legal-number, hash-of, same-name, dot, dotdot}
-use Rattle.dir_rules.specs.Record.{Rec, besides, whole, apart, entries, gaps, size, name, number}
+use Rattle.dir_rules.specs.Record.{Rec, Target, besides, whole, apart, entries, gaps, size, name, number}
 use Rattle.dir_rules.specs.Block.{records, slots, Slot, is-stale, is-live, count-of, stale-of}
 
 -- 1 SIZE: a block's length is one allowed
@@ -43,6 +43,14 @@ name-ok e r =
 
 unfoldable pub names-ok : Edition → List Rec → Bool
 names-ok e rs = every (name-ok e) (entries rs) && entry-at (e .header) rs && entry-at (e .header + 16) rs
+
+-- a legal file type: 1 to 8 where the edition has one; else any, which is ignored
+unfoldable pub legal-type : Edition → ℕ → Bool
+legal-type e k = eqb (e .ftype) 0 || (leb 1 k && leb k 8)
+
+-- a legal number and type, as an insert asks for them
+unfoldable pub legal-target : Edition → Target → Bool
+legal-target e i = legal-number (i .inode) && legal-type e (i .kind)
 
 -- 7 NUMBER: every inode number is legal
 unfoldable pub numbers-ok : List Rec → Bool
