@@ -2,6 +2,7 @@
 ghost use mathlib.Core.Path.{_≡_};
 ghost use Rattle.edition.specs.Edition.{v4};
 ghost use Rattle.dir_rules.specs.Verdict.{verdict};
+ghost use Rattle.dir_rules.specs.Record.{target};
 ghost use Rattle.dir_rules.specs.Lookup.{lookup};
 ghost use Rattle.dir_rules.specs.Change.{insert-code, insert-block, remove-code, remove-block};
 ghost use Rattle.dir_rules.specs.Walk.{walk-step};
@@ -35,8 +36,8 @@ pub extern "C" fn pzw_block_lookup(block: &[u8], name: &[u8]) -> Found
 // Puts an entry in.
 #[no_mangle]
 pub extern "C" fn pzw_block_insert(block: &mut [u8], name: &[u8], number: u64) -> u32
-    ensures { λ r. ⌜ (r ≡ insert-code v4 (now (block .entry)) (now (name .entry)) number)
-        × (now (block .exit) ≡ insert-block v4 (now (block .entry)) (now (name .entry)) number) ⌝ }
+    ensures { λ r. ⌜ (r ≡ insert-code v4 (now (block .entry)) (now (name .entry)) (target number 0))
+        × (now (block .exit) ≡ insert-block v4 (now (block .entry)) (now (name .entry)) (target number 0)) ⌝ }
 {
     crate::code(dir_edit::insert(block, name, number))
 }

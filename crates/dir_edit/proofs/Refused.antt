@@ -10,8 +10,9 @@ use borrow.Author.Tests.{eq-eqb, ne-eqb, eqb-true, eqb-false}
 use Rattle.be.proofs.Bools.{by-cases}
 use Rattle.be.specs.Codes.{otherwise}
 use Rattle.edition.specs.declared.Edition.{Edition}
-use Rattle.name.specs.Name.{legal-name, legal-number, fixed-name}
-use Rattle.dir_rules.specs.Verdict.{verdict}
+use Rattle.name.specs.Name.{legal-name, fixed-name}
+use Rattle.dir_rules.specs.Verdict.{verdict, legal-target}
+use Rattle.dir_rules.specs.declared.Target.{Target}
 use Rattle.dir_rules.specs.Lookup.{sought}
 use Rattle.dir_rules.specs.Room.{has-room}
 use Rattle.dir_rules.specs.Change.{insert-code, insert-block, remove-code, remove-block}
@@ -63,15 +64,15 @@ clear t legal fixed h =
 
 -- ---- the two calls
 
-module _ (e : Edition) (b n : List ℕ) (i : ℕ) where
-  insert-chain : insert-code e b n i ≡ refusal-of (verdict e b) (legal-name e n && legal-number i) (fixed-name n) (otherwise (not (sought e b n .hit)) 14 (otherwise (has-room e b n) 15 0))
+module _ (e : Edition) (b n : List ℕ) (i : Target) where
+  insert-chain : insert-code e b n i ≡ refusal-of (verdict e b) (legal-name e n && legal-target e i) (fixed-name n) (otherwise (not (sought e b n .hit)) 14 (otherwise (has-room e b n) 15 0))
   unfolding insert-code refusal-of
   insert-chain = refl
 
-  pub insert-refused : (r : ℕ) (k : Bool) → k ≡ legal-number i → r ≡ refusal-of (verdict e b) (legal-name e n && k) (fixed-name n) 0 → (r ≡ 0 → ⊥) → (r ≡ insert-code e b n i) × (b ≡ insert-block e b n i)
+  pub insert-refused : (r : ℕ) (k : Bool) → k ≡ legal-target e i → r ≡ refusal-of (verdict e b) (legal-name e n && k) (fixed-name n) 0 → (r ≡ 0 → ⊥) → (r ≡ insert-code e b n i) × (b ≡ insert-block e b n i)
   unfolding insert-block
   insert-refused r k w q z =
-      let q′ : r ≡ refusal-of (verdict e b) (legal-name e n && legal-number i) (fixed-name n) 0 = q ∙ ap (λ (x : Bool). refusal-of (verdict e b) (legal-name e n && x) (fixed-name n) 0) w in
+      let q′ : r ≡ refusal-of (verdict e b) (legal-name e n && legal-target e i) (fixed-name n) 0 = q ∙ ap (λ (x : Bool). refusal-of (verdict e b) (legal-name e n && x) (fixed-name n) 0) w in
       let s : insert-code e b n i ≡ r = insert-chain ∙ refused _ _ _ _ (λ y. z (q′ ∙ y)) ∙ sym q′ in
       (sym s, sym (rw (ne-eqb (insert-code e b n i) 0 (λ y. z (sym s ∙ y)))))
 

@@ -12,9 +12,10 @@ use Rattle.edition.specs.declared.Edition.{Edition}
 use Rattle.edition.specs.Edition.{entry-size, Sane}
 use Rattle.dir_rules.specs.Record.{size, gap-writes, gaps}
 use Rattle.dir_rules.specs.Block.{slots, slot, stale-of, is-stale, is-live, records}
-use Rattle.name.specs.Name.{hash-of, legal-name, legal-number, fixed-name}
+use Rattle.name.specs.Name.{hash-of, legal-name, fixed-name}
+use Rattle.dir_rules.specs.declared.Target.{Target}
 use Rattle.dir_rules.specs.Lookup.{sought}
-use Rattle.dir_rules.specs.Verdict.{pair}
+use Rattle.dir_rules.specs.Verdict.{pair, legal-target}
 use Rattle.dir_rules.specs.Room.{has-room, room, other-gaps, longest}
 use Rattle.dir_rules.specs.Change.{index-writes, insert-slot, entry-writes, insert-writes, changed, insert-code, insert-block}
 use Rattle.dir_rules.proofs.EachCall.{insert-code-is}
@@ -23,7 +24,7 @@ use Rattle.dir_laws.specs.Pass.{Scanned, Inside}
 use Rattle.dir_laws.proofs.InsertStores.{is-a, is-b, is-c, is-d, no-ab, no-t, no-cd, first-best, longest-inside}
 use Rattle.dir_edit.specs.Chosen.{chosen}
 
-module _ (e : Edition) (b n : List ℕ) (i o₁ l₁ o₂ l₂ o₃ l₃ u k s E h : ℕ) (sc : Scanned e b (pair o₁ l₁ ∷ pair o₂ l₂ ∷ pair o₃ l₃ ∷ []) u k)
+module _ (e : Edition) (b n : List ℕ) (i : Target) (o₁ l₁ o₂ l₂ o₃ l₃ u k s E h : ℕ) (sc : Scanned e b (pair o₁ l₁ ∷ pair o₂ l₂ ∷ pair o₃ l₃ ∷ []) u k)
     (se : s ≡ stale-of b) (ee : E ≡ entry-size e (length n)) (hq : h ≡ hash-of e n) where
   pub room-a : (d : List ℕ) → 1 ≤ s → E ≤ l₁
       → d ≡ written b (entry-writes e i n o₁ (o₁ + l₁) ++ index-writes (length b) (insert-slot (slot h (o₁ / 8)) (without-first is-stale (slots b))) (s - 1))
@@ -70,7 +71,7 @@ module _ (e : Edition) (b n : List ℕ) (i o₁ l₁ o₂ l₂ o₃ l₃ u k s E
 
 -- ---- the answer
 
-module _ (e : Edition) (sane : Sane e) (b n : List ℕ) (i : ℕ) (r : Ready e b) (ln : legal-name e n ≡ true) (li : legal-number i ≡ true) (fx : fixed-name n ≡ false) where
+module _ (e : Edition) (sane : Sane e) (b n : List ℕ) (i : Target) (r : Ready e b) (ln : legal-name e n ≡ true) (li : legal-target e i ≡ true) (fx : fixed-name n ≡ false) where
   chain : insert-code e b n i ≡ otherwise (not (sought e b n .hit)) 14 (otherwise (has-room e b n) 15 0)
   chain = insert-code-is e sane b (r .are-bytes) (r .ok) n i ∙ rw (ln, li, fx)
 

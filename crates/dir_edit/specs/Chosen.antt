@@ -5,8 +5,9 @@ use mathlib.Core.Bool.{Bool, true, false}
 use mathlib.Core.List.{List}
 use Rattle.be.specs.Bytes.{written}
 use Rattle.edition.specs.declared.Edition.{Edition}
+use Rattle.dir_rules.specs.declared.Target.{Target}
 use Rattle.dir_rules.specs.Change.{insert-writes}
 
-abbrev pub chosen : Edition → Bool → List ℕ → List ℕ → ℕ → List ℕ
+abbrev pub chosen : Edition → Bool → List ℕ → List ℕ → Target → List ℕ
 chosen e true b n i = written b (insert-writes e b n i)
 chosen e false b n i = b

@@ -3,14 +3,14 @@ ghost use mathlib.Core.Path.{_≡_};
 ghost use mathlib.Core.Bool.{true, false, _&&_};
 ghost use Prim.Native.Nat.{_+_, _-_, _*_, _/_, _%_, _≤_, _<_};
 ghost use mathlib.Core.List.{_++_};
-ghost use lib.ListN.{length};
+ghost use lib.ListN.{length, replicate};
 ghost use Rattle.be.specs.Lists.{without-first, keep};
-ghost use Rattle.be.specs.Bytes.{byte, bytes, put, written};
+ghost use Rattle.be.specs.Bytes.{byte, bytes, to-be, put, written};
 ghost use Rattle.edition.specs.Edition.{v4, entry-size, Sane};
-ghost use Rattle.name.specs.Name.{hash-of, legal-name, legal-number, fixed-name};
-ghost use Rattle.dir_rules.specs.Record.{entry-bytes, gap-writes, gaps, size};
+ghost use Rattle.name.specs.Name.{hash-of, legal-name, fixed-name};
+ghost use Rattle.dir_rules.specs.Record.{target, entry-bytes, gap-writes, gaps, size};
 ghost use Rattle.dir_rules.specs.Block.{records, data-end, count-of, stale-of, slots, slot, is-stale, is-live};
-ghost use Rattle.dir_rules.specs.Verdict.{verdict};
+ghost use Rattle.dir_rules.specs.Verdict.{verdict, legal-type, legal-target};
 ghost use Rattle.dir_rules.specs.Lookup.{sought};
 ghost use Rattle.dir_rules.specs.Room.{has-room, room, other-gaps, longest};
 ghost use Rattle.dir_rules.specs.Change.{gap-start-before, gap-end-after, changed, remove-writes, remove-code, remove-block, index-writes, insert-slot, entry-writes, insert-code, insert-block};
@@ -20,6 +20,7 @@ ghost use Rattle.dir_laws.specs.Pass.{Entry-at, Inside, Scanned};
 ghost use Rattle.dir_scan.specs.Table.{table};
 ghost use Rattle.dir_edit.specs.Chosen.{chosen};
 ghost use Rattle.dir_edit.specs.Refusal.{refusal-of};
+use dir_rules::Target;
 use edition::Edition;
 use edition::V4;
 
@@ -117,29 +118,49 @@ pub fn remove_ready(e: Edition, b: &mut [u8], name: &[u8]) -> usize
     13
 }
 
+// The file type, where the edition has one.
+fn put_kind(e: Edition, b: &mut [u8], o: usize, kind: usize)
+    requires { ⌜ Sane e × (o + e .ftype ≤ length (now b)) ⌝ }
+    ensures { λ _. ⌜ now (b .exit) ≡ put (now (b .entry)) o (to-be (e .ftype) kind) ⌝ }
+{
+    if e.ftype == 0 {
+        return;
+    }
+    be::put8(b, o, kind);
+}
+
+// What stands between an entry's name and its tag: the file type, and k zeros.
+fn put_pad(e: Edition, b: &mut [u8], o: usize, kind: usize, k: usize)
+    requires { ⌜ Sane e × (o + e .ftype + k ≤ length (now b)) ⌝ }
+    ensures { λ _. ⌜ now (b .exit) ≡ put (now (b .entry)) o (to-be (e .ftype) kind ++ replicate k 0) ⌝ }
+{
+    put_kind(e, b, o, kind);
+    be::zero(b, o + e.ftype, k);
+}
+
 // The bytes of an entry at offset o.
-fn put_entry(e: Edition, b: &mut [u8], o: usize, number: u64, name: &[u8])
+fn put_entry(e: Edition, b: &mut [u8], o: usize, to: Target, name: &[u8])
     requires { ⌜ Sane e ⌝ }
     requires { ⌜ (length (now name) < 256) × (o + entry-size e (length (now name)) ≤ length (now b)) ⌝ }
-    ensures { λ _. ⌜ now (b .exit) ≡ put (now (b .entry)) o (entry-bytes e o number (now (name .entry))) ⌝ }
+    ensures { λ _. ⌜ now (b .exit) ≡ put (now (b .entry)) o (entry-bytes e o to (now (name .entry))) ⌝ }
 {
     let n = name.len();
     let long = edition::entry_size(e, n);
-    be::put64(b, o, number);
+    be::put64(b, o, to.inode);
     be::put8(b, o + 8, n);
     be::copy_into(b, o + 9, name);
-    be::zero(b, o + 9 + n, long - (11 + n));
+    put_pad(e, b, o + 9 + n, to.kind, long - (11 + e.ftype + n));
     be::put16(b, o + long - 2, o);
 }
 
 // The entry at the start of the free bytes from o up to u, and a gap of what is left of them.
-fn place(e: Edition, b: &mut [u8], o: usize, u: usize, number: u64, name: &[u8])
+fn place(e: Edition, b: &mut [u8], o: usize, u: usize, to: Target, name: &[u8])
     requires { ⌜ Sane e ⌝ }
     requires { ⌜ (length (now name) < 256) × ((o + entry-size e (length (now name)) ≤ u) × (u + 4 ≤ length (now b))) ⌝ }
-    ensures { λ _. ⌜ now (b .exit) ≡ written (now (b .entry)) (entry-writes e number (now (name .entry)) o u) ⌝ }
+    ensures { λ _. ⌜ now (b .exit) ≡ written (now (b .entry)) (entry-writes e to (now (name .entry)) o u) ⌝ }
 {
     let end = o + edition::entry_size(e, name.len());
-    put_entry(e, b, o, number, name);
+    put_entry(e, b, o, to, name);
     put_gap(b, end, u - end);
 }
 
@@ -154,17 +175,17 @@ fn insert_a(
     o: usize,
     l: usize,
     h: usize,
-    number: u64,
+    to: Target,
     name: &[u8],
 )
     requires { ⌜ Sane e × Ready e (now b) ⌝ }
     requires { ⌜ (end ≡ data-end (now b)) × ((count ≡ count-of (now b)) × ((stale ≡ stale-of (now b)) × (0 < stale))) ⌝ }
     requires { ⌜ Spot (now b) h p ⌝ }
     requires { ⌜ Inside e (now b) o l × ((length (now name) < 256) × (entry-size e (length (now name)) ≤ l)) ⌝ }
-    ensures { λ _. ⌜ now (b .exit) ≡ written (now (b .entry)) (entry-writes e number (now (name .entry)) o (o + l) ++ index-writes (length (now (b .entry))) (insert-slot (slot h (o / 8)) (without-first is-stale (slots (now (b .entry))))) (stale - 1)) ⌝ }
+    ensures { λ _. ⌜ now (b .exit) ≡ written (now (b .entry)) (entry-writes e to (now (name .entry)) o (o + l) ++ index-writes (length (now (b .entry))) (insert-slot (slot h (o / 8)) (without-first is-stale (slots (now (b .entry))))) (stale - 1)) ⌝ }
 {
     dir_index::reuse(e, b, end, count, stale, p, h, o / 8);
-    place(e, b, o, o + l, number, name);
+    place(e, b, o, o + l, to, name);
 }
 
 // (c): the longest gap other than T, l bytes at o; T, k bytes at u, gives 8 bytes off its end to the index.
@@ -179,7 +200,7 @@ fn insert_c(
     u: usize,
     k: usize,
     h: usize,
-    number: u64,
+    to: Target,
     name: &[u8],
 )
     requires { ⌜ Sane e × Ready e (now b) ⌝ }
@@ -187,10 +208,10 @@ fn insert_c(
     requires { ⌜ Spot (now b) h p ⌝ }
     requires { ⌜ Inside e (now b) o l × ((length (now name) < 256) × (entry-size e (length (now name)) ≤ l)) ⌝ }
     requires { ⌜ (o + l ≤ u) × ((u + k ≡ end) × ((8 ≤ k) × (k % 8 ≡ 0))) ⌝ }
-    ensures { λ _. ⌜ now (b .exit) ≡ written (now (b .entry)) (entry-writes e number (now (name .entry)) o (o + l) ++ (gap-writes u (k - 8) ++ index-writes (length (now (b .entry))) (insert-slot (slot h (o / 8)) (slots (now (b .entry)))) 0)) ⌝ }
+    ensures { λ _. ⌜ now (b .exit) ≡ written (now (b .entry)) (entry-writes e to (now (name .entry)) o (o + l) ++ (gap-writes u (k - 8) ++ index-writes (length (now (b .entry))) (insert-slot (slot h (o / 8)) (slots (now (b .entry)))) 0)) ⌝ }
 {
     dir_index::grow(e, b, end, count, p, h, o / 8);
-    place(e, b, o, o + l, number, name);
+    place(e, b, o, o + l, to, name);
     put_gap(b, u, k - 8);
 }
 
@@ -204,7 +225,7 @@ fn insert_d(
     u: usize,
     k: usize,
     h: usize,
-    number: u64,
+    to: Target,
     name: &[u8],
 )
     requires { ⌜ Sane e × Ready e (now b) ⌝ }
@@ -212,10 +233,10 @@ fn insert_d(
     requires { ⌜ Spot (now b) h p ⌝ }
     requires { ⌜ (length (now name) < 256) × (entry-size e (length (now name)) + 8 ≤ k) ⌝ }
     requires { ⌜ (e .header ≤ u) × ((u + k ≡ end) × (k % 8 ≡ 0)) ⌝ }
-    ensures { λ _. ⌜ now (b .exit) ≡ written (now (b .entry)) (entry-writes e number (now (name .entry)) u (u + k - 8) ++ index-writes (length (now (b .entry))) (insert-slot (slot h (u / 8)) (slots (now (b .entry)))) 0) ⌝ }
+    ensures { λ _. ⌜ now (b .exit) ≡ written (now (b .entry)) (entry-writes e to (now (name .entry)) u (u + k - 8) ++ index-writes (length (now (b .entry))) (insert-slot (slot h (u / 8)) (slots (now (b .entry)))) 0) ⌝ }
 {
     dir_index::grow(e, b, end, count, p, h, u / 8);
-    place(e, b, u, u + k - 8, number, name);
+    place(e, b, u, u + k - 8, to, name);
 }
 
 // (b): T, k bytes at u, grown over the stale slots that are not needed; all stale slots are dropped.
@@ -229,7 +250,7 @@ fn insert_b(
     u: usize,
     k: usize,
     h: usize,
-    number: u64,
+    to: Target,
     name: &[u8],
 )
     requires { ⌜ Sane e × Ready e (now b) ⌝ }
@@ -237,10 +258,10 @@ fn insert_b(
     requires { ⌜ Spot (now b) h p ⌝ }
     requires { ⌜ (length (now name) < 256) × (entry-size e (length (now name)) ≤ k + 8 * (stale - 1)) ⌝ }
     requires { ⌜ (e .header ≤ u) × ((u + k ≡ end) × (k % 8 ≡ 0)) ⌝ }
-    ensures { λ _. ⌜ now (b .exit) ≡ written (now (b .entry)) (entry-writes e number (now (name .entry)) u (u + k + 8 * (stale - 1)) ++ index-writes (length (now (b .entry))) (insert-slot (slot h (u / 8)) (keep is-live (slots (now (b .entry))))) 0) ⌝ }
+    ensures { λ _. ⌜ now (b .exit) ≡ written (now (b .entry)) (entry-writes e to (now (name .entry)) u (u + k + 8 * (stale - 1)) ++ index-writes (length (now (b .entry))) (insert-slot (slot h (u / 8)) (keep is-live (slots (now (b .entry))))) 0) ⌝ }
 {
     dir_index::squeeze(e, b, end, count, stale, p, h, u / 8);
-    place(e, b, u, u + k + 8 * (stale - 1), number, name);
+    place(e, b, u, u + k + 8 * (stale - 1), to, name);
 }
 
 // (c) or (d), without stale slots: l bytes at o are the longest gap other than T.
@@ -255,7 +276,7 @@ fn choose_cd(
     l: usize,
     h: usize,
     need: usize,
-    number: u64,
+    to: Target,
     name: &[u8],
 ) -> bool
     requires { ⌜ Sane e × Ready e (now b) ⌝ }
@@ -264,7 +285,7 @@ fn choose_cd(
     requires { ⌜ Scanned e (now b) (table g) (g .tat) (g .tlen) ⌝ }
     requires { ⌜ (longest (other-gaps (room e (now b) (now name))) .off ≡ o) × (size (longest (other-gaps (room e (now b) (now name)))) ≡ l) ⌝ }
     requires { ⌜ (h ≡ hash-of e (now name)) × ((need ≡ entry-size e (length (now name))) × (length (now name) < 256)) ⌝ }
-    ensures { λ r. ⌜ (r ≡ has-room e (now (b .entry)) (now (name .entry))) × (now (b .exit) ≡ chosen e r (now (b .entry)) (now (name .entry)) number) ⌝ }
+    ensures { λ r. ⌜ (r ≡ has-room e (now (b .entry)) (now (name .entry))) × (now (b .exit) ≡ chosen e r (now (b .entry)) (now (name .entry)) to) ⌝ }
 {
     let u = g.tat;
     let k = g.tlen;
@@ -272,11 +293,11 @@ fn choose_cd(
         return false;
     }
     if need <= l {
-        insert_c(e, b, end, count, p, o, l, u, k, h, number, name);
+        insert_c(e, b, end, count, p, o, l, u, k, h, to, name);
         return true;
     }
     if need + 8 <= k {
-        insert_d(e, b, end, count, p, u, k, h, number, name);
+        insert_d(e, b, end, count, p, u, k, h, to, name);
         return true;
     }
     false
@@ -293,7 +314,7 @@ fn choose_ab(
     g: dir_scan::Scan,
     h: usize,
     need: usize,
-    number: u64,
+    to: Target,
     name: &[u8],
 ) -> bool
     requires { ⌜ Sane e × Ready e (now b) ⌝ }
@@ -301,18 +322,18 @@ fn choose_ab(
     requires { ⌜ Spot (now b) h p ⌝ }
     requires { ⌜ Scanned e (now b) (table g) (g .tat) (g .tlen) ⌝ }
     requires { ⌜ (h ≡ hash-of e (now name)) × ((need ≡ entry-size e (length (now name))) × (length (now name) < 256)) ⌝ }
-    ensures { λ r. ⌜ (r ≡ has-room e (now (b .entry)) (now (name .entry))) × (now (b .exit) ≡ chosen e r (now (b .entry)) (now (name .entry)) number) ⌝ }
+    ensures { λ r. ⌜ (r ≡ has-room e (now (b .entry)) (now (name .entry))) × (now (b .exit) ≡ chosen e r (now (b .entry)) (now (name .entry)) to) ⌝ }
 {
     let o = g.o1;
     let l = g.l1;
     let u = g.tat;
     let k = g.tlen;
     if need <= l {
-        insert_a(e, b, end, count, stale, p, o, l, h, number, name);
+        insert_a(e, b, end, count, stale, p, o, l, h, to, name);
         return true;
     }
     if need <= k + 8 * (stale - 1) {
-        insert_b(e, b, end, count, stale, p, u, k, h, number, name);
+        insert_b(e, b, end, count, stale, p, u, k, h, to, name);
         return true;
     }
     false
@@ -325,32 +346,32 @@ fn choose(
     end: usize,
     count: usize,
     stale: usize,
-    number: u64,
+    to: Target,
     name: &[u8],
 ) -> bool
     requires { ⌜ Sane e × Ready e (now b) ⌝ }
     requires { ⌜ (end ≡ data-end (now b)) × ((count ≡ count-of (now b)) × (stale ≡ stale-of (now b))) ⌝ }
     requires { ⌜ length (now name) < 256 ⌝ }
-    ensures { λ r. ⌜ (r ≡ has-room e (now (b .entry)) (now (name .entry))) × (now (b .exit) ≡ chosen e r (now (b .entry)) (now (name .entry)) number) ⌝ }
+    ensures { λ r. ⌜ (r ≡ has-room e (now (b .entry)) (now (name .entry))) × (now (b .exit) ≡ chosen e r (now (b .entry)) (now (name .entry)) to) ⌝ }
 {
     let g = dir_scan::pass(e, &b[..], end);
     let need = edition::entry_size(e, name.len());
     let h = name::hash(e, name);
     let p = dir_index::spot(e, &b[..], end, count, h);
     if 0 < stale {
-        return choose_ab(e, b, end, count, stale, p, g, h, need, number, name);
+        return choose_ab(e, b, end, count, stale, p, g, h, need, to, name);
     }
     if g.o1 == g.tat {
-        return choose_cd(e, b, end, count, p, g, g.o2, g.l2, h, need, number, name);
+        return choose_cd(e, b, end, count, p, g, g.o2, g.l2, h, need, to, name);
     }
-    choose_cd(e, b, end, count, p, g, g.o1, g.l1, h, need, number, name)
+    choose_cd(e, b, end, count, p, g, g.o1, g.l1, h, need, to, name)
 }
 
-// The insert of a legal name other than "." and "..", with a legal number: 0, or 14 if it is there, or 15 if there is no room.
-pub fn insert_ready(e: Edition, b: &mut [u8], number: u64, name: &[u8]) -> usize
+// The insert of a legal name other than "." and "..", with a legal number and type: 0, or 14 if it is there, or 15 if there is no room.
+pub fn insert_ready(e: Edition, b: &mut [u8], to: Target, name: &[u8]) -> usize
     requires { ⌜ Sane e × Ready e (now b) ⌝ }
-    requires { ⌜ (legal-name e (now name) ≡ true) × ((legal-number number ≡ true) × ((fixed-name (now name) ≡ false) × (bytes (now name) ≡ true))) ⌝ }
-    ensures { λ r. ⌜ (r ≡ insert-code e (now (b .entry)) (now (name .entry)) number) × (now (b .exit) ≡ insert-block e (now (b .entry)) (now (name .entry)) number) ⌝ }
+    requires { ⌜ (legal-name e (now name) ≡ true) × ((legal-target e to ≡ true) × ((fixed-name (now name) ≡ false) × (bytes (now name) ≡ true))) ⌝ }
+    ensures { λ r. ⌜ (r ≡ insert-code e (now (b .entry)) (now (name .entry)) to) × (now (b .exit) ≡ insert-block e (now (b .entry)) (now (name .entry)) to) ⌝ }
 {
     let n = b.len();
     let c = be::be32(&b[..], n - 8);
@@ -361,7 +382,7 @@ pub fn insert_ready(e: Edition, b: &mut [u8], number: u64, name: &[u8]) -> usize
     if hit {
         return 14;
     }
-    let room = choose(e, b, end, c, s, number, name);
+    let room = choose(e, b, end, c, s, to, name);
     if room {
         dir_scan::best_table(e, b);
         return 0;
@@ -390,17 +411,31 @@ fn refusal(e: Edition, b: &[u8], name: &[u8], number: bool) -> usize
     0
 }
 
-// Insert in a block of an edition: 0, or the number of the refusal.
-pub fn insert_in(e: Edition, b: &mut [u8], name: &[u8], number: u64) -> usize
-    requires { ⌜ Sane e ⌝ }
-    ensures { λ r. ⌜ (r ≡ insert-code e (now (b .entry)) (now (name .entry)) number) × (now (b .exit) ≡ insert-block e (now (b .entry)) (now (name .entry)) number) ⌝ }
+// Whether a file type is legal: 1 to 8 where the edition has one, else any.
+fn type_legal(e: Edition, kind: usize) -> bool
+    ensures { λ r. ⌜ r ≡ legal-type e kind ⌝ }
 {
-    let legal = name::number_legal(number);
+    (e.ftype == 0) | ((1 <= kind) & (kind <= 8))
+}
+
+// Whether an asked number and file type are legal.
+fn target_legal(e: Edition, to: Target) -> bool
+    ensures { λ r. ⌜ r ≡ legal-target e to ⌝ }
+{
+    name::number_legal(to.inode) & type_legal(e, to.kind)
+}
+
+// Insert in a block of an edition: 0, or the number of the refusal.
+pub fn insert_in(e: Edition, b: &mut [u8], name: &[u8], to: Target) -> usize
+    requires { ⌜ Sane e ⌝ }
+    ensures { λ r. ⌜ (r ≡ insert-code e (now (b .entry)) (now (name .entry)) to) × (now (b .exit) ≡ insert-block e (now (b .entry)) (now (name .entry)) to) ⌝ }
+{
+    let legal = target_legal(e, to);
     let refused = refusal(e, &b[..], name, legal);
     if refused != 0 {
         return refused;
     }
-    insert_ready(e, b, number, name)
+    insert_ready(e, b, to, name)
 }
 
 // Removal in a block of an edition.
@@ -417,9 +452,17 @@ pub fn remove_in(e: Edition, b: &mut [u8], name: &[u8]) -> usize
 
 // Insert in a block of the V4 edition: 0, or the number of the refusal.
 pub fn insert(b: &mut [u8], name: &[u8], number: u64) -> usize
-    ensures { λ r. ⌜ (r ≡ insert-code v4 (now (b .entry)) (now (name .entry)) number) × (now (b .exit) ≡ insert-block v4 (now (b .entry)) (now (name .entry)) number) ⌝ }
+    ensures { λ r. ⌜ (r ≡ insert-code v4 (now (b .entry)) (now (name .entry)) (target number 0)) × (now (b .exit) ≡ insert-block v4 (now (b .entry)) (now (name .entry)) (target number 0)) ⌝ }
 {
-    insert_in(V4::edition(), b, name, number)
+    insert_in(
+        V4::edition(),
+        b,
+        name,
+        Target {
+            inode: number,
+            kind: 0,
+        },
+    )
 }
 
 // Removal in a block of the V4 edition.

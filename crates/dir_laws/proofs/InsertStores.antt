@@ -14,12 +14,13 @@ use Rattle.edition.specs.declared.Edition.{Edition}
 use Rattle.edition.specs.Edition.{entry-size, Sane}
 use Rattle.dir_rules.specs.Record.{Rec, size, gaps, besides, is-gap, gap-writes}
 use Rattle.dir_rules.specs.Block.{Slot, slot, slots, records, data-end, stale-of, is-stale, is-live, slot-bytes, count-of}
-use Rattle.name.specs.Name.{hash-of, legal-name, legal-number, fixed-name}
-use Rattle.dir_rules.specs.Verdict.{Pair, pair}
+use Rattle.name.specs.Name.{hash-of, legal-name, fixed-name}
+use Rattle.dir_rules.specs.Verdict.{Pair, pair, legal-target}
 use Rattle.dir_rules.specs.Room.{room, longest, touching, other-gaps, has-room, case-a, case-b, case-c, case-d, last-of}
 use Rattle.dir_rules.specs.Change.{best-of, index-writes, insert-slot, entry-writes, insert-writes, writes-a, writes-b, writes-c, writes-d, changed, with-best}
 use Rattle.be.proofs.Bools.{by-cases}
 use Rattle.be.proofs.Numbers.{length-to-be}
+use Rattle.dir_rules.specs.declared.Target.{Target}
 use Rattle.dir_rules.specs.Lookup.{sought}
 use Rattle.dir_rules.proofs.RecordPlaces.{Split}
 use Rattle.dir_rules.proofs.AcceptedParts.{keep-find, Found-in}
@@ -62,7 +63,7 @@ below-gap p o zero m h = tt
 below-gap p o (suc n) m h =
     (omega (arith, length-to-be 2 (suc n)), (omega (arith, length-to-be 2 o), tt))
 
-pub below-entry : (e : Edition) (i : ℕ) (n : List ℕ) (o u p : ℕ) → o + entry-size e (length n) ≤ u → u ≤ p → (u - (o + entry-size e (length n))) % 8 ≡ 0 → Below p (entry-writes e i n o u)
+pub below-entry : (e : Edition) (i : Target) (n : List ℕ) (o u p : ℕ) → o + entry-size e (length n) ≤ u → u ≤ p → (u - (o + entry-size e (length n))) % 8 ≡ 0 → Below p (entry-writes e i n o u)
 below-entry e i n o u p h k m =
     (omega (arith, length-entry-bytes e o i n), below-gap p (o + entry-size e (length n)) (u - (o + entry-size e (length n))) m (omega arith))
 
@@ -152,7 +153,7 @@ second-best k gs p o l ps q = first-best k (besides (longest gs .off) gs) o l ps
         step : (hs : List Rec) → best-of (suc (suc k)) hs ≡ pair (longest hs .off) (size (longest hs)) ∷ best-of (suc k) (besides (longest hs .off) hs)
         step hs = best-tail (suc k) hs
 
-module _ (e : Edition) (b n : List ℕ) (i o₁ l₁ o₂ l₂ o₃ l₃ u k s E : ℕ) (sc : Scanned e b (pair o₁ l₁ ∷ pair o₂ l₂ ∷ pair o₃ l₃ ∷ []) u k)
+module _ (e : Edition) (b n : List ℕ) (i : Target) (o₁ l₁ o₂ l₂ o₃ l₃ u k s E : ℕ) (sc : Scanned e b (pair o₁ l₁ ∷ pair o₂ l₂ ∷ pair o₃ l₃ ∷ []) u k)
     (se : s ≡ stale-of b) (ee : E ≡ entry-size e (length n)) where
   gs : List Rec
   gs = gaps (records e b)
@@ -306,7 +307,7 @@ other-inside e b n t o l h p q =
 
 -- ---- what an insert leaves before its table is written is tiled
 
-pub insert-tiled : (e : Edition) (sane : Sane e) (b n : List ℕ) (i : ℕ) → Ready e b → bytes n ≡ true → legal-name e n ≡ true → legal-number i ≡ true → fixed-name n ≡ false
+pub insert-tiled : (e : Edition) (sane : Sane e) (b n : List ℕ) (i : Target) → Ready e b → bytes n ≡ true → legal-name e n ≡ true → legal-target e i ≡ true → fixed-name n ≡ false
     → sought e b n .hit ≡ false → has-room e b n ≡ true → Tiled e (written b (insert-writes e b n i))
 unfolding changed
 insert-tiled e sane b n i r nb ln li fx ht rm =
@@ -314,7 +315,7 @@ insert-tiled e sane b n i r nb ln li fx ht rm =
     (insert-any e sane b (r .are-bytes) (r .ok) i n
     (record { name-bytes = nb; name-legal = ln; number-legal = li; not-fixed = fx; absent = sym (hit-of e sane b (r .are-bytes) (r .ok) n) ∙ ht }) rm .accepted)
 
-pub insert-changed : (e : Edition) (b n : List ℕ) (i : ℕ) (c d : List ℕ) → c ≡ written b (insert-writes e b n i) → d ≡ with-best e c → d ≡ changed e b (insert-writes e b n i)
+pub insert-changed : (e : Edition) (b n : List ℕ) (i : Target) (c d : List ℕ) → c ≡ written b (insert-writes e b n i) → d ≡ with-best e c → d ≡ changed e b (insert-writes e b n i)
 unfolding changed
 insert-changed e b n i c d p q = q ∙ ap (with-best e) p
 
@@ -368,7 +369,7 @@ other-before e b n t o l u k h kk p q tu tk =
 
 -- ---- each case: the index, then the rest
 
-module _ (e : Edition) (b n : List ℕ) (r : Ready e b) (i h a : ℕ) where
+module _ (e : Edition) (b n : List ℕ) (r : Ready e b) (i : Target) (h a : ℕ) where
   fits : data-end b + 8 * count-of b + 8 ≡ length b
   fits = end-fits e b (tiled e b r)
 

@@ -11,7 +11,8 @@ use Rattle.name.proofs.Same.{same-refl, same-eq, same-name-sym, same-name-trans
 use Rattle.be.specs.Lists.{some-of, tally, without-first, same}
 use Rattle.edition.specs.declared.Edition.{Edition}
 use Rattle.name.specs.Name.{same-name}
-use Rattle.dir_rules.specs.Record.{Rec, Target, target, same-target, target-of, name, number, entries}
+use Rattle.dir_rules.specs.declared.Target.{Target}
+use Rattle.dir_rules.specs.Record.{Rec, target, same-target, target-of, name, number, entries}
 use Rattle.dir_rules.specs.Block.{records}
 use Rattle.dir_rules.specs.Verdict.{once-ok}
 use Rattle.dir_rules.specs.Book.{Held, held, Book, book-of, named, holds, aim-of, same-held, SameBook}

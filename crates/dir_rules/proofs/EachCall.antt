@@ -18,7 +18,8 @@ use Rattle.be.specs.Bytes.{bytes}
 use Rattle.edition.specs.declared.Edition.{Edition}
 use Rattle.edition.specs.Edition.{entry-size, Sane}
 use Rattle.name.specs.Name.{legal-name, legal-number, fixed-name, same-name, dot, dotdot}
-use Rattle.dir_rules.specs.Record.{Target, target, kept-of, Rec, size, entries, gaps, name}
+use Rattle.dir_rules.specs.declared.Target.{Target}
+use Rattle.dir_rules.specs.Record.{target, kept-of, Rec, size, entries, gaps, name}
 use Rattle.dir_rules.specs.Block.{records, stale-of}
 use Rattle.dir_rules.specs.Verdict.{Accepted, legal-target, names-ok, name-ok, entry-at}
 use Rattle.dir_rules.specs.Lookup.{lookup, lookup-refusal, sought, number-at, kind-at}

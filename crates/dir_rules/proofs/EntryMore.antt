@@ -14,7 +14,8 @@ use Rattle.be.specs.Bytes.{be, be-from, to-be, field}
 use Rattle.edition.specs.declared.Edition.{Edition}
 use Rattle.edition.specs.Edition.{entry-size, Sane}
 use Rattle.name.specs.Name.{legal-name, legal-number, hash-of, same-name, fixed-name, dot, dotdot}
-use Rattle.dir_rules.specs.Record.{Target, target, target-of, kept-of, kind-of, pad, Rec, rec, apart, entries, is-entry, name, number, entry-bytes}
+use Rattle.dir_rules.specs.declared.Target.{Target}
+use Rattle.dir_rules.specs.Record.{target, target-of, kept-of, kind-of, pad, Rec, rec, apart, entries, is-entry, name, number, entry-bytes}
 use Rattle.dir_rules.specs.Block.{Slot, slot}
 use Rattle.dir_rules.specs.Verdict.{legal-type, legal-target, names-ok, numbers-ok, name-ok, entry-at}
 use Rattle.dir_rules.specs.Change.{insert-slot}

@@ -13,7 +13,8 @@ use Rattle.be.specs.Bytes.{be, be-from}
 use Rattle.edition.specs.declared.Edition.{Edition}
 use Rattle.edition.specs.Edition.{entry-size, Sane}
 use Rattle.name.specs.Name.{hash-of, same-name, legal-name, legal-number, fixed-name}
-use Rattle.dir_rules.specs.Record.{Target, Rec, rec, is-entry, entries, apart, gap-start, name, number, entry-bytes}
+use Rattle.dir_rules.specs.declared.Target.{Target}
+use Rattle.dir_rules.specs.Record.{Rec, rec, is-entry, entries, apart, gap-start, name, number, entry-bytes}
 use Rattle.dir_rules.specs.Block.{Slot, slot}
 use Rattle.dir_rules.specs.Verdict.{legal-target}
 use Rattle.dir_rules.specs.Change.{insert-slot}

@@ -17,7 +17,8 @@ use Rattle.edition.proofs.Sizes.{v4-sane}
 use Rattle.name.specs.Name.{hash-of, same-name, legal-name}
 use Rattle.name.proofs.Same.{same-name-sym, same-name-trans, same-name-hash}
 use Rattle.dir_rules.specs.declared.Looked.the-variants.{Found, Absent}
-use Rattle.dir_rules.specs.Record.{Rec, Target, entries, name, number}
+use Rattle.dir_rules.specs.declared.Target.{Target}
+use Rattle.dir_rules.specs.Record.{Rec, entries, name, number}
 use Rattle.dir_rules.specs.Block.{Slot, records, slots, stale-of, is-live}
 use Rattle.dir_rules.specs.Verdict.{Accepted}
 use Rattle.dir_rules.specs.Lookup.{candidate, match, step-if, seek, sought, name-at, number-at, bears, up-to, names-compared, lookup, lookup-refusal, lookup-code, looked-code}

@@ -5,7 +5,7 @@ use mathlib.Core.List.{List}
 use borrow.Author.Tests.{leb-true}
 use Rattle.be.proofs.Codes.{otherwise-le}
 use Rattle.edition.specs.declared.Edition.{Edition}
-use Rattle.dir_rules.specs.Record.{Target}
+use Rattle.dir_rules.specs.declared.Target.{Target}
 use Rattle.dir_rules.specs.Verdict.{verdict}
 use Rattle.dir_rules.specs.Lookup.{lookup-refusal, lookup-code}
 use Rattle.dir_rules.specs.Change.{insert-code, remove-code}

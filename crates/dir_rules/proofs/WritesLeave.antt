@@ -11,7 +11,8 @@ use borrow.Author.Tests.{ne-eqb}
 use Rattle.be.specs.Bytes.{be, be-from, to-be, part, field, put, written, Write}
 use Rattle.edition.specs.declared.Edition.{Edition}
 use Rattle.edition.specs.Edition.{entry-size}
-use Rattle.dir_rules.specs.Record.{Target, pad, Rec, rec, says, tag, gap-start, entry-bytes, gap-writes}
+use Rattle.dir_rules.specs.declared.Target.{Target}
+use Rattle.dir_rules.specs.Record.{pad, Rec, rec, says, tag, gap-start, entry-bytes, gap-writes}
 use Rattle.dir_rules.specs.Block.{Slot, slot-bytes}
 use Rattle.dir_rules.specs.Change.{entry-writes, index-writes}
 use Rattle.be.proofs.Numbers.{length-to-be, be-to-be}

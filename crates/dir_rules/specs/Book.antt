@@ -7,7 +7,8 @@ use mathlib.Core.List.{List, [], _∷_, map}
 use Rattle.be.specs.Lists.{some-of, tally, without-first, same}
 use Rattle.edition.specs.declared.Edition.{Edition}
 use Rattle.name.specs.Name.{legal-name, same-name, fixed-name}
-use Rattle.dir_rules.specs.Record.{Target, target, same-target, target-of, kept-of, entries, name as entry-name}
+use Rattle.dir_rules.specs.declared.Target.{Target}
+use Rattle.dir_rules.specs.Record.{target, same-target, target-of, kept-of, entries, name as entry-name}
 use Rattle.dir_rules.specs.Verdict.{legal-target}
 use Rattle.dir_rules.specs.Block.{records}
 use Rattle.dir_rules.specs.Calls.{Call, look-up, insert, remove, Reply, found, done, refuse}

@@ -6,7 +6,8 @@ use mathlib.Core.List.{List}
 use lib.Dec.{eqb}
 use Rattle.edition.specs.declared.Edition.{Edition}
 use Rattle.dir_rules.specs.declared.Looked.{Looked}
-use Rattle.dir_rules.specs.Record.{Target, target}
+use Rattle.dir_rules.specs.declared.Target.{Target}
+use Rattle.dir_rules.specs.Record.{target}
 use Rattle.dir_rules.specs.Lookup.{lookup, sought, kind-at, looked-code, looked-inode}
 use Rattle.dir_rules.specs.Change.{insert-code, insert-block, remove-code, remove-block}
 

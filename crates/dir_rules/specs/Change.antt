@@ -12,7 +12,8 @@ use Rattle.be.specs.Codes.{otherwise, and-then}
 use Rattle.edition.specs.declared.Edition.{Edition}
 use Rattle.edition.specs.Edition.{entry-size}
 use Rattle.name.specs.Name.{hash-of, legal-name, fixed-name}
-use Rattle.dir_rules.specs.Record.{Rec, Target, size, gaps, besides, entry-bytes, gap-writes}
+use Rattle.dir_rules.specs.declared.Target.{Target}
+use Rattle.dir_rules.specs.Record.{Rec, size, gaps, besides, entry-bytes, gap-writes}
 use Rattle.dir_rules.specs.Block.{records, slots, Slot, slot, slot-bytes, is-stale, is-live, stale-of, data-end}
 use Rattle.dir_rules.specs.Verdict.{verdict, legal-target, Pair, pair}
 use Rattle.dir_rules.specs.Lookup.{sought}

@@ -12,7 +12,7 @@ use Rattle.edition.specs.declared.Edition.{Edition}
 use Rattle.name.specs.Name.{legal-name}
 use Rattle.dir_rules.specs.Block.{sum-of-parts}
 use Rattle.dir_rules.specs.Verdict.{Accepted, legal-target}
-use Rattle.dir_rules.specs.Record.{Target}
+use Rattle.dir_rules.specs.declared.Target.{Target}
 use Rattle.dir_rules.specs.Room.{has-room}
 use Rattle.dir_rules.specs.Calls.{Call, look-up, insert, remove, Reply, done, reply, after, call-name}
 use Rattle.dir_rules.specs.Book.{Book, book-of, holds, book-reply, book-after, SameBook}

@@ -8,6 +8,7 @@ use lib.ListN.{length, take, drop, replicate}
 use Rattle.be.specs.Lists.{keep}
 use Rattle.be.specs.Bytes.{be, to-be, byte, field, part, Write, write}
 use Rattle.edition.specs.declared.Edition.{Edition}
+use Rattle.dir_rules.specs.declared.Target.{Target}
 use Rattle.edition.specs.Edition.{entry-size}
 
 -- Gap: 0xffff, length (2), tag in its last 2 bytes. What starts with 0xffff is a gap, all else is an entry
@@ -78,11 +79,7 @@ gaps rs = keep is-gap rs
 abbrev pub besides : ℕ → List Rec → List Rec
 besides o rs = keep (λ r. not (eqb (r .off) o)) rs
 
--- what an entry's name stands for: an inode number, and a file type (0 where the edition has none)
-pub record Target : Type 0 where
-  pub inode : ℕ
-  pub kind : ℕ
-
+-- what an entry's name stands for: an inode number and a file type
 abbrev pub target : ℕ → ℕ → Target
 target i k = record { inode = i; kind = k }
 

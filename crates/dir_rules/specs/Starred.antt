@@ -11,7 +11,8 @@ use Rattle.edition.specs.declared.Edition.{Edition}
 use Rattle.edition.specs.Edition.{v4, block-size, entry-size}
 use Rattle.name.specs.Name.{legal-name, legal-number, hash-of, hash-from, hash-byte, rol, same-name, fixed-name, dot, dotdot}
 use Rattle.name.specs.Starred.{Row, row, right, hash-rows}
-use Rattle.dir_rules.specs.Record.{Rec, Target, target, pad, says, cut, whole, apart, size, gaps, entry-bytes, gap-writes}
+use Rattle.dir_rules.specs.declared.Target.{Target}
+use Rattle.dir_rules.specs.Record.{Rec, target, pad, says, cut, whole, apart, size, gaps, entry-bytes, gap-writes}
 use Rattle.dir_rules.specs.Block.{records, slots, slots-in, slot, slot-bytes, count-of, stale-of, data-end}
 use Rattle.dir_rules.specs.Verdict.{best-pairs, pairs-in, verdict, size-ok, magic-ok, span-ok, tile-ok, names-ok, numbers-ok, legal-target, legal-type, index-ok, rising, best-ok, once-ok}
 use Rattle.dir_rules.specs.Lookup.{seek, sought, lookup, lookup-refusal, looked-code, looked-inode, looked-compared}

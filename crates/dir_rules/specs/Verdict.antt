@@ -12,7 +12,8 @@ use Rattle.be.specs.Bytes.{field}
 use Rattle.edition.specs.declared.Edition.{Edition}
 use Rattle.edition.specs.Edition.{block-size}
 use Rattle.name.specs.Name.{legal-name, legal-number, hash-of, same-name, dot, dotdot}
-use Rattle.dir_rules.specs.Record.{Rec, Target, besides, whole, apart, entries, gaps, size, name, number}
+use Rattle.dir_rules.specs.declared.Target.{Target}
+use Rattle.dir_rules.specs.Record.{Rec, besides, whole, apart, entries, gaps, size, name, number}
 use Rattle.dir_rules.specs.Block.{records, slots, Slot, is-stale, is-live, count-of, stale-of}
 
 -- 1 SIZE: a block's length is one allowed

@@ -7,6 +7,12 @@ pub enum Looked {
     Refused(usize),
 }
 
+// What an entry's name stands for: an inode number and a file type, 0 where the edition has none.
+pub struct Target {
+    pub inode: u64,
+    pub kind: usize,
+}
+
 // A live entry: its inode number, and where its name lies in the lent block.
 pub struct Entry {
     pub number: u64,

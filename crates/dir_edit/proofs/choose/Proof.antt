@@ -27,13 +27,13 @@ choose-cd-requires : tie.Need-choose-cd-requires
 choose-cd-requires c κs =
     let p = c .before .before .before .before .before .before .before .before .before .before .before .before in
     let g = c .before .before .before .before .before .before .before .before .pass .result in
-    (p .pre .0, ((p .pre .1 .0 .0, (p .pre .1 .0 .1 .0, omega (arith, p .pre .1 .0, c .before .before .before .if1 .left))), (c .before .before .before .before .spot .ensures, (c .before .before .before .before .before .before .before .before .pass .ensures, (other-next _ (now (p .args .b)) (now (p .args .name)) (p .args .number) (g .o1) (g .l1) (g .o2) (g .l2) (g .o3) (g .l3) (g .tat) (g .tlen) (p .args .stale) (c .before .before .before .before .before .before .before .entry-size .result) (c .before .before .before .before .before .before .before .before .pass .ensures) (p .pre .1 .0 .1 .1) (c .before .before .before .before .before .before .before .entry-size .ensures .0) (c .before .if2 .taken), (c .before .before .before .before .before .before .hash .ensures .0, (c .before .before .before .before .before .before .before .entry-size .ensures .0, p .pre .1 .1)))))))
+    (p .pre .0, ((p .pre .1 .0 .0, (p .pre .1 .0 .1 .0, omega (arith, p .pre .1 .0, c .before .before .before .if1 .left))), (c .before .before .before .before .spot .ensures, (c .before .before .before .before .before .before .before .before .pass .ensures, (other-next _ (now (p .args .b)) (now (p .args .name)) (p .args .to) (g .o1) (g .l1) (g .o2) (g .l2) (g .o3) (g .l3) (g .tat) (g .tlen) (p .args .stale) (c .before .before .before .before .before .before .before .entry-size .result) (c .before .before .before .before .before .before .before .before .pass .ensures) (p .pre .1 .0 .1 .1) (c .before .before .before .before .before .before .before .entry-size .ensures .0) (c .before .if2 .taken), (c .before .before .before .before .before .before .hash .ensures .0, (c .before .before .before .before .before .before .before .entry-size .ensures .0, p .pre .1 .1)))))))
 
 choose-cd-requires-2 : tie.Need-choose-cd-requires-2
 choose-cd-requires-2 c κs =
     let p = c .before .before .before .before .before .before .before .before .before .before .before .before in
     let g = c .before .before .before .before .before .before .before .before .pass .result in
-    (p .pre .0, ((p .pre .1 .0 .0, (p .pre .1 .0 .1 .0, omega (arith, p .pre .1 .0, c .before .before .before .if1 .left))), (c .before .before .before .before .spot .ensures, (c .before .before .before .before .before .before .before .before .pass .ensures, (other-same _ (now (p .args .b)) (now (p .args .name)) (p .args .number) (g .o1) (g .l1) (g .o2) (g .l2) (g .o3) (g .l3) (g .tat) (g .tlen) (p .args .stale) (c .before .before .before .before .before .before .before .entry-size .result) (c .before .before .before .before .before .before .before .before .pass .ensures) (p .pre .1 .0 .1 .1) (c .before .before .before .before .before .before .before .entry-size .ensures .0) (c .before .if2 .left), (c .before .before .before .before .before .before .hash .ensures .0, (c .before .before .before .before .before .before .before .entry-size .ensures .0, p .pre .1 .1)))))))
+    (p .pre .0, ((p .pre .1 .0 .0, (p .pre .1 .0 .1 .0, omega (arith, p .pre .1 .0, c .before .before .before .if1 .left))), (c .before .before .before .before .spot .ensures, (c .before .before .before .before .before .before .before .before .pass .ensures, (other-same _ (now (p .args .b)) (now (p .args .name)) (p .args .to) (g .o1) (g .l1) (g .o2) (g .l2) (g .o3) (g .l3) (g .tat) (g .tlen) (p .args .stale) (c .before .before .before .before .before .before .before .entry-size .result) (c .before .before .before .before .before .before .before .before .pass .ensures) (p .pre .1 .0 .1 .1) (c .before .before .before .before .before .before .before .entry-size .ensures .0) (c .before .if2 .left), (c .before .before .before .before .before .before .hash .ensures .0, (c .before .before .before .before .before .before .before .entry-size .ensures .0, p .pre .1 .1)))))))
 
 pub choose-spec : {M : Type 1} → statement M
 choose-spec =

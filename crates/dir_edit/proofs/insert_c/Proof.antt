@@ -32,7 +32,7 @@ returns c =
     let p = c₁₃ .before in
     let g = p .pre .1 .1 .1 .0 in
     let t = p .pre .1 .1 .1 .1 in
-    done-c _ (now (p .args .b)) (now (p .args .name)) (p .pre .0 .1) (p .args .number) (p .args .h) (p .args .o / 8) (p .args .o) (p .args .l)
+    done-c _ (now (p .args .b)) (now (p .args .name)) (p .pre .0 .1) (p .args .to) (p .args .h) (p .args .o / 8) (p .args .o) (p .args .l)
     (p .args .u) (p .args .k) _ _ _ (g .0) (g .1 .1) (t .0) (t .1 .0 ∙ p .pre .1 .0 .0) (t .1 .1 .0) (t .1 .1 .1) (c₁₀ .grow .ensures)
     (c₆ .place .ensures) (c₂ .put-gap .ensures)
 

@@ -17,7 +17,7 @@ insert-ready-requires c κs =
     let p = c₆ .before in
     let k = clear _ _ _ (sym (c₂ .refusal .ensures) ∙ c .before .if1 .left) in (
       (p .pre, record { are-bytes = bytes-all (now (p .args .b)) (λ i. c₆ .slice-known .given i .fits); ok = k .tested }),
-      (and-left (legal-name (p .args .e) (now (p .args .name))) (c₄ .number-legal .result) (k .asked), (sym (c₄ .number-legal .ensures) ∙ and-right (legal-name (p .args .e) (now (p .args .name))) (c₄ .number-legal .result) (k .asked), (k .free, bytes-all (now (p .args .name)) (λ i. c₅ .shared-slice-known .given i .fits)))),
+      (and-left (legal-name (p .args .e) (now (p .args .name))) (c₄ .target-legal .result) (k .asked), (sym (c₄ .target-legal .ensures) ∙ and-right (legal-name (p .args .e) (now (p .args .name))) (c₄ .target-legal .result) (k .asked), (k .free, bytes-all (now (p .args .name)) (λ i. c₅ .shared-slice-known .given i .fits)))),
     )
 
 pub insert-in-spec : {M : Type 1} → statement M
@@ -27,7 +27,7 @@ insert-in-spec =
     (λ c κs. search needs)
     (λ c κs. search needs)
     (λ c. search needs)
-    (λ c. insert-refused _ _ _ _ _ _ (c .before .before .before .number-legal .ensures) (c .before .refusal .ensures) (c .if1 .taken))
+    (λ c. insert-refused _ _ _ _ _ _ (c .before .before .before .target-legal .ensures) (c .before .refusal .ensures) (c .if1 .taken))
     insert-ready-requires
     (λ c. search needs)
     (λ c. search needs))

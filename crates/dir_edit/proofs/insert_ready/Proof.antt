@@ -56,7 +56,7 @@ seek-requires c κs =
 returns : tie.Need-returns
 returns c =
     let p = c .before .before .before .before .before .before .before .before .before in
-    insert-there _ (p .pre .0 .0) (now (p .args .b)) (now (p .args .name)) (p .args .number) (p .pre .0 .1) (p .pre .1 .0) (p .pre .1 .1 .0) (p .pre .1 .1 .1 .0) (ap (λ (s : Sought). s .hit) (c .before .seek .ensures) ∙ c .if1 .taken)
+    insert-there _ (p .pre .0 .0) (now (p .args .b)) (now (p .args .name)) (p .args .to) (p .pre .0 .1) (p .pre .1 .0) (p .pre .1 .1 .0) (p .pre .1 .1 .1 .0) (ap (λ (s : Sought). s .hit) (c .before .seek .ensures) ∙ c .if1 .taken)
 
 choose-requires : tie.Need-choose-requires
 choose-requires c κs =
@@ -73,7 +73,7 @@ best-table-requires c κs =
     let c₇ = c₆ .before in
     let c₁₄ = c₇ .before .before .before .before .before .before .before in
     let p = c₁₄ .before in
-    (p .pre .0 .0, subst (λ (l : List ℕ). Tiled (p .args .e) l) (sym (c₄ .choose .ensures .1 ∙ ap (λ (t : Bool). chosen (p .args .e) t (now (p .args .b)) (now (p .args .name)) (p .args .number)) (c .before .if2 .taken))) (insert-tiled _ (p .pre .0 .0) (now (p .args .b)) (now (p .args .name)) (p .args .number) (p .pre .0 .1) (p .pre .1 .1 .1 .1) (p .pre .1 .0) (p .pre .1 .1 .0) (p .pre .1 .1 .1 .0) (ap (λ (s : Sought). s .hit) (c₇ .seek .ensures) ∙ c₆ .if1 .left) (sym (c₄ .choose .ensures .0) ∙ c .before .if2 .taken)))
+    (p .pre .0 .0, subst (λ (l : List ℕ). Tiled (p .args .e) l) (sym (c₄ .choose .ensures .1 ∙ ap (λ (t : Bool). chosen (p .args .e) t (now (p .args .b)) (now (p .args .name)) (p .args .to)) (c .before .if2 .taken))) (insert-tiled _ (p .pre .0 .0) (now (p .args .b)) (now (p .args .name)) (p .args .to) (p .pre .0 .1) (p .pre .1 .1 .1 .1) (p .pre .1 .0) (p .pre .1 .1 .0) (p .pre .1 .1 .1 .0) (ap (λ (s : Sought). s .hit) (c₇ .seek .ensures) ∙ c₆ .if1 .left) (sym (c₄ .choose .ensures .0) ∙ c .before .if2 .taken)))
 
 returns-2 : tie.Need-returns-2
 returns-2 c =
@@ -84,9 +84,9 @@ returns-2 c =
     let c₁₀ = c₉ .before in
     let c₁₇ = c₁₀ .before .before .before .before .before .before .before in
     let p = c₁₇ .before in
-    insert-made _ (p .pre .0 .0) (now (p .args .b)) (now (p .args .name)) (p .args .number) (p .pre .0 .1) (p .pre .1 .0) (p .pre .1 .1 .0)
+    insert-made _ (p .pre .0 .0) (now (p .args .b)) (now (p .args .name)) (p .args .to) (p .pre .0 .1) (p .pre .1 .0) (p .pre .1 .1 .0)
     (p .pre .1 .1 .1 .0) (ap (λ (s : Sought). s .hit) (c₁₀ .seek .ensures) ∙ c₉ .if1 .left) (sym (c₄ .if2 .taken) ∙ c₇ .choose .ensures .0) _
-    (insert-changed _ (now (p .args .b)) (now (p .args .name)) (p .args .number) _ _ (c₇ .choose .ensures .1 ∙ ap (λ (t : Bool). chosen (p .args .e) t (now (p .args .b)) (now (p .args .name)) (p .args .number)) (c₄ .if2 .taken)) (c₂ .best-table .ensures))
+    (insert-changed _ (now (p .args .b)) (now (p .args .name)) (p .args .to) _ _ (c₇ .choose .ensures .1 ∙ ap (λ (t : Bool). chosen (p .args .e) t (now (p .args .b)) (now (p .args .name)) (p .args .to)) (c₄ .if2 .taken)) (c₂ .best-table .ensures))
 
 returns-3 : tie.Need-returns-3
 returns-3 c =
@@ -95,9 +95,9 @@ returns-3 c =
     let c₆ = c₅ .before in
     let c₁₃ = c₆ .before .before .before .before .before .before .before in
     let p = c₁₃ .before in
-    insert-no-room _ (p .pre .0 .0) (now (p .args .b)) (now (p .args .name)) (p .args .number) (p .pre .0 .1) (p .pre .1 .0) (p .pre .1 .1 .0)
+    insert-no-room _ (p .pre .0 .0) (now (p .args .b)) (now (p .args .name)) (p .args .to) (p .pre .0 .1) (p .pre .1 .0) (p .pre .1 .1 .0)
     (p .pre .1 .1 .1 .0) (ap (λ (s : Sought). s .hit) (c₆ .seek .ensures) ∙ c₅ .if1 .left) (sym (c .if2 .left) ∙ c₃ .choose .ensures .0) _
-    (c₃ .choose .ensures .1 ∙ ap (λ (t : Bool). chosen (p .args .e) t (now (p .args .b)) (now (p .args .name)) (p .args .number)) (c .if2 .left))
+    (c₃ .choose .ensures .1 ∙ ap (λ (t : Bool). chosen (p .args .e) t (now (p .args .b)) (now (p .args .name)) (p .args .to)) (c .if2 .left))
 
 pub insert-ready-spec : {M : Type 1} → statement M
 insert-ready-spec =
