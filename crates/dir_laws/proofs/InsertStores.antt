@@ -17,7 +17,7 @@ use Rattle.dir_rules.specs.Block.{Slot, slot, slots, records, data-end, stale-o
 use Rattle.name.specs.Name.{hash-of, legal-name, fixed-name}
 use Rattle.dir_rules.specs.Verdict.{Pair, pair, legal-target}
 use Rattle.dir_rules.specs.Room.{room, longest, touching, other-gaps, has-room, case-a, case-b, case-c, case-d, last-of}
-use Rattle.dir_rules.specs.Change.{best-of, index-writes, insert-slot, entry-writes, insert-writes, writes-a, writes-b, writes-c, writes-d, changed, with-best}
+use Rattle.dir_rules.specs.Change.{best-of, index-writes, insert-slot, entry-writes, insert-writes, writes-a, writes-b, writes-c, writes-d}
 use Rattle.be.proofs.Bools.{by-cases}
 use Rattle.be.proofs.Numbers.{length-to-be}
 use Rattle.dir_rules.specs.declared.Target.{Target}
@@ -34,7 +34,7 @@ use Rattle.dir_rules.proofs.EachCall.{name-lt}
 use Rattle.dir_rules.proofs.StaysBytes.{bytes-written, all-insert}
 use Rattle.dir_laws.proofs.RecordSteps.{Here, here, laid-all, end-fits}
 use Rattle.dir_laws.proofs.BestGrows.{elsewhere}
-use Rattle.dir_laws.proofs.StoresTiled.{tiled-written}
+use Rattle.dir_laws.proofs.StoresTiled.{tiled-changed}
 use Rattle.dir_rules.proofs.CutJoin.{join, Laid, laid-back}
 use Rattle.dir_rules.proofs.WritesLeave.{written-append, length-entry-bytes}
 use Rattle.dir_laws.specs.Tiled.{Tiled, Ready}
@@ -309,15 +309,10 @@ other-inside e b n t o l h p q =
 
 pub insert-tiled : (e : Edition) (sane : Sane e) (b n : List ℕ) (i : Target) → Ready e b → bytes n ≡ true → legal-name e n ≡ true → legal-target e i ≡ true → fixed-name n ≡ false
     → sought e b n .hit ≡ false → has-room e b n ≡ true → Tiled e (written b (insert-writes e b n i))
-unfolding changed
 insert-tiled e sane b n i r nb ln li fx ht rm =
-    tiled-written e sane (written b (insert-writes e b n i)) (bytes-written b (insert-writes e b n i) (r .are-bytes) (all-insert e b n i nb (name-lt e n ln)))
+    tiled-changed e sane b (insert-writes e b n i) (bytes-written b (insert-writes e b n i) (r .are-bytes) (all-insert e b n i nb (name-lt e n ln)))
     (insert-any e sane b (r .are-bytes) (r .ok) i n
     (record { name-bytes = nb; name-legal = ln; number-legal = li; not-fixed = fx; absent = sym (hit-of e sane b (r .are-bytes) (r .ok) n) ∙ ht }) rm .accepted)
-
-pub insert-changed : (e : Edition) (b n : List ℕ) (i : Target) (c d : List ℕ) → c ≡ written b (insert-writes e b n i) → d ≡ with-best e c → d ≡ changed e b (insert-writes e b n i)
-unfolding changed
-insert-changed e b n i c d p q = q ∙ ap (with-best e) p
 
 alone : (p : ℕ) (g : Rec) → last-of p (g ∷ []) ≡ g
 unfolding last-of

@@ -7,6 +7,7 @@ use mathlib.Core.Path.{_≡_, refl, sym, _∙_, ap, ap₂, subst}
 use mathlib.Core.List.{List, [], _∷_, _++_}
 use lib.Dec.{leb}
 use lib.ListN.{length, take, drop, length-append}
+use lib.Seq.{drop-drop}
 use borrow.Author.Tests.{leb-true}
 use Rattle.be.specs.Lists.{every}
 use Rattle.be.specs.Bytes.{bytes, be, part, field, put, to-be, write, Write, written}
@@ -16,7 +17,7 @@ use Rattle.dir_rules.specs.Record.{size, cut, whole, gaps, gap-writes}
 use Rattle.dir_rules.specs.Block.{records, data-end, count-of, stale-of}
 use Rattle.name.specs.Name.{fixed-name}
 use Rattle.dir_rules.specs.Lookup.{sought}
-use Rattle.dir_rules.specs.Verdict.{Accepted, span-ok, size-ok, Pair}
+use Rattle.dir_rules.specs.Verdict.{Accepted, span-ok, size-ok, tile-ok, Pair}
 use Rattle.dir_rules.specs.Change.{gap-start-before, gap-end-after, with-best, changed, pair-bytes, best-of, remove-writes}
 use Rattle.be.proofs.Bools.{and-left}
 use Rattle.be.proofs.Writes.{length-put, put-next, drop-put}
@@ -26,63 +27,80 @@ use Rattle.dir_rules.proofs.GoodParts.{block-bound, length-pair-bytes, length-b
 use Rattle.dir_rules.proofs.Acceptance.{Passed, passed, tile-whole}
 use Rattle.dir_rules.proofs.StaysBytes.{bytes-written, all-remove}
 use Rattle.dir_rules.proofs.LookupFinds.{removed-of}
+use Rattle.dir_rules.proofs.Sealing.{seals, unsealed}
 use Rattle.dir_laws.specs.Tiled.{Tiled, Ready}
 
--- the best-gap table stands in the header, so the rest is read as before
-module _ (e : Edition) (sane : Sane e) (w : List ℕ) where
-  behind-header : (k : ℕ) → e .header ≤ k → drop k (with-best e w) ≡ drop k w
-  unfolding with-best written
+-- two blocks as long that differ in their headers alone: what stands behind is read alike
+module _ (e : Edition) (w v : List ℕ) (long-same : length v ≡ length w) (same-behind : drop (e .header) v ≡ drop (e .header) w) where
+  behind-header : (k : ℕ) → e .header ≤ k → drop k v ≡ drop k w
   behind-header k h =
-      drop-put w k (e .best) (pair-bytes (best-of 3 (gaps (records e w))))
-      (omega (arith, length-pair-bytes (best-of 3 (gaps (records e w))), length-best 3 (gaps (records e w)), sane .best-inside))
+      let m : e .header + (k - e .header) ≡ k = omega arith in
+      ap (λ (n : ℕ). drop n v) (sym m) ∙ sym (drop-drop (k - e .header) (e .header) v) ∙ ap (drop (k - e .header)) same-behind
+      ∙ drop-drop (k - e .header) (e .header) w ∙ ap (λ (n : ℕ). drop n w) m
 
-  long-same : length (with-best e w) ≡ length w
-  unfolding with-best written
-  long-same = length-put w (e .best) (pair-bytes (best-of 3 (gaps (records e w))))
-
-  module _ (by : bytes w ≡ true) (a : Accepted e (with-best e w)) where
-    v : List ℕ
-    v = with-best e w
-
-    p : Passed e (with-best e w)
-    p = passed e (with-best e w) a
-
-    room : e .header + 8 * count-of (with-best e w) + 8 ≤ length w
+  module _ (by : bytes w ≡ true) (sz : size-ok v ≡ true) (sp : span-ok e v ≡ true) (tl : tile-ok e (records e v) ≡ true) where
+    room : e .header + 8 * count-of v + 8 ≤ length w
     unfolding span-ok
-    room = rw long-same at (leb-true (e .header + 8 * count-of (with-best e w) + 8) (length (with-best e w)) (and-left _ _ (p .span)))
+    room = rw long-same at (leb-true (e .header + 8 * count-of v + 8) (length v) (and-left _ _ sp))
 
-    count-same : count-of (with-best e w) ≡ count-of w
+    count-same : count-of v ≡ count-of w
     unfolding count-of
     count-same =
-        ap (λ (n : ℕ). field (n - 8) 4 (with-best e w)) long-same
+        ap (λ (n : ℕ). field (n - 8) 4 v) long-same
         ∙ ap (λ (l : List ℕ). be (take 4 l)) (behind-header (length w - 8) (omega (arith, room)))
 
-    stale-same : stale-of (with-best e w) ≡ stale-of w
+    stale-same : stale-of v ≡ stale-of w
     unfolding stale-of
     stale-same =
-        ap (λ (n : ℕ). field (n - 4) 4 (with-best e w)) long-same
+        ap (λ (n : ℕ). field (n - 4) 4 v) long-same
         ∙ ap (λ (l : List ℕ). be (take 4 l)) (behind-header (length w - 4) (omega (arith, room)))
 
-    end-same : data-end (with-best e w) ≡ data-end w
+    end-same : data-end v ≡ data-end w
     unfolding data-end
     end-same = ap₂ (λ (n c : ℕ). n - 8 - 8 * c) long-same count-same
 
-    records-same : records e (with-best e w) ≡ records e w
+    records-same : records e v ≡ records e w
     unfolding records
     records-same =
-        ap₂ (λ (n m : ℕ). cut e n (e .header) (part (e .header) (m - e .header) (with-best e w))) long-same end-same
-        ∙ ap (λ (l : List ℕ). cut e (length w) (e .header) (take (data-end w - e .header) l)) (behind-header (e .header) (omega arith))
+        ap₂ (λ (n m : ℕ). cut e n (e .header) (part (e .header) (m - e .header) v)) long-same end-same
+        ∙ ap (λ (l : List ℕ). cut e (length w) (e .header) (take (data-end w - e .header) l)) same-behind
 
+    -- from SIZE, SPAN and TILE of the one the other is tiled
     pub tiled-written : Tiled e w
     unfolding size-ok span-ok
     tiled-written =
         record {
           are-bytes = by;
-          short = subst (λ (n : ℕ). n ≤ 65536) long-same (block-bound (length (with-best e w)) (p .size));
+          short = subst (λ (n : ℕ). n ≤ 65536) long-same (block-bound (length v) sz);
           span = ap₂ (λ (c n : ℕ). leb (e .header + 8 * c + 8) n && leb (stale-of w) c) (sym count-same) (sym long-same)
-              ∙ ap (λ (s : ℕ). leb (e .header + 8 * count-of (with-best e w) + 8) (length (with-best e w)) && leb s (count-of (with-best e w))) (sym stale-same) ∙ p .span;
-          wholes = ap (every (whole e)) (sym records-same) ∙ tile-whole e (records e (with-best e w)) (p .tile);
+              ∙ ap (λ (s : ℕ). leb (e .header + 8 * count-of v + 8) (length v) && leb s (count-of v)) (sym stale-same) ∙ sp;
+          wholes = ap (every (whole e)) (sym records-same) ∙ tile-whole e (records e v) tl;
         }
+
+-- the best-gap table and the seal stand in the header
+module _ (e : Edition) (sane : Sane e) (b : List ℕ) (ws : List Write) where
+  changed-long : length (changed e b ws) ≡ length (written b ws)
+  unfolding changed with-best written
+  changed-long =
+      seals e sane (with-best e (written b ws)) .long ∙ length-put (written b ws) (e .best) (pair-bytes (best-of 3 (gaps (records e (written b ws)))))
+
+  changed-behind : drop (e .header) (changed e b ws) ≡ drop (e .header) (written b ws)
+  unfolding changed with-best written
+  changed-behind =
+      seals e sane (with-best e (written b ws)) .behind
+      ∙ drop-put (written b ws) (e .header) (e .best) (pair-bytes (best-of 3 (gaps (records e (written b ws)))))
+      (omega (arith, length-pair-bytes (best-of 3 (gaps (records e (written b ws)))), length-best 3 (gaps (records e (written b ws))), sane .best-inside))
+
+  -- what a change's writes leave is tiled if the whole change is accepted
+  pub tiled-changed : bytes (written b ws) ≡ true → Accepted e (changed e b ws) → Tiled e (written b ws)
+  tiled-changed by a =
+      let p : Passed e (changed e b ws) = passed e (changed e b ws) a in
+      tiled-written e (written b ws) (changed e b ws) changed-long changed-behind by (p .size) (p .span) (p .tile)
+
+  -- the code's stores: the writes, then the table
+  pub stores-changed : (c d : List ℕ) → c ≡ written b ws → d ≡ with-best e c → d ≡ changed e b ws
+  unfolding changed
+  stores-changed c d p q = q ∙ ap (with-best e) p ∙ sym (unsealed e (with-best e (written b ws)))
 
 mark : to-be 2 65535 ≡ 255 ∷ 255 ∷ []
 unfolding to-be
@@ -125,11 +143,6 @@ module _ (e : Edition) (b n : List ℕ) where
       ∙ sym (written-append b ws (write (data-end b + 8 * f .place + 4) (to-be 4 0) ∷ write (length b - 4) (to-be 4 (stale-of b + 1)) ∷ []))
 
   pub remove-tiled : (sane : Sane e) → Ready e b → sought e b n .hit ≡ true → fixed-name n ≡ false → Tiled e (written b (remove-writes e b n))
-  unfolding changed
   remove-tiled sane r h x =
-      tiled-written e sane (written b (remove-writes e b n)) (bytes-written b (remove-writes e b n) (r .are-bytes) (all-remove e b n))
+      tiled-changed e sane b (remove-writes e b n) (bytes-written b (remove-writes e b n) (r .are-bytes) (all-remove e b n))
       (removed-of e sane b (r .are-bytes) (r .ok) n h x .accepted)
-
-  pub remove-changed : (c d : List ℕ) → c ≡ written b (remove-writes e b n) → d ≡ with-best e c → d ≡ changed e b (remove-writes e b n)
-  unfolding changed
-  remove-changed c d p q = q ∙ ap (with-best e) p

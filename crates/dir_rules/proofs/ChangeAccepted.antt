@@ -8,21 +8,21 @@ use mathlib.Core.List.{List, [], _∷_, _++_}
 use lib.Dec.{eqb, leb}
 use lib.ListN.{length, take, length-append}
 use Rattle.be.specs.Lists.{keep, tally, without-first}
-use Rattle.be.specs.Bytes.{bytes, field, written, Write}
+use Rattle.be.specs.Bytes.{bytes, part, field, written, Write}
 use Rattle.edition.specs.declared.Edition.{Edition}
 use Rattle.edition.specs.Edition.{block-size, Sane}
 use Rattle.dir_rules.specs.Record.{Rec, size, gaps}
 use Rattle.dir_rules.specs.Block.{Slot, records, slots, stale-of, is-stale, is-live}
 use Rattle.dir_rules.specs.Verdict.{Accepted, size-ok, best-pairs}
 use Rattle.dir_rules.specs.Room.{longest}
-use Rattle.dir_rules.specs.Change.{in-front, changed, with-best, insert-slot, best-table}
+use Rattle.dir_rules.specs.Change.{in-front, changed, sealed, with-best, insert-slot, best-table, pair-bytes}
 use Rattle.be.proofs.Bools.{by-cases}
 use Rattle.be.proofs.Writes.{length-written}
 use Rattle.be.proofs.Numbers.{length-to-be}
 use Rattle.dir_rules.proofs.CutJoin.{join, Laid, join-append}
 use Rattle.dir_rules.proofs.BlockParts.{build, Fit, length-slot-bytes, build-records, build-slots, build-stale, length-build}
 use Rattle.dir_rules.proofs.RecordPlaces.{Split, split-cons}
-use Rattle.dir_rules.proofs.GoodParts.{Good, new-head, new-fit, best-build, good-accepted, block-bound, new-pairs}
+use Rattle.dir_rules.proofs.GoodParts.{Good, new-head, new-fit, new-build, new-size, new-magic, new-table, good-accepted, good-pairs, block-bound}
 use Rattle.dir_rules.proofs.AcceptedParts.{tests, fit-of, build-of, magic-of, index-bytes}
 
 -- what is known of the block that a change leaves
@@ -53,15 +53,18 @@ module _ (e : Edition) (sane : Sane e) (b : List ℕ) (h : bytes b ≡ true) (a 
       let long : length (build hd rs ss st) ≡ length b = ap length (sym w) ∙ length-written b ws in
       let sz : block-size (length (build hd rs ss st)) ≡ true = rw long size-of-block in
       let mg : eqb (field 0 4 hd) (e .magic) ≡ true = magic-of e sane b h a in
-      let nh : List ℕ = new-head e sane hd rs ss st f g sz mg in
-      let nf : Fit e nh rs ss st = new-fit e sane hd rs ss st f g sz mg in
-      let q : with-best e (written b ws) ≡ build nh rs ss st = ap (with-best e) w ∙ best-build e sane hd rs ss st f g sz mg in
+      let nh : List ℕ = new-head e sane hd rs ss st f sz mg in
+      let nf : Fit e nh rs ss st = new-fit e sane hd rs ss st f sz mg in
+      let ns : size-ok (build nh rs ss st) ≡ true = new-size e sane hd rs ss st f sz mg in
+      let nm : eqb (field 0 4 nh) (e .magic) ≡ true = new-magic e sane hd rs ss st f sz mg in
+      let nt : part (e .best) 12 nh ≡ pair-bytes (best-table (gaps rs)) = new-table e sane hd rs ss st f sz mg in
+      let q : sealed e (with-best e (written b ws)) ≡ build nh rs ss st = ap (λ (l : List ℕ). sealed e (with-best e l)) w ∙ new-build e sane hd rs ss st f sz mg in
       record {
-        accepted = rw q (good-accepted e sane hd rs ss st f g sz mg);
+        accepted = rw q (good-accepted e sane nh rs ss st nf g ns nm nt);
         records-are = rw q (build-records e nh rs ss st nf);
         slots-are = rw q (build-slots e nh rs ss st nf);
         stale-is = rw q (build-stale e nh rs ss st nf);
-        best-is = rw q (new-pairs e sane hd rs ss st f g sz mg ∙ ap (λ (l : List Rec). best-table (gaps l)) (sym (build-records e nh rs ss st nf)));
+        best-is = rw q (good-pairs e sane nh rs ss st nf g ns nm nt ∙ ap (λ (l : List Rec). best-table (gaps l)) (sym (build-records e nh rs ss st nf)));
         long = ap length q ∙ length-build e nh rs ss st nf ∙ sym (length-build e hd rs ss st f) ∙ long;
       }
 

@@ -156,10 +156,10 @@ module _ (e : Edition) (sane : Sane e) (b : List ℕ) (h : bytes b ≡ true) (a 
   stays-bytes (look-up n) q = h
   stays-bytes (insert n i) q =
       by-cases (eqb (insert-code e b n i) 0)
-      (λ z. rw z (bytes-changed e b (insert-writes e b n i) h (all-insert e b n i q (name-lt e n (insert-facts n i (eqb-true (insert-code e b n i) 0 z) .0)))))
+      (λ z. rw z (bytes-changed e sane b (insert-writes e b n i) h (all-insert e b n i q (name-lt e n (insert-facts n i (eqb-true (insert-code e b n i) 0 z) .0)))))
       (λ z. rw z h)
   stays-bytes (remove n) q =
-      by-cases (eqb (remove-code e b n) 0) (λ z. rw z (bytes-changed e b (remove-writes e b n) h (all-remove e b n))) (λ z. rw z h)
+      by-cases (eqb (remove-code e b n) 0) (λ z. rw z (bytes-changed e sane b (remove-writes e b n) h (all-remove e b n))) (λ z. rw z h)
 
   -- a call that changes nothing
   unchanged : (k : Book) → SameBook (book-of e b) k → (c : Call) → reply e b c ≡ book-reply e k (has-room e b (call-name c)) c → after e b c ≡ b

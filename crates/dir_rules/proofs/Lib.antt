@@ -9,6 +9,7 @@ pub mod SearchFinds
 pub mod BlockParts
 pub mod Acceptance
 pub mod BestTable
+pub mod Sealing
 pub mod GoodParts
 pub mod AcceptedParts
 pub mod PartsAddUp

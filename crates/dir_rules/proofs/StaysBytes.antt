@@ -11,11 +11,12 @@ use borrow.Author.Tests.{lt-ltb}
 use Rattle.be.specs.Lists.{keep, without-first}
 use Rattle.be.specs.Bytes.{bytes, to-be, put, written, Write, write}
 use Rattle.edition.specs.declared.Edition.{Edition}
-use Rattle.edition.specs.Edition.{entry-size}
+use Rattle.edition.specs.Edition.{entry-size, Sane}
 use Rattle.dir_rules.specs.declared.Target.{Target}
 use Rattle.dir_rules.specs.Record.{pad, Rec, size, entry-bytes, gap-writes, gaps}
 use Rattle.dir_rules.specs.Block.{Slot, slot, slots, slot-bytes, records, stale-of, data-end, is-stale, is-live}
 use Rattle.name.specs.Name.{hash-of}
+use Rattle.dir_rules.proofs.Sealing.{seals}
 use Rattle.dir_rules.specs.Lookup.{sought}
 use Rattle.dir_rules.specs.Verdict.{Pair}
 use Rattle.dir_rules.specs.Room.{Room, room, longest, other-gaps, case-a, case-b, case-c}
@@ -95,11 +96,12 @@ all-index : (n : ℕ) (ss : List Slot) (s : ℕ) → All (index-writes n ss s)
 all-index n ss s =
     (bytes-append (slot-bytes ss) (to-be 4 (length ss) ++ to-be 4 s) (bytes-slots ss) (bytes-append (to-be 4 (length ss)) (to-be 4 s) (bytes-to-be 4 (length ss)) (bytes-to-be 4 s)), tt)
 
-pub bytes-changed : (e : Edition) (b : List ℕ) (ws : List Write) → bytes b ≡ true → All ws → bytes (changed e b ws) ≡ true
+pub bytes-changed : (e : Edition) → Sane e → (b : List ℕ) (ws : List Write) → bytes b ≡ true → All ws → bytes (changed e b ws) ≡ true
 unfolding changed with-best
-bytes-changed e b ws h a =
-    bytes-written (written b ws) (write (e .best) (pair-bytes (best-table (gaps (records e (written b ws))))) ∷ []) (bytes-written b ws h a)
-    (bytes-pairs (best-table (gaps (records e (written b ws)))), tt)
+bytes-changed e sane b ws h a =
+    seals e sane (with-best e (written b ws)) .stays-bytes
+    (bytes-written (written b ws) (write (e .best) (pair-bytes (best-table (gaps (records e (written b ws))))) ∷ []) (bytes-written b ws h a)
+    (bytes-pairs (best-table (gaps (records e (written b ws)))), tt))
 
 all-entry : (e : Edition) (i : Target) (n : List ℕ) (o u : ℕ) → bytes n ≡ true → length n < 256 → All (entry-writes e i n o u)
 all-entry e i n o u h l = (bytes-entry e o i n h l, all-gap (o + entry-size e (length n)) (u - (o + entry-size e (length n))))

@@ -39,9 +39,13 @@ pair-bytes (p ∷ ps) = to-be 2 (p .from) ++ (to-be 2 (p .long) ++ pair-bytes ps
 unfoldable pub with-best : Edition → List ℕ → List ℕ
 with-best e b = written b (write (e .best) (pair-bytes (best-table (gaps (records e b)))) ∷ [])
 
--- what a change leaves: its writes, then the best-gap table anew
+-- what an edition stores in the header of a finished block: nothing where it has no checksum
+unfoldable pub sealed : Edition → List ℕ → List ℕ
+sealed e b = b
+
+-- what a change leaves: its writes, then the best-gap table anew, then the seal
 unfoldable pub changed : Edition → List ℕ → List Write → List ℕ
-changed e b ws = with-best e (written b ws)
+changed e b ws = sealed e (with-best e (written b ws))
 
 -- the slots and the tail of a block of n bytes
 abbrev pub index-writes : ℕ → List Slot → ℕ → List Write

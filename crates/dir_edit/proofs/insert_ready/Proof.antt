@@ -9,7 +9,8 @@ use Rattle.dir_rules.proofs.EachCall.{name-lt}
 use Rattle.dir_laws.specs.Tiled.{Tiled}
 use Rattle.dir_laws.proofs.RecordSteps.{count-read, stale-read, end-read}
 use Rattle.dir_laws.proofs.SlotSearch.{slots-room}
-use Rattle.dir_laws.proofs.InsertStores.{insert-tiled, insert-changed}
+use Rattle.dir_laws.proofs.InsertStores.{insert-tiled}
+use Rattle.dir_laws.proofs.StoresTiled.{stores-changed}
 use Rattle.dir_edit.specs.Chosen.{chosen}
 use Rattle.dir_edit.proofs.RoomTaken.{insert-there, insert-no-room, insert-made}
 use borrow.Author.Needs.{needs}
@@ -86,7 +87,7 @@ returns-2 c =
     let p = c₁₇ .before in
     insert-made _ (p .pre .0 .0) (now (p .args .b)) (now (p .args .name)) (p .args .to) (p .pre .0 .1) (p .pre .1 .0) (p .pre .1 .1 .0)
     (p .pre .1 .1 .1 .0) (ap (λ (s : Sought). s .hit) (c₁₀ .seek .ensures) ∙ c₉ .if1 .left) (sym (c₄ .if2 .taken) ∙ c₇ .choose .ensures .0) _
-    (insert-changed _ (now (p .args .b)) (now (p .args .name)) (p .args .to) _ _ (c₇ .choose .ensures .1 ∙ ap (λ (t : Bool). chosen (p .args .e) t (now (p .args .b)) (now (p .args .name)) (p .args .to)) (c₄ .if2 .taken)) (c₂ .best-table .ensures))
+    (stores-changed _ (p .pre .0 .0) (now (p .args .b)) _ _ _ (c₇ .choose .ensures .1 ∙ ap (λ (t : Bool). chosen (p .args .e) t (now (p .args .b)) (now (p .args .name)) (p .args .to)) (c₄ .if2 .taken)) (c₂ .best-table .ensures))
 
 returns-3 : tie.Need-returns-3
 returns-3 c =

@@ -3,7 +3,7 @@ use mathlib.Core.Path.{sym, subst}
 use mathlib.Core.List.{List}
 use denote.Ref.{now}
 use Rattle.dir_laws.specs.Tiled.{Tiled}
-use Rattle.dir_laws.proofs.StoresTiled.{remove-tiled, remove-changed}
+use Rattle.dir_laws.proofs.StoresTiled.{remove-tiled, stores-changed}
 use borrow.Author.Needs.{needs}
 use Rattle.dir_edit.proofs.remove_found.Statement.{statement}
 use Rattle.dir_edit.proofs.remove_found.Tie as tie
@@ -15,4 +15,4 @@ best-table-requires c κs =
 
 pub remove-found-spec : {M : Type 1} → statement M
 remove-found-spec =
-    tie.close (tie.spec (λ c κs. search needs) best-table-requires (λ c. search needs) (λ c. remove-changed _ _ _ _ _ (c .before .before .before .before .before .before .free-entry .ensures) (c .before .before .best-table .ensures)))
+    tie.close (tie.spec (λ c κs. search needs) best-table-requires (λ c. search needs) (λ c. stores-changed _ (c .before .before .before .before .before .before .before .before .before .before .pre .0 .0) _ _ _ _ (c .before .before .before .before .before .before .free-entry .ensures) (c .before .before .best-table .ensures)))
