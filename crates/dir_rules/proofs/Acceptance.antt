@@ -20,7 +20,7 @@ pub record Passed (e : Edition) (b : List ℕ) : Type 0 where
   pub span : span-ok e b ≡ true
   pub tile : tile-ok e (records e b) ≡ true
   pub names : names-ok e (records e b) ≡ true
-  pub numbers : numbers-ok (records e b) ≡ true
+  pub numbers : numbers-ok e (records e b) ≡ true
   pub index : index-ok e (records e b) (slots b) (stale-of b) ≡ true
   pub best : best-ok (best-pairs e b) (gaps (records e b)) ≡ true
   pub once : once-ok e (entries (records e b)) ≡ true
@@ -33,7 +33,7 @@ passed e b a =
     let p4 : _ = passes (span-ok e b) 3 _ (p2 .1) in
     let p5 : _ = passes (tile-ok e (records e b)) 4 _ (p4 .1) in
     let p6 : _ = passes (names-ok e (records e b)) 5 _ (p5 .1) in
-    let p7 : _ = passes (numbers-ok (records e b)) 6 _ (p6 .1) in
+    let p7 : _ = passes (numbers-ok e (records e b)) 6 _ (p6 .1) in
     let p8 : _ = passes (index-ok e (records e b) (slots b) (stale-of b)) 7 _ (p7 .1) in
     let p9 : _ = passes (best-ok (best-pairs e b) (gaps (records e b))) 8 _ (p8 .1) in
     let p10 : _ = passes (once-ok e (entries (records e b))) 9 _ (p9 .1) in

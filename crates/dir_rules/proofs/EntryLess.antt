@@ -12,9 +12,10 @@ use Rattle.edition.specs.declared.Edition.{Edition}
 use Rattle.name.specs.Name.{legal-name, legal-number, hash-of, fixed-name, dot, dotdot}
 use Rattle.dir_rules.specs.Record.{Rec, apart, entries, name, number}
 use Rattle.dir_rules.specs.Block.{Slot, slot, is-stale, is-live}
-use Rattle.dir_rules.specs.Verdict.{names-ok, numbers-ok, once-ok, name-ok, entry-at, has-slot}
+use Rattle.dir_rules.specs.Verdict.{names-ok, numbers-ok, own-in, number-ok, once-ok, name-ok, entry-at, has-slot}
 use Rattle.be.proofs.Bools.{and-left, and-right, and-both, every-head, every-tail, every-cons, or-second, neither}
 use Rattle.dir_rules.proofs.SlotCounts.{Apart, at-addr}
+use Rattle.dir_rules.proofs.OwnNumber.{own-mid}
 use Rattle.dir_rules.proofs.SlotOrder.{From}
 use Rattle.dir_rules.proofs.IndexedEntries.{Indexed, Slotted, slotted, →slotted, at-both, addr-of}
 use Rattle.dir_rules.proofs.OneMore.{every-mid, some-mid, once-mid, tally-mid, length-mid, alone}
@@ -98,15 +99,16 @@ good-remove e rs rs′ xs x ys us s vs st g a ap′ old new fx =
     or-second (eqb (x .off) (e .header + 16)) (some-of (λ r. eqb (r .off) (e .header + 16)) (xs ++ ys))
     (sym (some-mid (λ (r : Rec). eqb (r .off) (e .header + 16)) xs x ys)
     ∙ subst (λ (es : List Rec). some-of (λ r. eqb (r .off) (e .header + 16)) es ≡ true) old (and-right (nm && h0) h1 (g .names))) o1 in
-    let us′ : (legal-number (number x) && every (λ r. legal-number (number r)) (xs ++ ys)) ≡ true =
-    sym (every-mid (λ (r : Rec). legal-number (number r)) xs x ys) ∙ subst (λ (es : List Rec). every (λ r. legal-number (number r)) es ≡ true) old (g .numbers) in
+    let om : own-in e (xs ++ x ∷ ys) ≡ own-in e (xs ++ ys) = own-mid e xs x ys o0 in
+    let us′ : (number-ok e (own-in e (xs ++ ys)) x && every (number-ok e (own-in e (xs ++ ys))) (xs ++ ys)) ≡ true =
+    sym (every-mid (number-ok e (own-in e (xs ++ ys))) xs x ys) ∙ subst (λ (w : ℕ). every (number-ok e w) (xs ++ x ∷ ys) ≡ true) om (subst (λ (es : List Rec). every (number-ok e (own-in e es)) es ≡ true) old (g .numbers)) in
     let on : (alone e x (xs ++ ys) && once-ok e (xs ++ ys)) ≡ true = sym (once-mid e xs x ys) ∙ subst (λ (es : List Rec). once-ok e es ≡ true) old (g .once) in
     record {
       gaps-apart = ap′;
       names = rw new
           (and-both (every (name-ok e) (xs ++ ys) && some-of (λ r. eqb (r .off) (e .header)) (xs ++ ys)) (some-of (λ r. eqb (r .off) (e .header + 16)) (xs ++ ys))
           (and-both (every (name-ok e) (xs ++ ys)) (some-of (λ r. eqb (r .off) (e .header)) (xs ++ ys)) (and-right (name-ok e x) (every (name-ok e) (xs ++ ys)) ns) d0) d1);
-      numbers = rw new (and-right (legal-number (number x)) (every (λ r. legal-number (number r)) (xs ++ ys)) us′);
+      numbers = rw new (and-right (number-ok e (own-in e (xs ++ ys)) x) (every (number-ok e (own-in e (xs ++ ys))) (xs ++ ys)) us′);
       index = rw new (indexed-remove e us s vs xs x ys st (subst (λ (es : List Rec). Indexed e es (us ++ s ∷ vs) st) old (g .index)) a);
       once = rw new (and-right (alone e x (xs ++ ys)) (once-ok e (xs ++ ys)) on);
     }

@@ -17,12 +17,13 @@ use Rattle.name.specs.Name.{legal-name, legal-number, hash-of, same-name, fixed
 use Rattle.dir_rules.specs.declared.Target.{Target}
 use Rattle.dir_rules.specs.Record.{target, target-of, kept-of, kind-of, pad, Rec, rec, apart, entries, is-entry, name, number, entry-bytes}
 use Rattle.dir_rules.specs.Block.{Slot, slot}
-use Rattle.dir_rules.specs.Verdict.{legal-type, legal-target, names-ok, numbers-ok, name-ok, entry-at}
+use Rattle.dir_rules.specs.Verdict.{legal-type, legal-target, names-ok, numbers-ok, own-in, number-ok, name-ok, entry-at}
 use Rattle.dir_rules.specs.Change.{insert-slot}
 use Rattle.be.proofs.Bools.{and-left, and-right, and-both, or-right, neither, by-cases}
 use Rattle.be.proofs.Numbers.{be-to-be, length-to-be}
 use Rattle.be.proofs.Parts.{part-at}
 use Rattle.dir_rules.proofs.WritesLeave.{entry-namelen}
+use Rattle.dir_rules.proofs.OwnNumber.{own-mid}
 use Rattle.dir_rules.proofs.CutJoin.{Laid}
 use Rattle.dir_rules.proofs.SlotCounts.{Apart}
 use Rattle.dir_rules.proofs.IndexedEntries.{Kept, indexed-insert, addr-of}
@@ -111,7 +112,7 @@ module _ (e : Edition) (xs : List Rec) (x : Rec) (ys : List Rec) (a : Apart (add
 pub good-insert : (e : Edition) (rs rs′ xs : List Rec) (x : Rec) (ys : List Rec) (ss ts : List Slot) (st m : ℕ) → Sane e
     → Good e rs ss st → Kept ss ts m → Laid e (e .header) rs′ → apart rs′ ≡ true
     → entries rs ≡ xs ++ ys → entries rs′ ≡ xs ++ x ∷ ys
-    → legal-name e (name x) ≡ true → legal-number (number x) ≡ true → fixed-name (name x) ≡ false
+    → legal-name e (name x) ≡ true → number-ok e (own-in e (xs ++ ys)) x ≡ true → fixed-name (name x) ≡ false
     → some-of (λ r. same-name e (name x) (name r)) (xs ++ ys) ≡ false
     → Good e rs′ (insert-slot (slot (hash-of e (name x)) (addr-of x)) ts) m
 unfolding names-ok numbers-ok
@@ -127,8 +128,8 @@ good-insert e rs rs′ xs x ys ss ts st m sane g k l ap′ old new lg ln fx ab =
     subst (λ (es : List Rec). some-of (λ r. eqb (r .off) (e .header + 16)) es ≡ true) old (and-right (nm && h0) h1 (g .names)) in
     let ns : every (name-ok e) (xs ++ ys) ≡ true =
     subst (λ (es : List Rec). every (name-ok e) es ≡ true) old (and-left nm h0 (and-left (nm && h0) h1 (g .names))) in
-    let us : every (λ r. legal-number (number r)) (xs ++ ys) ≡ true =
-    subst (λ (es : List Rec). every (λ r. legal-number (number r)) es ≡ true) old (g .numbers) in
+    let us : every (number-ok e (own-in e (xs ++ ys))) (xs ++ ys) ≡ true =
+    subst (λ (es : List Rec). every (number-ok e (own-in e es)) es ≡ true) old (g .numbers) in
     record {
       gaps-apart = ap′;
       names = rw new
@@ -137,7 +138,8 @@ good-insert e rs rs′ xs x ys ss ts st m sane g k l ap′ old new lg ln fx ab =
           (every-mid (name-ok e) xs x ys ∙ and-both (name-ok e x) (every (name-ok e) (xs ++ ys)) (grown-name e xs x ys a lg fx d0 d1) ns)
           (some-mid (λ r. eqb (r .off) (e .header)) xs x ys ∙ or-right (eqb (x .off) (e .header)) (some-of (λ r. eqb (r .off) (e .header)) (xs ++ ys)) d0))
           (some-mid (λ r. eqb (r .off) (e .header + 16)) xs x ys ∙ or-right (eqb (x .off) (e .header + 16)) (some-of (λ r. eqb (r .off) (e .header + 16)) (xs ++ ys)) d1));
-      numbers = rw new (every-mid (λ r. legal-number (number r)) xs x ys ∙ and-both (legal-number (number x)) (every (λ r. legal-number (number r)) (xs ++ ys)) ln us);
+      numbers = rw (new, own-mid e xs x ys (other-off x (xs ++ ys) (e .header) a d0))
+          (every-mid (number-ok e (own-in e (xs ++ ys))) xs x ys ∙ and-both (number-ok e (own-in e (xs ++ ys)) x) (every (number-ok e (own-in e (xs ++ ys))) (xs ++ ys)) ln us);
       index = rw new (indexed-insert e x ss ts m k xs ys st (rw old at (g .index)) a);
       once = rw new (once-mid e xs x ys ∙ rw ab (rw old at (g .once)));
     }

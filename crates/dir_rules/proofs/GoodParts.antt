@@ -34,7 +34,7 @@ use Rattle.dir_rules.proofs.Sealing.{Seals, seals}
 pub record Good (e : Edition) (rs : List Rec) (ss : List Slot) (st : ℕ) : Type 0 where
   pub gaps-apart : apart rs ≡ true
   pub names : names-ok e rs ≡ true
-  pub numbers : numbers-ok rs ≡ true
+  pub numbers : numbers-ok e rs ≡ true
   pub index : Indexed e (entries rs) ss st
   pub once : once-ok e (entries rs) ≡ true
 

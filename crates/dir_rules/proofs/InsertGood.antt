@@ -22,6 +22,7 @@ use Rattle.dir_rules.proofs.CutJoin.{join, Laid, laid-append}
 use Rattle.dir_rules.proofs.WritesLeave.{free, Gapful, gap-raw, entry-no-gap}
 use Rattle.dir_rules.proofs.IndexedEntries.{Kept}
 use Rattle.dir_rules.proofs.GoodParts.{Good}
+use Rattle.dir_rules.proofs.OwnNumber.{number-stands}
 use Rattle.dir_rules.proofs.EntryMore.{good-insert, entry-name, entry-number, target-number}
 use Rattle.dir_rules.proofs.InsertWrites.{placed, placed-laid, length-placed}
 use Rattle.dir_rules.proofs.GapsApart.{Follows, from-follows, weaken, last-gap?, follows-append, follows-entry}
@@ -90,4 +91,4 @@ module _ (e : Edition) (sane : Sane e) (i : Target) (n : List ℕ) (xs : List Re
       let nr : number new-entry ≡ i .inode = entry-number e o i n (omega arith) in
       subst (λ (w : List ℕ). Good e new-records (insert-slot (slot (hash-of e w) (o / 8)) ts) m) nm
       (good-insert e rs new-records (entries xs) new-entry (entries ys) ss ts st m sane g k l ap′ old (new-entries ib)
-      (rw nm lg) (rw nr (target-number e i ln)) (rw nm fx) (rw nm ab))
+      (rw nm lg) (number-stands e _ new-entry (rw nr (target-number e i ln))) (rw nm fx) (rw nm ab))

@@ -15,6 +15,7 @@ pub mod AcceptedParts
 pub mod PartsAddUp
 pub mod WritesLeave
 pub mod InsertWrites
+pub mod OwnNumber
 pub mod EntryMore
 pub mod InsertGood
 pub mod ChangeAccepted

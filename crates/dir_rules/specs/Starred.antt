@@ -14,7 +14,7 @@ use Rattle.name.specs.Starred.{Row, row, right, hash-rows}
 use Rattle.dir_rules.specs.declared.Target.{Target}
 use Rattle.dir_rules.specs.Record.{Rec, target, pad, says, cut, whole, apart, size, gaps, entry-bytes, gap-writes}
 use Rattle.dir_rules.specs.Block.{records, slots, slots-in, slot, slot-bytes, count-of, stale-of, data-end}
-use Rattle.dir_rules.specs.Verdict.{best-pairs, pairs-in, verdict, size-ok, magic-ok, span-ok, tile-ok, names-ok, numbers-ok, legal-target, legal-type, index-ok, rising, best-ok, once-ok}
+use Rattle.dir_rules.specs.Verdict.{best-pairs, pairs-in, verdict, size-ok, magic-ok, span-ok, tile-ok, names-ok, numbers-ok, number-fits, own-in, legal-target, legal-type, index-ok, rising, best-ok, once-ok}
 use Rattle.dir_rules.specs.Lookup.{seek, sought, lookup, lookup-refusal, looked-code, looked-inode, looked-compared}
 use Rattle.dir_rules.specs.Room.{longest, last-of, touching, room, has-room, case-a, case-b}
 use Rattle.dir_rules.specs.Change.{pair-bytes, best-of, with-best, sealed, changed, index-writes, insert-slot, writes-a, writes-b, writes-c, writes-d, insert-writes, insert-code, insert-block, gap-start-before, gap-end-after, remove-writes, remove-code, remove-block}
@@ -111,5 +111,5 @@ unfoldable pub rows : List Row
 rows = hash-rows ++ block-rows
 
 pub starred : every right rows ≡ true
-unfolding rows hash-rows block-rows block-size rol hash-byte hash-from places shape answer inserted c1 c2 c3 c4 c5 full by-case fresh best-pairs be be-from to-be slots-in slot-bytes pairs-in pair-bytes put written entry-size legal-name legal-number hash-of same-name fixed-name says cut whole apart entry-bytes pad gap-writes records slots count-of stale-of data-end verdict size-ok magic-ok span-ok tile-ok names-ok numbers-ok legal-target legal-type index-ok rising best-ok once-ok seek sought lookup lookup-refusal longest last-of touching room has-room best-of with-best sealed changed insert-slot writes-a writes-b writes-c writes-d insert-writes insert-code insert-block gap-start-before gap-end-after remove-writes remove-code remove-block
+unfolding rows hash-rows block-rows block-size rol hash-byte hash-from places shape answer inserted c1 c2 c3 c4 c5 full by-case fresh best-pairs be be-from to-be slots-in slot-bytes pairs-in pair-bytes put written entry-size legal-name legal-number hash-of same-name fixed-name says cut whole apart entry-bytes pad gap-writes records slots count-of stale-of data-end verdict size-ok magic-ok span-ok tile-ok names-ok numbers-ok number-fits own-in legal-target legal-type index-ok rising best-ok once-ok seek sought lookup lookup-refusal longest last-of touching room has-room best-of with-best sealed changed insert-slot writes-a writes-b writes-c writes-d insert-writes insert-code insert-block gap-start-before gap-end-after remove-writes remove-code remove-block
 starred = refl

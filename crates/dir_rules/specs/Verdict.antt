@@ -53,9 +53,21 @@ legal-type e k = eqb (e .ftype) 0 || (leb 1 k && leb k 8)
 unfoldable pub legal-target : Edition → Target → Bool
 legal-target e i = legal-number (i .inode) && legal-type e (i .kind)
 
--- 7 NUMBER: every inode number is legal
-unfoldable pub numbers-ok : List Rec → Bool
-numbers-ok rs = every (λ r. legal-number (number r)) (entries rs)
+-- the number of ".": of the entry at the header's end
+unfoldable pub own-in : Edition → List Rec → ℕ
+own-in e [] = 0
+own-in e (r ∷ rs) = cond (eqb (r .off) (e .header)) (number r) (own-in e rs)
+
+-- 7 NUMBER: the number i of the entry at o, in a directory whose own number is `own`, is legal
+unfoldable pub number-fits : Edition → ℕ → ℕ → ℕ → Bool
+number-fits e own o i = legal-number i
+
+abbrev pub number-ok : Edition → ℕ → Rec → Bool
+number-ok e own r = number-fits e own (r .off) (number r)
+
+-- 7 NUMBER: every inode number is
+unfoldable pub numbers-ok : Edition → List Rec → Bool
+numbers-ok e rs = every (number-ok e (own-in e (entries rs))) (entries rs)
 
 -- 8 INDEX: hashes never fall, stale slots counted in
 unfoldable pub rising : List Slot → Bool
@@ -119,7 +131,7 @@ verdict e b =
     otherwise (span-ok e b) 4 (
     otherwise (tile-ok e (records e b)) 5 (
     otherwise (names-ok e (records e b)) 6 (
-    otherwise (numbers-ok (records e b)) 7 (
+    otherwise (numbers-ok e (records e b)) 7 (
     otherwise (index-ok e (records e b) (slots b) (stale-of b)) 8 (
     otherwise (best-ok (best-pairs e b) (gaps (records e b))) 9 (
     otherwise (once-ok e (entries (records e b))) 10 0))))))))
