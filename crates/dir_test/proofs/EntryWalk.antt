@@ -14,6 +14,7 @@ use Rattle.edition.specs.declared.Edition.{Edition}
 use Rattle.edition.specs.Edition.{entry-size}
 use Rattle.name.specs.Name.{hash-of, legal-number}
 use Rattle.dir_rules.specs.Record.{Rec, rec, cut, says, whole, is-gap, name, number}
+use Rattle.dir_rules.specs.Verdict.{number-fits}
 use Rattle.be.proofs.Bools.{and-left, and-right, by-cases}
 use Rattle.dir_rules.proofs.CutJoin.{Whole, whole→, head-size}
 use Rattle.edition.proofs.Sizes.{entry-size-least}
@@ -23,19 +24,20 @@ use Rattle.dir_test.proofs.WholeRecord.{says-entry, gap-is}
 use Rattle.dir_test.proofs.TileWalk.{Head, head, rest-head, rest-end, head-gap}
 
 -- one entry
-module _ (e : Edition) (ss : ℕ → ℕ → Bool) (b : List ℕ) (o len : ℕ) (is : len ≡ getD b (o + 8) 0) (x : Bool) (xs : x ≡ name-fits e o (part (o + 9) len b)) where
+module _ (e : Edition) (own : ℕ) (ss : ℕ → ℕ → Bool) (b : List ℕ) (o len : ℕ) (is : len ≡ getD b (o + 8) 0) (x : Bool) (xs : x ≡ name-fits e o (part (o + 9) len b)) where
   named : name-fits e o (name-of b o) ≡ x
   named = sym (xs ∙ ap (λ (k : ℕ). name-fits e o (part (o + 9) k b)) is)
 
-  pub fault-6 : x ≡ false → 6 ≡ fault-at e ss b o
+  pub fault-6 : x ≡ false → 6 ≡ fault-at e own ss b o
   unfolding fault-at
   fault-6 p = sym (rw (named, p))
 
   module _ (p : x ≡ true) (i : ℕ) (ii : i ≡ field o 8 b) (y : Bool) (ys : y ≡ legal-number i) where
-    numbered : legal-number (field o 8 b) ≡ y
+    numbered : number-fits e own o (field o 8 b) ≡ y
+    unfolding number-fits
     numbered = sym (ys ∙ ap legal-number ii)
 
-    pub fault-7 : y ≡ false → 7 ≡ fault-at e ss b o
+    pub fault-7 : y ≡ false → 7 ≡ fault-at e own ss b o
     unfolding fault-at
     fault-7 q = sym (rw (named, p, numbered, q))
 
@@ -43,11 +45,11 @@ module _ (e : Edition) (ss : ℕ → ℕ → Bool) (b : List ℕ) (o len : ℕ) 
       slotted : ss (o / 8) (hash-of e (name-of b o)) ≡ z
       slotted = sym (zs ∙ ap (λ (k : ℕ). ss (o / 8) k) (hs ∙ ap (λ (k : ℕ). hash-of e (part (o + 9) k b)) is))
 
-      pub fault-9 : z ≡ true → 9 ≡ fault-at e ss b o
+      pub fault-9 : z ≡ true → 9 ≡ fault-at e own ss b o
       unfolding fault-at
       fault-9 r = sym (rw (named, p, numbered, q, slotted, r))
 
-      pub fault-8 : z ≡ false → 8 ≡ fault-at e ss b o
+      pub fault-8 : z ≡ false → 8 ≡ fault-at e own ss b o
       unfolding fault-at
       fault-8 r = sym (rw (named, p, numbered, q, slotted, r))
 
@@ -160,36 +162,36 @@ module _ (e : Edition) (b : List ℕ) (t o n : ℕ) (lo : o < t) (hi : t ≤ len
     pub number-here : number (rec o (part o n b)) ≡ field o 8 b
     number-here = ap be (part-part b o n 0 8 (omega (arith, entry-long))) ∙ ap (λ (k : ℕ). field k 8 b) (add-zero o)
 
-    pub fault-entry : (ss : ℕ → ℕ → Bool) → fault e ss (rec o (part o n b)) ≡ fault-at e ss b o
+    pub fault-entry : (own : ℕ) (ss : ℕ → ℕ → Bool) → fault e own ss (rec o (part o n b)) ≡ fault-at e own ss b o
     unfolding fault fault-at name-fits
-    fault-entry ss =
+    fault-entry own ss =
         let i : is-gap (rec o (part o n b)) ≡ false = head-gap e b t o lo hi n hd ∙ g in
         rw (i, name-here, number-here)
 
-  pub fault-here : (ss : ℕ → ℕ → Bool) → fault e ss (rec o (part o n b)) ≡ cond (eqb (field o 2 b) 0xffff) 9 (fault-at e ss b o)
+  pub fault-here : (own : ℕ) (ss : ℕ → ℕ → Bool) → fault e own ss (rec o (part o n b)) ≡ cond (eqb (field o 2 b) 0xffff) 9 (fault-at e own ss b o)
   unfolding fault
-  fault-here ss =
+  fault-here own ss =
       by-cases (eqb (field o 2 b) 0xffff)
       (λ q. let i : is-gap (rec o (part o n b)) ≡ true = head-gap e b t o lo hi n hd ∙ q in rw (q, i))
-      (λ q. rw q (fault-entry q ss))
+      (λ q. rw q (fault-entry q own ss))
 
 -- the lowest fault so far, and what is left
-module _ (e : Edition) (ss : ℕ → ℕ → Bool) (all : List Rec) where
+module _ (e : Edition) (own : ℕ) (ss : ℕ → ℕ → Bool) (all : List Rec) where
   abbrev pub Faulting : ℕ → List Rec → Type 0
-  Faulting w rs = worst e ss all ≡ min w (worst e ss rs)
+  Faulting w rs = worst e own ss all ≡ min w (worst e own ss rs)
 
-  pub worst-start : worst e ss all ≡ min 9 (worst e ss all)
+  pub worst-start : worst e own ss all ≡ min 9 (worst e own ss all)
   unfolding worst fault
   worst-start = go all
     where
-      go : (rs : List Rec) → worst e ss rs ≡ min 9 (worst e ss rs)
+      go : (rs : List Rec) → worst e own ss rs ≡ min 9 (worst e own ss rs)
       go [] = refl
-      go (r ∷ rs) = let h : worst e ss rs ≡ min 9 (worst e ss rs) = go rs in omega arith
+      go (r ∷ rs) = let h : worst e own ss rs ≡ min 9 (worst e own ss rs) = go rs in omega arith
 
-  pub worst-end : (w : ℕ) → w ≤ 9 → Faulting w [] → w ≡ worst e ss all
+  pub worst-end : (w : ℕ) → w ≤ 9 → Faulting w [] → w ≡ worst e own ss all
   unfolding worst
   worst-end w l h = omega arith
 
-  pub worst-on : (w x f : ℕ) (r : Rec) → fault e ss r ≡ f → x ≡ min w f → (rs : List Rec) → Faulting w (r ∷ rs) → Faulting x rs
+  pub worst-on : (w x f : ℕ) (r : Rec) → fault e own ss r ≡ f → x ≡ min w f → (rs : List Rec) → Faulting w (r ∷ rs) → Faulting x rs
   unfolding worst
   worst-on w x f r e m rs h = omega arith

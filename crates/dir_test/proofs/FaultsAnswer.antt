@@ -10,9 +10,9 @@ use lib.ListN.{length}
 use borrow.Author.Tests.{le-leb, lt-leb, leb-true, leb-false}
 use Rattle.be.specs.Lists.{every, keep}
 use Rattle.edition.specs.declared.Edition.{Edition}
-use Rattle.name.specs.Name.{legal-number, hash-of}
+use Rattle.name.specs.Name.{hash-of}
 use Rattle.dir_rules.specs.Record.{Rec, whole, apart, is-gap, entries, name, number}
-use Rattle.dir_rules.specs.Verdict.{tile-ok, name-ok}
+use Rattle.dir_rules.specs.Verdict.{tile-ok, name-ok, number-ok}
 use Rattle.be.proofs.Bools.{by-cases}
 use Rattle.dir_test.specs.Passes.{tile-from, tiled, fault, worst}
 
@@ -81,53 +81,50 @@ every-same : {A : Type 0} (p q : A → Bool) → ((r : A) → p r ≡ q r) → (
 every-same p q h [] = refl
 every-same p q h (r ∷ rs) = rw (h r, every-same p q h rs)
 
-module _ (e : Edition) (ss : ℕ → ℕ → Bool) where
-  worst-leb : (m : ℕ) → m ≤ 9 → (rs : List Rec) → leb m (worst e ss rs) ≡ every (λ r. leb m (fault e ss r)) rs
+module _ (e : Edition) (own : ℕ) (ss : ℕ → ℕ → Bool) where
+  worst-leb : (m : ℕ) → m ≤ 9 → (rs : List Rec) → leb m (worst e own ss rs) ≡ every (λ r. leb m (fault e own ss r)) rs
   unfolding worst
   worst-leb m h [] = le-leb m 9 h
-  worst-leb m h (r ∷ rs) = min-leb m (fault e ss r) (worst e ss rs) ∙ ap (λ (t : Bool). leb m (fault e ss r) && t) (worst-leb m h rs)
-
-  abbrev pub number-ok : Rec → Bool
-  number-ok r = legal-number (number r)
+  worst-leb m h (r ∷ rs) = min-leb m (fault e own ss r) (worst e own ss rs) ∙ ap (λ (t : Bool). leb m (fault e own ss r) && t) (worst-leb m h rs)
 
   abbrev pub slot-ok : Rec → Bool
   slot-ok r = ss (r .off / 8) (hash-of e (name r))
 
-  fault-7 : (r : Rec) → leb 7 (fault e ss r) ≡ (is-gap r || name-ok e r)
+  fault-7 : (r : Rec) → leb 7 (fault e own ss r) ≡ (is-gap r || name-ok e r)
   unfolding fault
   fault-7 r =
       by-cases (is-gap r) (λ g. rw g) (λ g. by-cases (name-ok e r)
-      (λ a. by-cases (number-ok r) (λ b. by-cases (slot-ok r) (λ c. rw (g, a, b, c)) (λ c. rw (g, a, b, c))) (λ b. rw (g, a, b)))
+      (λ a. by-cases (number-ok e own r) (λ b. by-cases (slot-ok r) (λ c. rw (g, a, b, c)) (λ c. rw (g, a, b, c))) (λ b. rw (g, a, b)))
       (λ a. rw (g, a)))
 
-  fault-8 : (r : Rec) → leb 8 (fault e ss r) ≡ (is-gap r || (name-ok e r && number-ok r))
+  fault-8 : (r : Rec) → leb 8 (fault e own ss r) ≡ (is-gap r || (name-ok e r && number-ok e own r))
   unfolding fault
   fault-8 r =
       by-cases (is-gap r) (λ g. rw g) (λ g. by-cases (name-ok e r)
-      (λ a. by-cases (number-ok r) (λ b. by-cases (slot-ok r) (λ c. rw (g, a, b, c)) (λ c. rw (g, a, b, c))) (λ b. rw (g, a, b)))
+      (λ a. by-cases (number-ok e own r) (λ b. by-cases (slot-ok r) (λ c. rw (g, a, b, c)) (λ c. rw (g, a, b, c))) (λ b. rw (g, a, b)))
       (λ a. rw (g, a)))
 
-  fault-9 : (r : Rec) → leb 9 (fault e ss r) ≡ (is-gap r || (name-ok e r && number-ok r && slot-ok r))
+  fault-9 : (r : Rec) → leb 9 (fault e own ss r) ≡ (is-gap r || (name-ok e r && number-ok e own r && slot-ok r))
   unfolding fault
   fault-9 r =
       by-cases (is-gap r) (λ g. rw g) (λ g. by-cases (name-ok e r)
-      (λ a. by-cases (number-ok r) (λ b. by-cases (slot-ok r) (λ c. rw (g, a, b, c)) (λ c. rw (g, a, b, c))) (λ b. rw (g, a, b)))
+      (λ a. by-cases (number-ok e own r) (λ b. by-cases (slot-ok r) (λ c. rw (g, a, b, c)) (λ c. rw (g, a, b, c))) (λ b. rw (g, a, b)))
       (λ a. rw (g, a)))
 
   module _ (rs : List Rec) where
-    pub worst-7 : leb 7 (worst e ss rs) ≡ every (name-ok e) (entries rs)
+    pub worst-7 : leb 7 (worst e own ss rs) ≡ every (name-ok e) (entries rs)
     worst-7 =
-        worst-leb 7 (omega arith) rs ∙ every-same (λ r. leb 7 (fault e ss r)) (λ r. is-gap r || name-ok e r) fault-7 rs
+        worst-leb 7 (omega arith) rs ∙ every-same (λ r. leb 7 (fault e own ss r)) (λ r. is-gap r || name-ok e r) fault-7 rs
         ∙ every-entries is-gap (name-ok e) rs
 
-    pub worst-8 : leb 8 (worst e ss rs) ≡ (every (name-ok e) (entries rs) && every number-ok (entries rs))
+    pub worst-8 : leb 8 (worst e own ss rs) ≡ (every (name-ok e) (entries rs) && every (number-ok e own) (entries rs))
     worst-8 =
-        worst-leb 8 (omega arith) rs ∙ every-same (λ r. leb 8 (fault e ss r)) (λ r. is-gap r || (name-ok e r && number-ok r)) fault-8 rs
-        ∙ every-entries is-gap (λ r. name-ok e r && number-ok r) rs ∙ every-and (name-ok e) number-ok (entries rs)
+        worst-leb 8 (omega arith) rs ∙ every-same (λ r. leb 8 (fault e own ss r)) (λ r. is-gap r || (name-ok e r && number-ok e own r)) fault-8 rs
+        ∙ every-entries is-gap (λ r. name-ok e r && number-ok e own r) rs ∙ every-and (name-ok e) (number-ok e own) (entries rs)
 
-    pub worst-9 : leb 9 (worst e ss rs) ≡ (every (name-ok e) (entries rs) && every number-ok (entries rs) && every slot-ok (entries rs))
+    pub worst-9 : leb 9 (worst e own ss rs) ≡ (every (name-ok e) (entries rs) && every (number-ok e own) (entries rs) && every slot-ok (entries rs))
     worst-9 =
-        worst-leb 9 (omega arith) rs ∙ every-same (λ r. leb 9 (fault e ss r)) (λ r. is-gap r || (name-ok e r && number-ok r && slot-ok r)) fault-9 rs
-        ∙ every-entries is-gap (λ r. name-ok e r && number-ok r && slot-ok r) rs
-        ∙ every-and (λ r. name-ok e r && number-ok r) slot-ok (entries rs)
-        ∙ ap (λ (t : Bool). t && every slot-ok (entries rs)) (every-and (name-ok e) number-ok (entries rs))
+        worst-leb 9 (omega arith) rs ∙ every-same (λ r. leb 9 (fault e own ss r)) (λ r. is-gap r || (name-ok e r && number-ok e own r && slot-ok r)) fault-9 rs
+        ∙ every-entries is-gap (λ r. name-ok e r && number-ok e own r && slot-ok r) rs
+        ∙ every-and (λ r. name-ok e r && number-ok e own r) slot-ok (entries rs)
+        ∙ ap (λ (t : Bool). t && every slot-ok (entries rs)) (every-and (name-ok e) (number-ok e own) (entries rs))

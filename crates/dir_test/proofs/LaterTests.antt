@@ -18,7 +18,7 @@ use Rattle.edition.specs.Edition.{Sane, entry-size, largest-block, record-place
 use Rattle.name.specs.Name.{dot, legal-name}
 use Rattle.dir_rules.specs.Record.{Rec, rec, whole, is-gap, is-entry, entries, gaps, name}
 use Rattle.dir_rules.specs.Block.{Slot, slots-in, is-live, is-stale}
-use Rattle.dir_rules.specs.Verdict.{tile-ok, entry-at, name-ok, names-ok, numbers-ok, index-ok, rising, best-ok, best-pairs, pairs-in, pair, Pair, zero-pair, once-ok}
+use Rattle.dir_rules.specs.Verdict.{tile-ok, entry-at, name-ok, names-ok, numbers-ok, number-ok, own-in, index-ok, rising, best-ok, best-pairs, pairs-in, pair, Pair, zero-pair, once-ok}
 use Rattle.be.proofs.Bools.{by-cases, and-left, and-right, every-head, every-tail, every-cons, and-false}
 use Rattle.dir_rules.proofs.CutJoin.{Laid, join, join-cut}
 use Rattle.dir_rules.proofs.SlotCounts.{Apart}
@@ -27,11 +27,11 @@ use Rattle.dir_rules.proofs.RecordPlaces.{Split, apart-keep, laid-eights, every
 use Rattle.dir_rules.proofs.SearchFinds.{Reads, Owner, owner}
 use Rattle.name.proofs.Same.{same-eq}
 use Rattle.dir_rules.proofs.GoodParts.{laid-small}
-use Rattle.dir_test.specs.Passes.{filled, hint, rest, name-of, Tiled, slots-from, Reach, addr-at, once-in, best-left, in-order, worst, after-tile, after-index}
+use Rattle.dir_test.specs.Passes.{filled, hint, rest, name-of, Tiled, slots-from, Reach, addr-at, once-in, best-left, in-order, own-at, worst, after-tile, after-index}
 use Rattle.be.proofs.Parts.{part-length}
 use Rattle.dir_test.proofs.TileWalk.{Head, rest-head, head-gap}
 use Rattle.dir_test.proofs.WholeRecord.{says-entry}
-use Rattle.dir_test.proofs.EntryWalk.{entry-fits, name-here}
+use Rattle.dir_test.proofs.EntryWalk.{entry-fits, name-here, number-here}
 use Rattle.dir_test.proofs.SlotWalk.{slot-at}
 use Rattle.dir_test.proofs.SlotTable.{slots-split, table-law, hinted}
 use Rattle.dir_test.proofs.FaultsAnswer.{worst-7, worst-8, worst-9}
@@ -217,6 +217,20 @@ module _ (e : Edition) (sane : Sane e) (b : List ℕ) (t n : ℕ) where
         beq-true false true q h = h
         beq-true false false q h = q
 
+    -- its number
+    own-is : there (e .header) ≡ true → own-in e (entries RS) ≡ own-at e b
+    unfolding own-in
+    own-is w =
+        let te : t % 8 ≡ 0 = T .parts .eights in
+        let lo : (e .header) < t = ltb-true (e .header) t (and-left (ltb (e .header) t) _ w) in
+        let g : eqb (field (e .header) 2 b) 0xffff ≡ false = not-true (eqb (field (e .header) 2 b) 0xffff) (and-right (ltb (e .header) t) _ w) in
+        let K : length b ≡ suc (length b - 1) = omega (arith, hi) in
+        let x : (n : ℕ) × Head e b t (e .header) n = head-of e b t hi te (length b) (e .header) lo (sane .header-eights) enough wholes in
+        let nx : RS ≡ rec (e .header) (part (e .header) (x .0) b) ∷ rest e b t (length b - 1) ((e .header) + x .0) =
+        ap (λ (j : ℕ). rest e b t j (e .header)) K ∙ rest-head e b t (e .header) lo hi (length b - 1) (x .0) (x .1) in
+        let i : is-gap (rec (e .header) (part (e .header) (x .0) b)) ≡ false = head-gap e b t (e .header) lo hi (x .0) (x .1) ∙ g in
+        ap (λ (l : List Rec). own-in e (entries l)) nx ∙ rw (i, eq-eqb (e .header) (e .header) refl) (number-here e b t (e .header) (x .0) lo hi (x .1) g)
+
     fixed : every (name-ok e) (entries RS) ≡ true → names-ok e RS ≡ (there (e .header) && there (e .header + 16))
     unfolding names-ok
     fixed h =
@@ -255,19 +269,18 @@ module _ (e : Edition) (sane : Sane e) (b : List ℕ) (t n : ℕ) where
             (λ q. let z : k ≡ n = ks ∙ rw q in omega (arith, T .parts .room))
             (λ q. let z : k ≡ 0 = ks ∙ rw q in omega (arith, hi))
 
-        pub table-is : (P : List ℕ) → P ≡ filled b t M n → (w : ℕ) → w ≡ worst e (hint P b t k) RS → w ≡ worst e (hint (filled b t M n) b t k) RS
-        table-is P ps w ws = ws ∙ ap (λ (Q : List ℕ). worst e (hint Q b t k) RS) ps
+        pub table-is : (P : List ℕ) → P ≡ filled b t M n → (w : ℕ) → w ≡ worst e (own-at e b) (hint P b t k) RS → w ≡ worst e (own-at e b) (hint (filled b t M n) b t k) RS
+        table-is P ps w ws = ws ∙ ap (λ (Q : List ℕ). worst e (own-at e b) (hint Q b t k) RS) ps
 
-        module _ (P : List ℕ) (ps : P ≡ filled b t M n) (w : ℕ) (wp : w ≡ worst e (hint P b t k) RS) where
-          ws : w ≡ worst e (hint (filled b t M n) b t k) RS
+        module _ (P : List ℕ) (ps : P ≡ filled b t M n) (w : ℕ) (wp : w ≡ worst e (own-at e b) (hint P b t k) RS) where
+          ws : w ≡ worst e (own-at e b) (hint (filled b t M n) b t k) RS
           ws = table-is P ps w wp
 
           names-7 : leb 7 w ≡ every (name-ok e) (entries RS)
-          names-7 = ap (leb 7) ws ∙ worst-7 e (hint (filled b t M n) b t k) RS
+          names-7 = ap (leb 7) ws ∙ worst-7 e (own-at e b) (hint (filled b t M n) b t k) RS
 
-          names-8 : leb 8 w ≡ (every (name-ok e) (entries RS) && numbers-ok RS)
-          unfolding numbers-ok
-          names-8 = ap (leb 8) ws ∙ worst-8 e (hint (filled b t M n) b t k) RS
+          names-8 : leb 8 w ≡ (every (name-ok e) (entries RS) && every (number-ok e (own-at e b)) (entries RS))
+          names-8 = ap (leb 8) ws ∙ worst-8 e (own-at e b) (hint (filled b t M n) b t k) RS
 
           pub end-6 : w < 7 → 6 ≡ after-tile e b RS SS m
           unfolding after-tile names-ok
@@ -285,15 +298,19 @@ module _ (e : Edition) (sane : Sane e) (b : List ℕ) (t n : ℕ) where
               names : names-ok e RS ≡ true
               names = fixed named ∙ sym xs ∙ xt
 
+              own-numbers : every (number-ok e (own-at e b)) (entries RS) ≡ numbers-ok e RS
+              unfolding numbers-ok
+              own-numbers = ap (λ (k : ℕ). every (number-ok e k) (entries RS)) (sym (own-is (and-left (there (e .header)) _ (sym xs ∙ xt))))
+
               pub end-7 : w < 8 → 7 ≡ after-tile e b RS SS m
               unfolding after-tile
               end-7 h =
-                  let z : numbers-ok RS ≡ false = sym (names-8 ∙ rw named) ∙ lt-leb 8 w h in
+                  let z : numbers-ok e RS ≡ false = sym own-numbers ∙ sym (names-8 ∙ rw named) ∙ lt-leb 8 w h in
                   sym (rw (names, z))
 
               module _ (h8 : 8 ≤ w) where
-                numbers : numbers-ok RS ≡ true
-                numbers = sym (names-8 ∙ rw named) ∙ le-leb 8 w h8
+                numbers : numbers-ok e RS ≡ true
+                numbers = sym own-numbers ∙ sym (names-8 ∙ rw named) ∙ le-leb 8 w h8
 
                 pub end-8 : fit ≡ false → 8 ≡ after-tile e b RS SS m
                 unfolding after-tile
@@ -303,10 +320,9 @@ module _ (e : Edition) (sane : Sane e) (b : List ℕ) (t n : ℕ) where
 
                 module _ (ft : fit ≡ true) where
                   slots-9 : leb 9 w ≡ every (hinted b t n M e) (entries RS)
-                  unfolding numbers-ok
                   slots-9 =
                       let kn : k ≡ n = ks ∙ rw ft in
-                      ap (leb 9) (ws ∙ ap (λ (j : ℕ). worst e (hint (filled b t M n) b t j) RS) kn) ∙ worst-9 e (hint (filled b t M n) b t n) RS ∙ rw (named, numbers)
+                      ap (leb 9) (ws ∙ ap (λ (j : ℕ). worst e (own-at e b) (hint (filled b t M n) b t j) RS) kn) ∙ worst-9 e (own-at e b) (hint (filled b t M n) b t n) RS ∙ rw (named, own-numbers ∙ numbers)
 
                   pub end-8′ : w < 9 → 8 ≡ after-tile e b RS SS m
                   unfolding after-tile

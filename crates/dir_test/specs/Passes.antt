@@ -11,10 +11,10 @@ use Rattle.be.specs.Bytes.{byte, field, part}
 use Rattle.be.specs.Codes.{otherwise}
 use Rattle.edition.specs.declared.Edition.{Edition}
 use Rattle.edition.specs.Edition.{largest-block}
-use Rattle.name.specs.Name.{legal-number, legal-name, hash-of, same-name, dot, dotdot}
-use Rattle.dir_rules.specs.Record.{Rec, rec, cut, says, whole, is-gap, entries, gaps, name, number, size}
+use Rattle.name.specs.Name.{legal-name, hash-of, same-name, dot, dotdot}
+use Rattle.dir_rules.specs.Record.{Rec, rec, cut, says, whole, is-gap, entries, gaps, name, size}
 use Rattle.dir_rules.specs.Block.{Slot, slots-in, is-stale}
-use Rattle.dir_rules.specs.Verdict.{name-ok, Pair, is-gap-of, best-ok, best-pairs, once-ok, names-ok, numbers-ok, index-ok, tile-ok}
+use Rattle.dir_rules.specs.Verdict.{name-ok, number-fits, number-ok, Pair, is-gap-of, best-ok, best-pairs, once-ok, names-ok, numbers-ok, index-ok, tile-ok}
 
 -- the records from o to the data's end t, with fuel k
 unfoldable pub rest : Edition → List ℕ → ℕ → ℕ → ℕ → List Rec
@@ -41,17 +41,17 @@ tiled e g n rs = cond (tile-from e g rs) (n + length (entries rs)) 0
 abbrev pub slot-is : ℕ → ℕ → Slot → Bool
 slot-is a h s = eqb (s .addr) a && eqb (s .hash) h
 
--- the first test that a record fails: 6, 7 or 8; 9 if none
-unfoldable pub fault : Edition → (ℕ → ℕ → Bool) → Rec → ℕ
-fault e f r =
+-- the first test that a record fails in a directory whose own number is `own`: 6, 7 or 8; 9 if none
+unfoldable pub fault : Edition → ℕ → (ℕ → ℕ → Bool) → Rec → ℕ
+fault e own f r =
     cond (is-gap r) 9 (
     otherwise (name-ok e r) 6 (
-    otherwise (legal-number (number r)) 7 (
+    otherwise (number-ok e own r) 7 (
     otherwise (f (r .off / 8) (hash-of e (name r))) 8 9)))
 
-unfoldable pub worst : Edition → (ℕ → ℕ → Bool) → List Rec → ℕ
-worst e f [] = 9
-worst e f (r ∷ rs) = min (fault e f r) (worst e f rs)
+unfoldable pub worst : Edition → ℕ → (ℕ → ℕ → Bool) → List Rec → ℕ
+worst e own f [] = 9
+worst e own f (r ∷ rs) = min (fault e own f r) (worst e own f rs)
 
 -- hashes never fall, from h on
 unfoldable pub climbs : ℕ → List Slot → Bool
@@ -80,11 +80,15 @@ name-fits e o n =
     && Bool·beq (same n dot) (eqb o (e .header))
     && Bool·beq (same n dotdot) (eqb o (e .header + 16))
 
+-- the number at the header's end, where "." sits
+abbrev pub own-at : Edition → List ℕ → ℕ
+own-at e b = field (e .header) 8 b
+
 -- the first test that the entry at o fails, where f says whether an address and a hash have a slot
-unfoldable pub fault-at : Edition → (ℕ → ℕ → Bool) → List ℕ → ℕ → ℕ
-fault-at e f b o =
+unfoldable pub fault-at : Edition → ℕ → (ℕ → ℕ → Bool) → List ℕ → ℕ → ℕ
+fault-at e own f b o =
     otherwise (name-fits e o (name-of b o)) 6 (
-    otherwise (legal-number (field o 8 b)) 7 (
+    otherwise (number-fits e own o (field o 8 b)) 7 (
     otherwise (f (o / 8) (hash-of e (name-of b o))) 8 9))
 
 -- the gaps that a pair does not name
@@ -136,7 +140,7 @@ after-index e b rs = otherwise (best-ok (best-pairs e b) (gaps rs)) 9 (otherwise
 unfoldable pub after-tile : Edition → List ℕ → List Rec → List Slot → ℕ → ℕ
 after-tile e b rs ss m =
     otherwise (names-ok e rs) 6 (
-    otherwise (numbers-ok rs) 7 (
+    otherwise (numbers-ok e rs) 7 (
     otherwise (index-ok e rs ss m) 8 (after-index e b rs)))
 
 unfoldable pub after-span : Edition → List ℕ → List Rec → List Slot → ℕ → ℕ

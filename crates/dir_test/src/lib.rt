@@ -10,7 +10,7 @@ ghost use Rattle.edition.specs.Edition.{v4, Sane, largest-block, record-places}
 ghost use Rattle.name.specs.Name.{legal-name, same-name};
 ghost use Rattle.dir_rules.specs.Record.{says, whole, gaps, entries};
 ghost use Rattle.dir_rules.specs.Verdict.{pair, best-pairs, best-ok, index-ok, verdict};
-ghost use Rattle.dir_test.specs.Passes.{rest, whole-len, tiled, slots-from, in-order, hash-at, addr-at, filled, hint, name-fits, name-of, fault-at, worst, best-left, which, clash-from, runs-on, once-in, Reach, after-index, after-tile, after-span, Parts, Tiled};
+ghost use Rattle.dir_test.specs.Passes.{rest, whole-len, tiled, slots-from, in-order, hash-at, addr-at, filled, hint, name-fits, name-of, fault-at, own-at, worst, best-left, which, clash-from, runs-on, once-in, Reach, after-index, after-tile, after-span, Parts, Tiled};
 use edition::Edition;
 use edition::V4;
 
@@ -203,7 +203,7 @@ fn name_fits(e: Edition, legal: bool, s: &[u8], o: usize) -> bool
 fn entry_fault(e: Edition, b: &[u8], o: usize, t: usize, n: usize, pos: &[u16; PLACES]) -> usize
     requires { ⌜ Sane e ⌝ }
     requires { ⌜ (t + 8 * n ≤ length (now b)) × (t ≤ largest-block) × (o + 9 + byte (o + 8) (now b) ≤ t) ⌝ }
-    ensures { λ r. ⌜ r ≡ fault-at e (hint (now (pos .entry)) (now (b .entry)) t n) (now (b .entry)) o ⌝ }
+    ensures { λ r. ⌜ r ≡ fault-at e (own-at e (now (b .entry))) (hint (now (pos .entry)) (now (b .entry)) t n) (now (b .entry)) o ⌝ }
 {
     let from = o + 9;
     let end = from + be::be8(b, o + 8);
@@ -224,7 +224,7 @@ fn entry_fault(e: Edition, b: &[u8], o: usize, t: usize, n: usize, pos: &[u16; P
 fn worse(e: Edition, b: &[u8], o: usize, t: usize, n: usize, pos: &[u16; PLACES], w: usize) -> usize
     requires { ⌜ Sane e ⌝ }
     requires { ⌜ (t + 8 * n ≤ length (now b)) × (t ≤ largest-block) × (o + 2 ≤ t) × (eqb (field o 2 (now b)) 0xffff ≡ false → o + 9 + byte (o + 8) (now b) ≤ t) ⌝ }
-    ensures { λ r. ⌜ r ≡ min w (cond (eqb (field o 2 (now (b .entry))) 0xffff) 9 (fault-at e (hint (now (pos .entry)) (now (b .entry)) t n) (now (b .entry)) o)) ⌝ }
+    ensures { λ r. ⌜ r ≡ min w (cond (eqb (field o 2 (now (b .entry))) 0xffff) 9 (fault-at e (own-at e (now (b .entry))) (hint (now (pos .entry)) (now (b .entry)) t n) (now (b .entry)) o)) ⌝ }
 {
     if is_gap(b, o) {
         if 9 < w {
@@ -243,7 +243,7 @@ fn worse(e: Edition, b: &[u8], o: usize, t: usize, n: usize, pos: &[u16; PLACES]
 fn faults(e: Edition, b: &[u8], t: usize, n: usize, pos: &[u16; PLACES]) -> usize
     requires { ⌜ Sane e ⌝ }
     requires { ⌜ (t + 8 * n ≤ length (now b)) × (t ≤ largest-block) × (t % 8 ≡ 0) × (e .header ≤ t) × (every (whole e) (rest e (now b) t (length (now b)) (e .header)) ≡ true) ⌝ }
-    ensures { λ r. ⌜ r ≡ worst e (hint (now (pos .entry)) (now (b .entry)) t n) (rest e (now (b .entry)) t (length (now (b .entry))) (e .header)) ⌝ }
+    ensures { λ r. ⌜ r ≡ worst e (own-at e (now (b .entry))) (hint (now (pos .entry)) (now (b .entry)) t n) (rest e (now (b .entry)) t (length (now (b .entry))) (e .header)) ⌝ }
 {
     let mut o = e.header;
     let mut w = 9;
