@@ -8,7 +8,6 @@ use mathlib.Core.List.{List, [], _∷_, _++_, append-assoc, append-nil}
 use lib.ListN.{length, take, drop, getD, length-append, length-drop, length-take}
 use lib.Seq.{drop-drop, drop-append-le, take-at}
 use borrow.Author.Tests.{eq-eqb, ne-eqb, not-true}
-use Rattle.be.specs.Lists.{same}
 use Rattle.be.specs.Bytes.{be, field}
 use Rattle.edition.specs.declared.Edition.{Edition}
 use Rattle.edition.specs.Edition.{entry-size, Sane}
@@ -23,7 +22,7 @@ use Rattle.edition.proofs.Sizes.{entry-size-least}
 use Rattle.dir_rules.proofs.GapsApart.{last-gap?}
 use Rattle.dir_rules.proofs.RecordPlaces.{Split}
 use Rattle.dir_rules.proofs.SearchFinds.{First, seek-first, seek-hit}
-use Rattle.name.proofs.Same.{same-eq}
+use Rattle.name.proofs.Same.{same-name-length}
 use Rattle.dir_rules.proofs.AcceptedParts.{keep-find, Found-in, place-of}
 use Rattle.dir_rules.proofs.LookupFinds.{spot, at-spot}
 use Rattle.dir_rules.proofs.RemoveWrites.{before-gap, before-entry, after-gap, after-entry, after-end}
@@ -207,18 +206,18 @@ found-place e b n h =
 
 -- the entry found has the name
 pub found-long : (e : Edition) (sane : Sane e) (b n : List ℕ) (r : Ready e b) → sought e b n .hit ≡ true → getD b (sought e b n .at + 8) 0 ≡ length n
-unfolding sought same-name
+unfolding sought
 found-long e sane b n r h =
     let f : First e b n (hash-of e n) 0 (slots b) (seek e b n (hash-of e n) 0 0 (slots b)) =
     seek-first e b n (hash-of e n) 0 0 (slots b) (sym (seek-hit e b n (hash-of e n) 0 0 (slots b)) ∙ h) in
     let a : ℕ = sought e b n .at in
     let w : Entry-at e b (sought e b n .at) = found-entry e sane b n r h in
-    let q : n ≡ name-at b (sought e b n .at) =
-    same-eq n (name-at b (8 * f .split .here .addr)) (and-right (candidate (hash-of e n) (f .split .here)) (same n (name-at b (8 * f .split .here .addr))) (f .matches)) ∙ ap (name-at b) (sym (f .at-is)) in
+    let q : length n ≡ length (name-at b (sought e b n .at)) =
+    same-name-length e n (name-at b (8 * f .split .here .addr)) (and-right (candidate (hash-of e n) (f .split .here)) (same-name e n (name-at b (8 * f .split .here .addr))) (f .matches)) ∙ ap (λ (o : ℕ). length (name-at b o)) (sym (f .at-is)) in
     let i : sought e b n .at + 11 + getD b (sought e b n .at + 8) 0 ≤ length b =
     omega (arith, entry-long e b (tiled e b r) (sought e b n .at) w, entry-inside e b (tiled e b r) (sought e b n .at) w, entry-size-least e (getD b (sought e b n .at + 8) 0), end-fits e b (tiled e b r)) in
     let l : length (name-at b (sought e b n .at)) ≡ getD b (sought e b n .at + 8) 0 = simp (length-take, length-drop) (omega arith) in
-    sym l ∙ ap length (sym q)
+    sym l ∙ sym q
 
 pub entry-found : (e : Edition) (sane : Sane e) (b n : List ℕ) (at : ℕ) (r : Ready e b) → sought e b n .hit ≡ true → sought e b n .at ≡ at → Entry-at e b at
 entry-found e sane b n at r h q = subst (λ (o : ℕ). Entry-at e b o) q (found-entry e sane b n r h)

@@ -53,6 +53,11 @@ name-at : (e : Edition) (ys zs : List Entry) (x : Entry) → every (name-ok e) (
 name-at e [] zs x h = and-left (name-ok e x) _ h
 name-at e (y ∷ ys) zs x h = name-at e ys zs x (and-right (name-ok e y) _ h)
 
+-- ".." is a legal name
+dotdot-legal : (e : Edition) → legal-name e dotdot ≡ true
+unfolding legal-name
+dotdot-legal e = refl
+
 module _ (e : Edition) (sane : Sane e) (told : ℕ) (b : List ℕ) (v : verdict e told b ≡ 0) where
   absent : (n : List ℕ) → legal-name e n ≡ true → fixed-name n ≡ false
       → lookup-answer e told b n ≡ cond (holds e n (entries e (used e b))) (Found (number-in e n (entries e (used e b)))) (Refused 13)
@@ -70,8 +75,8 @@ module _ (e : Edition) (sane : Sane e) (told : ℕ) (b : List ℕ) (v : verdict 
       ∙ rw (q, held-at e ys zs x, number-at e ys zs x o) refl
 
   to-parent : lookup-answer e told b dotdot ≡ Found (parent (used e b))
-  unfolding lookup-answer looked as-looked lookup-code lookup-inode legal-name
-  to-parent = rw v refl
+  unfolding lookup-answer looked as-looked lookup-code lookup-inode
+  to-parent = rw (v, dotdot-legal e) refl
 
 module _ (e : Edition) (sane : Sane e) where
   pub lookup-stored : Lookup-stored e

@@ -145,7 +145,6 @@ module _ (e : Edition) (b : List ℕ) (es : List Rec) (ss : List Slot) (m : ℕ)
   -- two slots of two entries of one name
   twins : (t v : Split es) (s u : Slot) → at-both (addr-of (t .here)) (hash-of e (name (t .here))) s ≡ true
       → at-both (addr-of (v .here)) (hash-of e (name (v .here))) u ≡ true → like (t .here) (v .here) ≡ true → twin e b s u ≡ true
-  unfolding same-name
   twins t v s u p q l =
       let sa : s .addr ≡ addr-of (t .here) = eqb-true (s .addr) (addr-of (t .here)) (and-left (eqb (s .addr) (addr-of (t .here))) _ p) in
       let ua : u .addr ≡ addr-of (v .here) = eqb-true (u .addr) (addr-of (v .here)) (and-left (eqb (u .addr) (addr-of (v .here))) _ q) in
@@ -187,7 +186,6 @@ module _ (e : Edition) (b : List ℕ) (es : List Rec) (ss : List Slot) (m : ℕ)
       by-cases (q r) (λ z. rw z) (λ z. by-cases (p r) (λ w. absurd (clash (f r w) z)) (λ w. rw z (some-le p q f rs (rw w at h))))
 
   pub entries-clash : free (twin e b) ss ≡ false → once-ok e es ≡ false
-  unfolding same-name
   entries-clash h =
       let x : (t : Split ss) × (some-of (twin e b (t .here)) (t .behind) ≡ true) = bound (twin e b) ss h in
       let t : Split ss = x .0 in
