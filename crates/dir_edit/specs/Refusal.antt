@@ -1,10 +1,9 @@
--- The refusals of an insert or a removal that need no search, and what follows them.
+-- The refusals of an insert's or a removal's request that need no search, and what follows them.
 -- Assumes nothing.
 use Prim.Native.Nat.{ℕ}
 use mathlib.Core.Bool.{Bool, not}
-use lib.Dec.{eqb}
-use Rattle.be.specs.Codes.{otherwise, and-then}
+use Rattle.be.specs.Codes.{otherwise}
 
--- the block's verdict t; 11 ASKED: the request is not legal; 12 FIXED; then the rest
-unfoldable pub refusal-of : ℕ → Bool → Bool → ℕ → ℕ
-refusal-of t legal fixed rest = and-then t (otherwise legal 11 (otherwise (not fixed) 12 rest))
+-- 11 ASKED: the request is not legal; 12 FIXED; then the rest
+unfoldable pub asked-of : Bool → Bool → ℕ → ℕ
+asked-of legal fixed rest = otherwise legal 11 (otherwise (not fixed) 12 rest)

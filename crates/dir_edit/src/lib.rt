@@ -10,7 +10,7 @@ ghost use Rattle.edition.specs.Edition.{v4, entry-size, Sane};
 ghost use Rattle.name.specs.Name.{hash-of, legal-name, fixed-name};
 ghost use Rattle.dir_rules.specs.Record.{target, entry-bytes, gap-writes, gaps, size};
 ghost use Rattle.dir_rules.specs.Block.{records, data-end, count-of, stale-of, slots, slot, is-stale, is-live};
-ghost use Rattle.dir_rules.specs.Verdict.{verdict, legal-type, legal-target};
+ghost use Rattle.dir_rules.specs.Verdict.{legal-type, legal-target};
 ghost use Rattle.dir_rules.specs.Lookup.{sought};
 ghost use Rattle.dir_rules.specs.Room.{has-room, room, other-gaps, longest};
 ghost use Rattle.dir_rules.specs.Change.{gap-start-before, gap-end-after, changed, remove-writes, remove-code, remove-block, index-writes, insert-slot, entry-writes, insert-code, insert-block};
@@ -19,7 +19,7 @@ ghost use Rattle.dir_laws.specs.SlotPlaces.{Spot};
 ghost use Rattle.dir_laws.specs.Pass.{Entry-at, Inside, Scanned};
 ghost use Rattle.dir_scan.specs.Table.{table};
 ghost use Rattle.dir_edit.specs.Chosen.{chosen};
-ghost use Rattle.dir_edit.specs.Refusal.{refusal-of};
+ghost use Rattle.dir_edit.specs.Refusal.{asked-of};
 use dir_rules::Target;
 use edition::Edition;
 use edition::V4;
@@ -390,15 +390,11 @@ pub fn insert_ready(e: Edition, b: &mut [u8], to: Target, name: &[u8]) -> usize
     15
 }
 
-// The refusals that need no search: the block's, 11 if the name is not legal or number is false, 12; 0 if there is none.
-fn refusal(e: Edition, b: &[u8], name: &[u8], number: bool) -> usize
+// The refusals of a request that need no search: 11 if the name is not legal or number is false, 12; 0 if there is none.
+fn request(e: Edition, name: &[u8], number: bool) -> usize
     requires { ⌜ Sane e ⌝ }
-    ensures { λ r. ⌜ r ≡ refusal-of (verdict e (now (b .entry))) (legal-name e (now (name .entry)) && number) (fixed-name (now (name .entry))) 0 ⌝ }
+    ensures { λ r. ⌜ r ≡ asked-of (legal-name e (now (name .entry)) && number) (fixed-name (now (name .entry))) 0 ⌝ }
 {
-    let t = dir_test::code(e, b);
-    if t != 0 {
-        return t;
-    }
     if !name::legal(e, name) {
         return 11;
     }
@@ -425,13 +421,17 @@ fn target_legal(e: Edition, to: Target) -> bool
     name::number_legal(to.inode) & type_legal(e, to.kind)
 }
 
-// Insert in a block of an edition: 0, or the number of the refusal.
+// Insert in a block of an edition: 0, or the number of the refusal. The block is tested first, then the request is judged.
 pub fn insert_in(e: Edition, b: &mut [u8], name: &[u8], to: Target) -> usize
     requires { ⌜ Sane e ⌝ }
     ensures { λ r. ⌜ (r ≡ insert-code e (now (b .entry)) (now (name .entry)) to) × (now (b .exit) ≡ insert-block e (now (b .entry)) (now (name .entry)) to) ⌝ }
 {
+    let t = dir_test::code(e, &b[..]);
+    if t != 0 {
+        return t;
+    }
     let legal = target_legal(e, to);
-    let refused = refusal(e, &b[..], name, legal);
+    let refused = request(e, name, legal);
     if refused != 0 {
         return refused;
     }
@@ -443,7 +443,11 @@ pub fn remove_in(e: Edition, b: &mut [u8], name: &[u8]) -> usize
     requires { ⌜ Sane e ⌝ }
     ensures { λ r. ⌜ (r ≡ remove-code e (now (b .entry)) (now (name .entry))) × (now (b .exit) ≡ remove-block e (now (b .entry)) (now (name .entry))) ⌝ }
 {
-    let refused = refusal(e, &b[..], name, true);
+    let k = dir_test::code(e, &b[..]);
+    if k != 0 {
+        return k;
+    }
+    let refused = request(e, name, true);
     if refused != 0 {
         return refused;
     }
