@@ -1,6 +1,6 @@
 # What people type.
 #   make run [BLOCK=file]   prove what the listing program needs, build it, list the sample block or another one
-#   make lib                prove what C and Rust call, and build target/staticlib/libcapi.a (include/pelunziwa.h)
+#   make lib                prove what C and Rust call, and build target/staticlib/libpelunziwa.a (include/pelunziwa.h)
 #   make test               the whole gate
 #   make check              the Rust tests alone, against the library; ROUNDS=10 for a longer run
 #   make bench              time the library, the yardstick and the model
@@ -14,7 +14,7 @@ run:
 	@target/bin/list < $(BLOCK)
 
 lib:
-	@rt staticlib capi
+	@rt staticlib pelunziwa
 
 test:
 	@tests/gate

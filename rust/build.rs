@@ -1,4 +1,4 @@
-//! Links the proved library, libcapi.a.
+//! Links the proved library, libpelunziwa.a.
 
 use std::env;
 use std::path::PathBuf;
@@ -7,9 +7,9 @@ fn main() {
     println!("cargo:rerun-if-changed=build.rs");
     println!("cargo:rerun-if-env-changed=PELUNZIWA_LIB_DIR");
     let dir = lib_dir();
-    println!("cargo:rerun-if-changed={}", dir.join("libcapi.a").display());
+    println!("cargo:rerun-if-changed={}", dir.join("libpelunziwa.a").display());
     println!("cargo:rustc-link-search=native={}", dir.display());
-    println!("cargo:rustc-link-lib=static=capi");
+    println!("cargo:rustc-link-lib=static=pelunziwa");
 }
 
 /// PELUNZIWA_LIB_DIR, or where the build of the whole product leaves the library.

@@ -1,9 +1,9 @@
 // Runs the block directory's calls on the block that document 004 dumps (standard input): its lookups, its walk, a walker, the block
 // after the removal that 004 shows, and a block for each refusal.
-use dir_rules::Looked;
-use dir_rules::Seen;
-use dir_rules::Step;
-use dir_rules::Walked;
+use dir_block_rules::Looked;
+use dir_block_rules::Seen;
+use dir_block_rules::Step;
+use dir_block_rules::Walked;
 use libc::STDIN_FILENO;
 use libc::STDOUT_FILENO;
 
@@ -19,7 +19,7 @@ fn number(n: u64) {
 // The verdict on a block.
 fn test(label: &[u8], b: &[u8]) {
     text(label);
-    number(dir_test::test(b) as u64);
+    number(dir_block_test::test(b) as u64);
     text(b"\n");
 }
 
@@ -27,7 +27,7 @@ fn test(label: &[u8], b: &[u8]) {
 fn look(b: &[u8], name: &[u8]) {
     text(b"lookup ");
     text(name);
-    match dir_block::lookup(b, name) {
+    match dir_block_lookup::lookup(b, name) {
         Looked::Found {
             number: i,
             compared,
@@ -84,20 +84,20 @@ fn answer(w: Walked) -> usize {
 fn step(b: &[u8], p: usize) -> usize {
     text(b"step");
     number(p as u64);
-    answer(dir_block::step(b, p))
+    answer(dir_block_lookup::step(b, p))
 }
 
 // What a walker meets at a place, and after some steps.
 fn walker_at(b: &[u8], p: usize) {
     text(b"walker at");
     number(p as u64);
-    answer(dir_walker::step_from(b, p));
+    answer(dir_block_walker::step_from(b, p));
 }
 
 fn walker_after(b: &[u8], steps: usize) {
     text(b"walker after");
     number(steps as u64);
-    answer(dir_walker::nth(b, steps));
+    answer(dir_block_walker::nth(b, steps));
 }
 
 fn walker(b: &[u8]) {

@@ -4,9 +4,9 @@ ghost use Prim.Native.Nat.{_+_, _≤_, _<_};
 ghost use lib.ListN.{length};
 ghost use Rattle.io.specs.Counts.{Counts};
 ghost use Rattle.edition.specs.Edition.{Sane};
-ghost use Rattle.dir_laws.specs.Tiled.{Ready};
-use dir_rules::Entry;
-use dir_rules::Seen;
+ghost use Rattle.dir_block_laws.specs.Tiled.{Ready};
+use dir_block_rules::Entry;
+use dir_block_rules::Seen;
 use edition::Edition;
 use edition::V4;
 use libc::STDIN_FILENO;
@@ -88,10 +88,10 @@ fn listing(e: Edition, b: &[u8])
     requires { ⌜ Sane e × Ready e (now b) ⌝ }
 {
     head(e, b);
-    let end = dir_block::end_of_data(e, b);
+    let end = dir_block_lookup::end_of_data(e, b);
     let mut p = e.header;
     while p < end {
-        let s = dir_block::step_ready(e, b, end, p);
+        let s = dir_block_lookup::step_ready(e, b, end, p);
         let seen = s.seen;
         if let Seen::Live(n) = seen {
             line(e, b, p, n);
@@ -103,7 +103,7 @@ fn listing(e: Edition, b: &[u8])
 fn answer(e: Edition, b: &[u8])
     requires { ⌜ Sane e ⌝ }
 {
-    let n = dir_test::code(e, b);
+    let n = dir_block_test::code(e, b);
     if n == 0 {
         listing(e, b);
         return;

@@ -1,5 +1,5 @@
 -- Rows of the table of starred numbers: what a definition gives, and what the paper says it gives. The whole table and the claim
--- about it stand in dir_rules/specs/Starred.antt.
+-- about it stand in dir_block_rules/specs/Starred.antt.
 -- Assumes nothing.
 use Prim.Native.Nat.{ℕ}
 use mathlib.Core.Bool.{Bool}

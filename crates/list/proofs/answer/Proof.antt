@@ -1,5 +1,5 @@
 use native.Mathlib.Omega.{arith}
-use Rattle.dir_laws.proofs.SlotSearch.{ready-of}
+use Rattle.dir_block_laws.proofs.SlotSearch.{ready-of}
 use borrow.Author.Needs.{needs}
 use Rattle.list.proofs.answer.Statement.{statement}
 use Rattle.list.proofs.answer.Tie as tie

@@ -1,8 +1,8 @@
 use native.Mathlib.Omega.{arith}
 use denote.Ref.{now}
 use borrow.Author.Needs.{needs}
-use Rattle.dir_laws.proofs.RecordSteps.{count-read, stale-read}
-use Rattle.dir_laws.proofs.SlotSearch.{slots-room, stale-within}
+use Rattle.dir_block_laws.proofs.RecordSteps.{count-read, stale-read}
+use Rattle.dir_block_laws.proofs.SlotSearch.{slots-room, stale-within}
 use Rattle.list.proofs.head.Statement.{statement}
 use Rattle.list.proofs.head.Tie as tie
 

@@ -1,7 +1,0 @@
--- What the search hands back, as the definition's record.
--- Assumes nothing.
-use Rattle.dir_rules.specs.Lookup.{Sought}
-use Rattle.dir_block.specs.declared.Hit as hit-type
-
-abbrev pub as-sought : hit-type.Hit → Sought
-as-sought r = record { hit = r .hit; place = r .place; at = r .at; compared = r .compared }

@@ -1,0 +1,11 @@
+use mathlib.Core.Path.{refl}
+use Rattle.dir_block_rules.specs.Verdict.{legal-type}
+use Rattle.dir_block_edit.proofs.type_legal.Statement.{statement}
+use Rattle.dir_block_edit.proofs.type_legal.Tie as tie
+
+returns : tie.Need-returns
+unfolding legal-type
+returns c = refl
+
+pub type-legal-spec : {M : Type 1} → statement M
+type-legal-spec = tie.close (tie.spec returns)

@@ -1,0 +1,477 @@
+// Insert and removal in a block directory.
+ghost use mathlib.Core.Path.{_≡_};
+ghost use mathlib.Core.Bool.{true, false, _&&_};
+ghost use Prim.Native.Nat.{_+_, _-_, _*_, _/_, _%_, _≤_, _<_};
+ghost use mathlib.Core.List.{_++_};
+ghost use lib.ListN.{length, replicate};
+ghost use Rattle.be.specs.Lists.{without-first, keep};
+ghost use Rattle.be.specs.Bytes.{byte, bytes, to-be, put, written};
+ghost use Rattle.edition.specs.Edition.{v4, entry-size, Sane};
+ghost use Rattle.name.specs.Name.{hash-of, legal-name, fixed-name};
+ghost use Rattle.dir_block_rules.specs.Record.{target, entry-bytes, gap-writes, gaps, size};
+ghost use Rattle.dir_block_rules.specs.Block.{records, data-end, count-of, stale-of, slots, slot, is-stale, is-live};
+ghost use Rattle.dir_block_rules.specs.Verdict.{legal-type, legal-target};
+ghost use Rattle.dir_block_rules.specs.Lookup.{sought};
+ghost use Rattle.dir_block_rules.specs.Room.{has-room, room, other-gaps, longest};
+ghost use Rattle.dir_block_rules.specs.Change.{gap-start-before, gap-end-after, changed, remove-writes, remove-code, remove-block, index-writes, insert-slot, entry-writes, insert-code, insert-block};
+ghost use Rattle.dir_block_laws.specs.Tiled.{Ready, Tiled};
+ghost use Rattle.dir_block_laws.specs.SlotPlaces.{Spot};
+ghost use Rattle.dir_block_laws.specs.Pass.{Entry-at, Inside, Scanned};
+ghost use Rattle.dir_block_scan.specs.Table.{table};
+ghost use Rattle.dir_block_edit.specs.Chosen.{chosen};
+ghost use Rattle.dir_block_edit.specs.Refusal.{asked-of};
+use dir_block_rules::Target;
+use edition::Edition;
+use edition::V4;
+
+// A gap of n bytes at o; nothing if n is 0.
+fn put_gap(b: &mut [u8], o: usize, n: usize)
+    requires { ⌜ (2 ≤ o) × (o + n + 4 ≤ length (now b)) ⌝ }
+    ensures { λ _. ⌜ now (b .exit) ≡ written (now (b .entry)) (gap-writes o n) ⌝ }
+{
+    if n == 0 {
+        return;
+    }
+    be::put16(b, o, 65535);
+    be::put16(b, o + 2, n);
+    be::put16(b, o + n - 2, o);
+}
+
+// Where the gap starts that ends at the entry's offset o; o if there is none.
+fn joined_start(e: Edition, b: &[u8], o: usize) -> usize
+    requires { ⌜ Sane e × Tiled e (now b) ⌝ }
+    requires { ⌜ Entry-at e (now b) o ⌝ }
+    ensures { λ r. ⌜ (r ≡ gap-start-before o (gaps (records e (now (b .entry))))) × ((r ≤ o) × (e .header ≤ r)) ⌝ }
+{
+    if o == e.header {
+        return o;
+    }
+    let p = be::be16(b, o - 2);
+    if be::be16(b, p) == 65535 {
+        return p;
+    }
+    o
+}
+
+// Where the gap ends that starts at u, where the entry at o ends; u if there is none.
+fn joined_end(e: Edition, b: &[u8], end: usize, o: usize, u: usize) -> usize
+    requires { ⌜ Sane e × Tiled e (now b) ⌝ }
+    requires { ⌜ Entry-at e (now b) o ⌝ }
+    requires { ⌜ (end ≡ data-end (now b)) × (u ≡ o + entry-size e (byte (o + 8) (now b))) ⌝ }
+    ensures { λ r. ⌜ (r ≡ gap-end-after u (gaps (records e (now (b .entry))))) × ((u ≤ r) × (r ≤ end)) ⌝ }
+{
+    if end <= u {
+        return u;
+    }
+    if be::be16(b, u) != 65535 {
+        return u;
+    }
+    let n = be::be16(b, u + 2);
+    u + n
+}
+
+// The entry at `at`, whose slot has the place given, and the gaps beside it become one gap; the slot goes stale.
+fn free_entry(e: Edition, b: &mut [u8], end: usize, place: usize, at: usize, name: &[u8])
+    requires { ⌜ Sane e × Ready e (now b) ⌝ }
+    requires { ⌜ end ≡ data-end (now b) ⌝ }
+    requires { ⌜ (sought e (now b) (now name) .hit ≡ true) × ((sought e (now b) (now name) .place ≡ place) × (sought e (now b) (now name) .at ≡ at)) ⌝ }
+    ensures { λ _. ⌜ now (b .exit) ≡ written (now (b .entry)) (remove-writes e (now (b .entry)) (now (name .entry))) ⌝ }
+{
+    let n = b.len();
+    let k = be::be8(&b[..], at + 8);
+    let m = at + edition::entry_size(e, k);
+    let o = joined_start(e, &b[..], at);
+    let u = joined_end(e, &b[..], end, at, m);
+    let s = be::be32(&b[..], n - 4);
+    put_gap(b, o, u - o);
+    be::put32(b, end + 8 * place + 4, 0);
+    be::put32(b, n - 4, s + 1);
+}
+
+// The removal of a name that was found.
+fn remove_found(e: Edition, b: &mut [u8], end: usize, place: usize, at: usize, name: &[u8])
+    requires { ⌜ Sane e × Ready e (now b) ⌝ }
+    requires { ⌜ end ≡ data-end (now b) ⌝ }
+    requires { ⌜ (sought e (now b) (now name) .hit ≡ true) × ((sought e (now b) (now name) .place ≡ place) × (sought e (now b) (now name) .at ≡ at)) ⌝ }
+    requires { ⌜ fixed-name (now name) ≡ false ⌝ }
+    ensures { λ _. ⌜ now (b .exit) ≡ changed e (now (b .entry)) (remove-writes e (now (b .entry)) (now (name .entry))) ⌝ }
+{
+    free_entry(e, b, end, place, at, name);
+    dir_block_scan::best_table(e, b);
+}
+
+// The removal of a legal name other than "." and "..": 0, or 13 if it is absent.
+pub fn remove_ready(e: Edition, b: &mut [u8], name: &[u8]) -> usize
+    requires { ⌜ Sane e × Ready e (now b) ⌝ }
+    requires { ⌜ (legal-name e (now name) ≡ true) × (fixed-name (now name) ≡ false) ⌝ }
+    ensures { λ r. ⌜ (r ≡ remove-code e (now (b .entry)) (now (name .entry))) × (now (b .exit) ≡ remove-block e (now (b .entry)) (now (name .entry))) ⌝ }
+{
+    let n = b.len();
+    let c = be::be32(&b[..], n - 8);
+    let end = n - 8 - 8 * c;
+    let f = dir_block_lookup::seek(e, &b[..], end, c, name);
+    let hit = f.hit;
+    if hit {
+        remove_found(e, b, end, f.place, f.at, name);
+        return 0;
+    }
+    13
+}
+
+// The file type, where the edition has one.
+fn put_kind(e: Edition, b: &mut [u8], o: usize, kind: usize)
+    requires { ⌜ Sane e × (o + e .ftype ≤ length (now b)) ⌝ }
+    ensures { λ _. ⌜ now (b .exit) ≡ put (now (b .entry)) o (to-be (e .ftype) kind) ⌝ }
+{
+    if e.ftype == 0 {
+        return;
+    }
+    be::put8(b, o, kind);
+}
+
+// What stands between an entry's name and its tag: the file type, and k zeros.
+fn put_pad(e: Edition, b: &mut [u8], o: usize, kind: usize, k: usize)
+    requires { ⌜ Sane e × (o + e .ftype + k ≤ length (now b)) ⌝ }
+    ensures { λ _. ⌜ now (b .exit) ≡ put (now (b .entry)) o (to-be (e .ftype) kind ++ replicate k 0) ⌝ }
+{
+    put_kind(e, b, o, kind);
+    be::zero(b, o + e.ftype, k);
+}
+
+// The bytes of an entry at offset o.
+fn put_entry(e: Edition, b: &mut [u8], o: usize, to: Target, name: &[u8])
+    requires { ⌜ Sane e ⌝ }
+    requires { ⌜ (length (now name) < 256) × (o + entry-size e (length (now name)) ≤ length (now b)) ⌝ }
+    ensures { λ _. ⌜ now (b .exit) ≡ put (now (b .entry)) o (entry-bytes e o to (now (name .entry))) ⌝ }
+{
+    let n = name.len();
+    let long = edition::entry_size(e, n);
+    be::put64(b, o, to.inode);
+    be::put8(b, o + 8, n);
+    be::copy_into(b, o + 9, name);
+    put_pad(e, b, o + 9 + n, to.kind, long - (11 + e.ftype + n));
+    be::put16(b, o + long - 2, o);
+}
+
+// The entry at the start of the free bytes from o up to u, and a gap of what is left of them.
+fn place(e: Edition, b: &mut [u8], o: usize, u: usize, to: Target, name: &[u8])
+    requires { ⌜ Sane e ⌝ }
+    requires { ⌜ (length (now name) < 256) × ((o + entry-size e (length (now name)) ≤ u) × (u + 4 ≤ length (now b))) ⌝ }
+    ensures { λ _. ⌜ now (b .exit) ≡ written (now (b .entry)) (entry-writes e to (now (name .entry)) o u) ⌝ }
+{
+    let end = o + edition::entry_size(e, name.len());
+    put_entry(e, b, o, to, name);
+    put_gap(b, end, u - end);
+}
+
+// (a): the longest gap, l bytes at o; the first stale slot's place is taken.
+fn insert_a(
+    e: Edition,
+    b: &mut [u8],
+    end: usize,
+    count: usize,
+    stale: usize,
+    p: usize,
+    o: usize,
+    l: usize,
+    h: usize,
+    to: Target,
+    name: &[u8],
+)
+    requires { ⌜ Sane e × Ready e (now b) ⌝ }
+    requires { ⌜ (end ≡ data-end (now b)) × ((count ≡ count-of (now b)) × ((stale ≡ stale-of (now b)) × (0 < stale))) ⌝ }
+    requires { ⌜ Spot (now b) h p ⌝ }
+    requires { ⌜ Inside e (now b) o l × ((length (now name) < 256) × (entry-size e (length (now name)) ≤ l)) ⌝ }
+    ensures { λ _. ⌜ now (b .exit) ≡ written (now (b .entry)) (entry-writes e to (now (name .entry)) o (o + l) ++ index-writes (length (now (b .entry))) (insert-slot (slot h (o / 8)) (without-first is-stale (slots (now (b .entry))))) (stale - 1)) ⌝ }
+{
+    dir_block_index::reuse(e, b, end, count, stale, p, h, o / 8);
+    place(e, b, o, o + l, to, name);
+}
+
+// (c): the longest gap other than T, l bytes at o; T, k bytes at u, gives 8 bytes off its end to the index.
+fn insert_c(
+    e: Edition,
+    b: &mut [u8],
+    end: usize,
+    count: usize,
+    p: usize,
+    o: usize,
+    l: usize,
+    u: usize,
+    k: usize,
+    h: usize,
+    to: Target,
+    name: &[u8],
+)
+    requires { ⌜ Sane e × Ready e (now b) ⌝ }
+    requires { ⌜ (end ≡ data-end (now b)) × (count ≡ count-of (now b)) ⌝ }
+    requires { ⌜ Spot (now b) h p ⌝ }
+    requires { ⌜ Inside e (now b) o l × ((length (now name) < 256) × (entry-size e (length (now name)) ≤ l)) ⌝ }
+    requires { ⌜ (o + l ≤ u) × ((u + k ≡ end) × ((8 ≤ k) × (k % 8 ≡ 0))) ⌝ }
+    ensures { λ _. ⌜ now (b .exit) ≡ written (now (b .entry)) (entry-writes e to (now (name .entry)) o (o + l) ++ (gap-writes u (k - 8) ++ index-writes (length (now (b .entry))) (insert-slot (slot h (o / 8)) (slots (now (b .entry)))) 0)) ⌝ }
+{
+    dir_block_index::grow(e, b, end, count, p, h, o / 8);
+    place(e, b, o, o + l, to, name);
+    put_gap(b, u, k - 8);
+}
+
+// (d): T, k bytes at u, with 8 bytes off its end.
+fn insert_d(
+    e: Edition,
+    b: &mut [u8],
+    end: usize,
+    count: usize,
+    p: usize,
+    u: usize,
+    k: usize,
+    h: usize,
+    to: Target,
+    name: &[u8],
+)
+    requires { ⌜ Sane e × Ready e (now b) ⌝ }
+    requires { ⌜ (end ≡ data-end (now b)) × (count ≡ count-of (now b)) ⌝ }
+    requires { ⌜ Spot (now b) h p ⌝ }
+    requires { ⌜ (length (now name) < 256) × (entry-size e (length (now name)) + 8 ≤ k) ⌝ }
+    requires { ⌜ (e .header ≤ u) × ((u + k ≡ end) × (k % 8 ≡ 0)) ⌝ }
+    ensures { λ _. ⌜ now (b .exit) ≡ written (now (b .entry)) (entry-writes e to (now (name .entry)) u (u + k - 8) ++ index-writes (length (now (b .entry))) (insert-slot (slot h (u / 8)) (slots (now (b .entry)))) 0) ⌝ }
+{
+    dir_block_index::grow(e, b, end, count, p, h, u / 8);
+    place(e, b, u, u + k - 8, to, name);
+}
+
+// (b): T, k bytes at u, grown over the stale slots that are not needed; all stale slots are dropped.
+fn insert_b(
+    e: Edition,
+    b: &mut [u8],
+    end: usize,
+    count: usize,
+    stale: usize,
+    p: usize,
+    u: usize,
+    k: usize,
+    h: usize,
+    to: Target,
+    name: &[u8],
+)
+    requires { ⌜ Sane e × Ready e (now b) ⌝ }
+    requires { ⌜ (end ≡ data-end (now b)) × ((count ≡ count-of (now b)) × ((stale ≡ stale-of (now b)) × (0 < stale))) ⌝ }
+    requires { ⌜ Spot (now b) h p ⌝ }
+    requires { ⌜ (length (now name) < 256) × (entry-size e (length (now name)) ≤ k + 8 * (stale - 1)) ⌝ }
+    requires { ⌜ (e .header ≤ u) × ((u + k ≡ end) × (k % 8 ≡ 0)) ⌝ }
+    ensures { λ _. ⌜ now (b .exit) ≡ written (now (b .entry)) (entry-writes e to (now (name .entry)) u (u + k + 8 * (stale - 1)) ++ index-writes (length (now (b .entry))) (insert-slot (slot h (u / 8)) (keep is-live (slots (now (b .entry))))) 0) ⌝ }
+{
+    dir_block_index::squeeze(e, b, end, count, stale, p, h, u / 8);
+    place(e, b, u, u + k + 8 * (stale - 1), to, name);
+}
+
+// (c) or (d), without stale slots: l bytes at o are the longest gap other than T.
+fn choose_cd(
+    e: Edition,
+    b: &mut [u8],
+    end: usize,
+    count: usize,
+    p: usize,
+    g: dir_block_scan::Scan,
+    o: usize,
+    l: usize,
+    h: usize,
+    need: usize,
+    to: Target,
+    name: &[u8],
+) -> bool
+    requires { ⌜ Sane e × Ready e (now b) ⌝ }
+    requires { ⌜ (end ≡ data-end (now b)) × ((count ≡ count-of (now b)) × (0 ≡ stale-of (now b))) ⌝ }
+    requires { ⌜ Spot (now b) h p ⌝ }
+    requires { ⌜ Scanned e (now b) (table g) (g .tat) (g .tlen) ⌝ }
+    requires { ⌜ (longest (other-gaps (room e (now b) (now name))) .off ≡ o) × (size (longest (other-gaps (room e (now b) (now name)))) ≡ l) ⌝ }
+    requires { ⌜ (h ≡ hash-of e (now name)) × ((need ≡ entry-size e (length (now name))) × (length (now name) < 256)) ⌝ }
+    ensures { λ r. ⌜ (r ≡ has-room e (now (b .entry)) (now (name .entry))) × (now (b .exit) ≡ chosen e r (now (b .entry)) (now (name .entry)) to) ⌝ }
+{
+    let u = g.tat;
+    let k = g.tlen;
+    if k < 8 {
+        return false;
+    }
+    if need <= l {
+        insert_c(e, b, end, count, p, o, l, u, k, h, to, name);
+        return true;
+    }
+    if need + 8 <= k {
+        insert_d(e, b, end, count, p, u, k, h, to, name);
+        return true;
+    }
+    false
+}
+
+// (a) or (b), with stale slots.
+fn choose_ab(
+    e: Edition,
+    b: &mut [u8],
+    end: usize,
+    count: usize,
+    stale: usize,
+    p: usize,
+    g: dir_block_scan::Scan,
+    h: usize,
+    need: usize,
+    to: Target,
+    name: &[u8],
+) -> bool
+    requires { ⌜ Sane e × Ready e (now b) ⌝ }
+    requires { ⌜ (end ≡ data-end (now b)) × ((count ≡ count-of (now b)) × ((stale ≡ stale-of (now b)) × (0 < stale))) ⌝ }
+    requires { ⌜ Spot (now b) h p ⌝ }
+    requires { ⌜ Scanned e (now b) (table g) (g .tat) (g .tlen) ⌝ }
+    requires { ⌜ (h ≡ hash-of e (now name)) × ((need ≡ entry-size e (length (now name))) × (length (now name) < 256)) ⌝ }
+    ensures { λ r. ⌜ (r ≡ has-room e (now (b .entry)) (now (name .entry))) × (now (b .exit) ≡ chosen e r (now (b .entry)) (now (name .entry)) to) ⌝ }
+{
+    let o = g.o1;
+    let l = g.l1;
+    let u = g.tat;
+    let k = g.tlen;
+    if need <= l {
+        insert_a(e, b, end, count, stale, p, o, l, h, to, name);
+        return true;
+    }
+    if need <= k + 8 * (stale - 1) {
+        insert_b(e, b, end, count, stale, p, u, k, h, to, name);
+        return true;
+    }
+    false
+}
+
+// The room rule: an entry and its slot are put in, if there is room.
+fn choose(
+    e: Edition,
+    b: &mut [u8],
+    end: usize,
+    count: usize,
+    stale: usize,
+    to: Target,
+    name: &[u8],
+) -> bool
+    requires { ⌜ Sane e × Ready e (now b) ⌝ }
+    requires { ⌜ (end ≡ data-end (now b)) × ((count ≡ count-of (now b)) × (stale ≡ stale-of (now b))) ⌝ }
+    requires { ⌜ length (now name) < 256 ⌝ }
+    ensures { λ r. ⌜ (r ≡ has-room e (now (b .entry)) (now (name .entry))) × (now (b .exit) ≡ chosen e r (now (b .entry)) (now (name .entry)) to) ⌝ }
+{
+    let g = dir_block_scan::pass(e, &b[..], end);
+    let need = edition::entry_size(e, name.len());
+    let h = name::hash(e, name);
+    let p = dir_block_index::spot(e, &b[..], end, count, h);
+    if 0 < stale {
+        return choose_ab(e, b, end, count, stale, p, g, h, need, to, name);
+    }
+    if g.o1 == g.tat {
+        return choose_cd(e, b, end, count, p, g, g.o2, g.l2, h, need, to, name);
+    }
+    choose_cd(e, b, end, count, p, g, g.o1, g.l1, h, need, to, name)
+}
+
+// The insert of a legal name other than "." and "..", with a legal number and type: 0, or 14 if it is there, or 15 if there is no room.
+pub fn insert_ready(e: Edition, b: &mut [u8], to: Target, name: &[u8]) -> usize
+    requires { ⌜ Sane e × Ready e (now b) ⌝ }
+    requires { ⌜ (legal-name e (now name) ≡ true) × ((legal-target e to ≡ true) × ((fixed-name (now name) ≡ false) × (bytes (now name) ≡ true))) ⌝ }
+    ensures { λ r. ⌜ (r ≡ insert-code e (now (b .entry)) (now (name .entry)) to) × (now (b .exit) ≡ insert-block e (now (b .entry)) (now (name .entry)) to) ⌝ }
+{
+    let n = b.len();
+    let c = be::be32(&b[..], n - 8);
+    let s = be::be32(&b[..], n - 4);
+    let end = n - 8 - 8 * c;
+    let f = dir_block_lookup::seek(e, &b[..], end, c, name);
+    let hit = f.hit;
+    if hit {
+        return 14;
+    }
+    let room = choose(e, b, end, c, s, to, name);
+    if room {
+        dir_block_scan::best_table(e, b);
+        return 0;
+    }
+    15
+}
+
+// The refusals of a request that need no search: 11 if the name is not legal or number is false, 12; 0 if there is none.
+fn request(e: Edition, name: &[u8], number: bool) -> usize
+    requires { ⌜ Sane e ⌝ }
+    ensures { λ r. ⌜ r ≡ asked-of (legal-name e (now (name .entry)) && number) (fixed-name (now (name .entry))) 0 ⌝ }
+{
+    if !name::legal(e, name) {
+        return 11;
+    }
+    if !number {
+        return 11;
+    }
+    if name::fixed(name) {
+        return 12;
+    }
+    0
+}
+
+// Whether a file type is legal: 1 to 8 where the edition has one, else any.
+fn type_legal(e: Edition, kind: usize) -> bool
+    ensures { λ r. ⌜ r ≡ legal-type e kind ⌝ }
+{
+    (e.ftype == 0) | ((1 <= kind) & (kind <= 8))
+}
+
+// Whether an asked number and file type are legal.
+fn target_legal(e: Edition, to: Target) -> bool
+    ensures { λ r. ⌜ r ≡ legal-target e to ⌝ }
+{
+    name::number_legal(to.inode) & type_legal(e, to.kind)
+}
+
+// Insert in a block of an edition: 0, or the number of the refusal. The block is tested first, then the request is judged.
+pub fn insert_in(e: Edition, b: &mut [u8], name: &[u8], to: Target) -> usize
+    requires { ⌜ Sane e ⌝ }
+    ensures { λ r. ⌜ (r ≡ insert-code e (now (b .entry)) (now (name .entry)) to) × (now (b .exit) ≡ insert-block e (now (b .entry)) (now (name .entry)) to) ⌝ }
+{
+    let t = dir_block_test::code(e, &b[..]);
+    if t != 0 {
+        return t;
+    }
+    let legal = target_legal(e, to);
+    let refused = request(e, name, legal);
+    if refused != 0 {
+        return refused;
+    }
+    insert_ready(e, b, to, name)
+}
+
+// Removal in a block of an edition.
+pub fn remove_in(e: Edition, b: &mut [u8], name: &[u8]) -> usize
+    requires { ⌜ Sane e ⌝ }
+    ensures { λ r. ⌜ (r ≡ remove-code e (now (b .entry)) (now (name .entry))) × (now (b .exit) ≡ remove-block e (now (b .entry)) (now (name .entry))) ⌝ }
+{
+    let k = dir_block_test::code(e, &b[..]);
+    if k != 0 {
+        return k;
+    }
+    let refused = request(e, name, true);
+    if refused != 0 {
+        return refused;
+    }
+    remove_ready(e, b, name)
+}
+
+// Insert in a block of the V4 edition: 0, or the number of the refusal.
+pub fn insert(b: &mut [u8], name: &[u8], number: u64) -> usize
+    ensures { λ r. ⌜ (r ≡ insert-code v4 (now (b .entry)) (now (name .entry)) (target number 0)) × (now (b .exit) ≡ insert-block v4 (now (b .entry)) (now (name .entry)) (target number 0)) ⌝ }
+{
+    insert_in(
+        V4::edition(),
+        b,
+        name,
+        Target {
+            inode: number,
+            kind: 0,
+        },
+    )
+}
+
+// Removal in a block of the V4 edition.
+pub fn remove(b: &mut [u8], name: &[u8]) -> usize
+    ensures { λ r. ⌜ (r ≡ remove-code v4 (now (b .entry)) (now (name .entry))) × (now (b .exit) ≡ remove-block v4 (now (b .entry)) (now (name .entry))) ⌝ }
+{
+    remove_in(V4::edition(), b, name)
+}

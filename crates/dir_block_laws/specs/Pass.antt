@@ -1,0 +1,71 @@
+-- A pass over the records of a block, in its midst and at its end.
+-- Assumes nothing.
+use Prim.Native.Nat.{ℕ, _+_, _%_, _≤_, _<_}
+use mathlib.Core.Path.{_≡_}
+use mathlib.Core.Bool.{false}
+use mathlib.Core.List.{List, _++_, _∷_}
+use lib.ListN.{length}
+use Rattle.edition.specs.declared.Edition.{Edition}
+use Rattle.dir_block_rules.specs.Record.{Rec, size, gaps, is-gap}
+use Rattle.dir_block_rules.specs.Block.{records, data-end}
+use Rattle.dir_block_rules.specs.Verdict.{Pair}
+use Rattle.dir_block_rules.specs.declared.Step.{Step}
+use Rattle.dir_block_rules.specs.declared.Walked.the-variants.{Stepped}
+use Rattle.dir_block_rules.specs.Walk.{is-place, walk-step, seen-start, seen-len}
+use Rattle.dir_block_rules.specs.Room.{touching}
+use Rattle.dir_block_rules.specs.Change.{best-of}
+use Rattle.dir_block_rules.proofs.CutJoin.{join}
+
+-- at offset o: the table of the gaps passed is ps, and the gap that ends at o starts at u and is k long (none: u is o, and k is 0)
+pub record Passing (e : Edition) (b : List ℕ) (o : ℕ) (ps : List Pair) (u k : ℕ) : Type 0 where
+  pub before : List Rec
+  pub behind : List Rec
+  pub all : records e b ≡ before ++ behind
+  pub place : e .header + length (join before) ≡ o
+  pub best : best-of 3 (gaps before) ≡ ps
+  pub touch-off : touching o before .off ≡ u
+  pub touch-size : size (touching o before) ≡ k
+  pub touch-end : u + k ≡ o
+  pub touch-from : e .header ≤ u
+  pub touch-mod : k % 8 ≡ 0
+
+-- what the pass shows: the three longest gaps, and T
+pub record Scanned (e : Edition) (b : List ℕ) (ps : List Pair) (u k : ℕ) : Type 0 where
+  pub best : best-of 3 (gaps (records e b)) ≡ ps
+  pub touch-off : touching (data-end b) (records e b) .off ≡ u
+  pub touch-size : size (touching (data-end b) (records e b)) ≡ k
+  pub touch-end : u + k ≡ data-end b
+  pub touch-from : e .header ≤ u
+  pub touch-mod : k % 8 ≡ 0
+
+-- an entry stands at offset o
+pub record Entry-at (e : Edition) (b : List ℕ) (o : ℕ) : Type 0 where
+  pub before : List Rec
+  pub entry : Rec
+  pub behind : List Rec
+  pub all : records e b ≡ before ++ (entry ∷ behind)
+  pub place : e .header + length (join before) ≡ o
+  pub no-gap : is-gap entry ≡ false
+
+-- l bytes at o lie in the data
+pub record Inside (e : Edition) (b : List ℕ) (o l : ℕ) : Type 0 where
+  pub from : e .header ≤ o
+  pub upto : o + l ≤ data-end b
+  pub eights : l % 8 ≡ 0
+
+-- a record starts at p, or the data ends there
+pub record Place (e : Edition) (b : List ℕ) (p : ℕ) : Type 0 where
+  pub before : List Rec
+  pub behind : List Rec
+  pub all : records e b ≡ before ++ behind
+  pub place : e .header + length (join before) ≡ p
+
+-- the step r from place p: what it says, and where it leads; no place lies between
+pub record Steps (e : Edition) (b : List ℕ) (p : ℕ) (r : Step) : Type 0 where
+  pub says : Stepped r ≡ walk-step e b p
+  pub leads : Place e b (r .next)
+  pub on : p < data-end b → p < r .next
+  pub within : r .next ≤ data-end b
+  pub none-within : (q : ℕ) → p < q → q < r .next → is-place q (data-end b) (records e b) ≡ false
+  pub name-fits : seen-start (r .seen) + seen-len (r .seen) ≤ length b
+  pub name-short : seen-len (r .seen) < 256

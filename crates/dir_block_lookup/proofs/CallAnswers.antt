@@ -1,0 +1,42 @@
+-- What a lookup and a walk step answer, test by test.
+-- Assumes nothing.
+use Prim.Native.Nat.{ℕ}
+use mathlib.Core.Bool.{true, false}
+use mathlib.Core.Path.{_≡_, refl}
+use mathlib.Core.List.{List}
+use borrow.Author.Tests.{ne-eqb}
+use Rattle.edition.specs.declared.Edition.{Edition}
+use Rattle.name.specs.Name.{legal-name}
+use Rattle.dir_block_rules.specs.declared.Looked.the-variants.{Found, Absent, Refused}
+use Rattle.dir_block_rules.specs.declared.Walked.the-variants.{Refused as Walked-refused}
+use Rattle.dir_block_rules.specs.Block.{records, data-end}
+use Rattle.dir_block_rules.specs.Verdict.{verdict, Accepted}
+use Rattle.dir_block_rules.specs.Lookup.{Sought, sought, number-at, lookup, lookup-refusal}
+use Rattle.dir_block_rules.specs.Walk.{is-place, walk-step, step-code}
+
+module _ (e : Edition) (b n : List ℕ) where
+  pub lookup-block : (verdict e b ≡ 0 → ⊥) → Refused (verdict e b) ≡ lookup e b n
+  unfolding lookup lookup-refusal
+  lookup-block h = rw (ne-eqb (verdict e b) 0 h, ne-eqb (verdict e b) 0 h) refl
+
+  pub lookup-asked : Accepted e b → legal-name e n ≡ false → Refused 11 ≡ lookup e b n
+  unfolding lookup lookup-refusal
+  lookup-asked a l = rw (a, l) refl
+
+  module _ (a : Accepted e b) (l : legal-name e n ≡ true) (s : Sought) (q : sought e b n ≡ s) where
+    pub lookup-found : s .hit ≡ true → (i : ℕ) → i ≡ number-at b (s .at) → Found i (s .compared) ≡ lookup e b n
+    unfolding lookup lookup-refusal
+    lookup-found h i is = rw (a, l, q, h, is) refl
+
+    pub lookup-absent : s .hit ≡ false → Absent (s .compared) ≡ lookup e b n
+    unfolding lookup lookup-refusal
+    lookup-absent h = rw (a, l, q, h) refl
+
+module _ (e : Edition) (b : List ℕ) (p : ℕ) where
+  pub step-block : (verdict e b ≡ 0 → ⊥) → Walked-refused (verdict e b) ≡ walk-step e b p
+  unfolding walk-step step-code
+  step-block h = rw (ne-eqb (verdict e b) 0 h, ne-eqb (verdict e b) 0 h) refl
+
+  pub step-asked : Accepted e b → is-place p (data-end b) (records e b) ≡ false → Walked-refused 11 ≡ walk-step e b p
+  unfolding walk-step step-code
+  step-asked a l = rw (a, l) refl

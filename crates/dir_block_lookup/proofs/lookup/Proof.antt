@@ -1,0 +1,20 @@
+use mathlib.Core.Path.{_≡_, _∙_, ap}
+use mathlib.Core.List.{List}
+use Prim.Native.Nat.{ℕ}
+use borrow.Author.Needs.{needs}
+use Rattle.edition.specs.declared.Edition.{Edition}
+use Rattle.edition.specs.Edition.{v4}
+use Rattle.dir_block_rules.specs.declared.Looked.{Looked}
+use Rattle.dir_block_rules.specs.Lookup.{lookup, lookup-code, looked-code}
+use Rattle.dir_block_rules.proofs.LookupRight.{lookup-is}
+use Rattle.dir_block_lookup.proofs.lookup.Statement.{statement}
+use Rattle.dir_block_lookup.proofs.lookup.Tie as tie
+
+-- of the edition that was made
+made : {e : Edition} {r : Looked} (b n : List ℕ) → r ≡ lookup e b n → e ≡ v4 → (r ≡ lookup v4 b n) × (looked-code r ≡ lookup-code v4 b n)
+made b n h q = let k = rw q at h in (k, ap looked-code k ∙ lookup-is v4 b n)
+
+pub lookup-spec : {M : Type 1} → statement M
+lookup-spec =
+    tie.close
+    (tie.spec (λ c κs. search needs) (λ c κs. search needs) (λ c. made _ _ (c .lookup-in .ensures) (c .before .edition .ensures .0)))

@@ -1,0 +1,34 @@
+use native.Mathlib.Omega.{arith}
+use mathlib.Core.Path.{_∙_, ap}
+use denote.Ref.{now}
+use borrow.Author.Needs.{needs}
+use Rattle.dir_block_rules.specs.Lookup.{Sought}
+use Rattle.dir_block_laws.proofs.RecordSteps.{count-read, end-read}
+use Rattle.dir_block_laws.proofs.SlotSearch.{slots-room}
+use Rattle.dir_block_laws.proofs.GapsBeside.{found-room}
+use Rattle.dir_block_lookup.proofs.CallAnswers.{lookup-found, lookup-absent}
+use Rattle.dir_block_lookup.proofs.lookup_ready.Statement.{statement}
+use Rattle.dir_block_lookup.proofs.lookup_ready.Tie as tie
+
+be64-requires : tie.Need-be64-requires
+be64-requires c κs =
+    let a = c .before .before .before .before .before .args in
+    let q = c .before .before .before .before .before .pre in
+    let s = c .before .seek .ensures in
+    omega (arith, found-room _ (q .0 .0) (now (a .b)) (now (a .name)) _ _ _ (q .0 .1) (ap (λ (x : Sought). x .hit) s ∙ c .if1 .taken) (ap (λ (x : Sought). x .place) s) (ap (λ (x : Sought). x .at) s) (end-read (now (a .b)) _ (count-read (now (a .b)) _ (c .before .before .be32 .ensures .0))), slots-room _ (now (a .b)) (q .0 .0) (q .0 .1))
+
+pub lookup-ready-spec : {M : Type 1} → statement M
+lookup-ready-spec =
+    tie.close
+    (tie.spec
+    (λ c. omega (arith, slots-room _ (now (c .before .before .args .b)) (c .before .before .pre .0 .0) (c .before .before .pre .0 .1)))
+    (λ c κs. omega (arith, slots-room _ (now (c .before .before .args .b)) (c .before .before .pre .0 .0) (c .before .before .pre .0 .1)))
+    (λ c. omega (arith, slots-room _ (now (c .before .before .before .args .b)) (c .before .before .before .pre .0 .0) (c .before .before .before .pre .0 .1)))
+    (λ c. search needs)
+    (λ c. omega (arith, slots-room _ (now (c .before .before .before .args .b)) (c .before .before .before .pre .0 .0) (c .before .before .before .pre .0 .1), count-read (now (c .before .before .before .args .b)) _ (c .be32 .ensures .0)))
+    (λ c κs.
+    let c₃ = c .before .before .before in
+    (c₃ .pre .0, (end-read (now (c₃ .args .b)) _ (count-read (now (c₃ .args .b)) _ (c .be32 .ensures .0)), count-read (now (c₃ .args .b)) _ (c .be32 .ensures .0))))
+    be64-requires
+    (λ c. lookup-found _ _ _ (c .before .before .before .before .before .before .pre .0 .1 .ok) (c .before .before .before .before .before .before .pre .1) _ (c .before .before .seek .ensures) (c .before .if1 .taken) _ (c .be64 .ensures))
+    (λ c. lookup-absent _ _ _ (c .before .before .before .before .before .pre .0 .1 .ok) (c .before .before .before .before .before .pre .1) _ (c .before .seek .ensures) (c .if1 .left)))

@@ -1,0 +1,40 @@
+-- Every change writes the best-gap table anew.
+-- Assumes nothing.
+use Prim.Native.Nat.{ℕ}
+use mathlib.Core.Bool.{true, false}
+use mathlib.Core.Path.{_≡_, refl, ap}
+use lib.Dec.{eqb}
+use borrow.Author.Tests.{eqb-true}
+use Rattle.be.proofs.Bools.{by-cases, clash}
+use Rattle.edition.specs.declared.Edition.{Edition}
+use Rattle.edition.specs.Edition.{v4, Sane}
+use Rattle.edition.proofs.Sizes.{v4-sane}
+use Rattle.dir_block_rules.specs.declared.Looked.{Looked}
+use Rattle.dir_block_rules.specs.Record.{gaps}
+use Rattle.dir_block_rules.specs.Block.{records}
+use Rattle.dir_block_rules.specs.Verdict.{best-pairs}
+use Rattle.dir_block_rules.specs.Lookup.{lookup, sought, kind-at, looked-code}
+use Rattle.dir_block_rules.specs.Change.{best-table, insert-code, remove-code}
+use Rattle.dir_block_rules.specs.Calls.{Call, look-up, insert, remove, done, found-or, done-or, reply, after}
+use Rattle.dir_block_rules.specs.Book.{is-done}
+use Rattle.dir_block_rules.specs.Demand.{call-bytes}
+use Rattle.dir_block_rules.specs.Claims.{Best-right}
+use Rattle.dir_block_rules.proofs.EachCall.{refused-not-done, insert-done, remove-done}
+
+found-not-done : (k : ℕ) (a : Looked) → is-done (found-or k a) ≡ false
+found-not-done k a = by-cases (eqb (looked-code a) 0) (λ z. rw z refl) (λ z. rw z refl)
+
+done-is-0 : (k : ℕ) → done-or k ≡ done → k ≡ 0
+done-is-0 k q = by-cases (eqb k 0) (λ z. eqb-true k 0 z) (λ z. absurd (clash (ap is-done q) (refused-not-done k z)))
+
+pub best-right : (e : Edition) → Sane e → Best-right e
+unfolding Best-right reply after
+best-right e sane b c h a q d = anew c q d
+  where
+    anew : (c : Call) → call-bytes c ≡ true → reply e b c ≡ done → best-pairs e (after e b c) ≡ best-table (gaps (records e (after e b c)))
+    anew (look-up n) q d = absurd (clash (ap is-done d) (found-not-done (kind-at e b (sought e b n .at)) (lookup e b n)))
+    anew (insert n i) q d = insert-done e sane b h a n i q (done-is-0 (insert-code e b n i) d) .best-is
+    anew (remove n) q d = remove-done e sane b h a n (done-is-0 (remove-code e b n) d) .best-is
+
+pub v4-best-right : Best-right v4
+v4-best-right = best-right v4 v4-sane

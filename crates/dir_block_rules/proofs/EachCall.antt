@@ -1,0 +1,287 @@
+-- One call on an accepted block is right: its answer is the book's, and so is what it leaves.
+-- Assumes nothing.
+use Prim.Native.Nat.{ℕ, _+_, _^_, _≤_, _<_}
+use native.Mathlib.Omega.{arith}
+use native.Mathlib.Nat.{le-refl, le-trans}
+use mathlib.Core.Bool.{Bool, true, false, not, _&&_, cond, false≢true, Bool·beq}
+use mathlib.Core.Path.{_≡_, refl, sym, _∙_, ap, ap₂, subst}
+use mathlib.Core.List.{List, _∷_}
+use lib.Dec.{eqb, leb}
+use lib.ListN.{length}
+use borrow.Author.Tests.{eqb-true, not-true, leb-true, le-leb, leb-false}
+use Rattle.be.specs.Codes.{otherwise}
+use Rattle.be.proofs.Codes.{passes}
+use Rattle.name.proofs.Legality.{legal-bounds, number-bounds}
+use Rattle.edition.proofs.Sizes.{entry-size-mono}
+use Rattle.be.specs.Lists.{every, some-of, same, without-first}
+use Rattle.be.specs.Bytes.{bytes}
+use Rattle.edition.specs.declared.Edition.{Edition}
+use Rattle.edition.specs.Edition.{entry-size, Sane}
+use Rattle.name.specs.Name.{legal-name, legal-number, fixed-name, same-name, dot, dotdot}
+use Rattle.dir_block_rules.specs.declared.Target.{Target}
+use Rattle.dir_block_rules.specs.Record.{target, kept-of, Rec, size, entries, gaps, name}
+use Rattle.dir_block_rules.specs.Block.{records, stale-of}
+use Rattle.dir_block_rules.specs.Verdict.{Accepted, legal-target, names-ok, name-ok, entry-at}
+use Rattle.dir_block_rules.specs.Lookup.{lookup, lookup-refusal, sought, number-at, kind-at}
+use Rattle.dir_block_rules.specs.Room.{some-stale, room, longest, has-room}
+use Rattle.dir_block_rules.specs.Change.{insert-writes, insert-code, insert-block, remove-writes, remove-code, remove-block}
+use Rattle.dir_block_rules.specs.Calls.{done-or, Call, look-up, insert, remove, found, done, refuse, reply, after, call-name}
+use Rattle.dir_block_rules.specs.Book.{first-of, held, Book, book-of, named, holds, aim-of, SameBook, book-reply, book-after, entered, is-done}
+use Rattle.dir_block_rules.specs.Demand.{Reuse, Call-right, call-bytes}
+use Rattle.be.proofs.Bools.{and-left, and-right, by-cases, clash}
+use Rattle.dir_block_rules.proofs.RecordPlaces.{Split, some-split, some-at, every-at}
+use Rattle.name.proofs.Same.{same-eq, same-name-refl}
+use Rattle.dir_block_rules.proofs.BestTable.{longest-every}
+use Rattle.dir_block_rules.proofs.AcceptedParts.{good-of}
+use Rattle.dir_block_rules.proofs.PartsAddUp.{adds-up}
+use Rattle.dir_block_rules.proofs.BooksAgree.{holds-same, holds-entries, first-named, First-named, first-is, book-inserted, book-removed}
+use Rattle.dir_block_rules.proofs.InsertFree.{Asked}
+use Rattle.dir_block_rules.proofs.InsertCases.{Inserted, insert-any}
+use Rattle.dir_block_rules.proofs.LookupFinds.{Removed, hit-of, spot, spot-name, target-found, removed-of}
+use Rattle.dir_block_rules.proofs.StaysBytes.{bytes-changed, all-insert, all-remove}
+use Rattle.dir_block_rules.proofs.EveryList.{Steps}
+
+pub number-lt : (i : ℕ) → legal-number i ≡ true → i < 2 ^ 56
+number-lt i h = number-bounds i h .1
+
+pub name-lt : (e : Edition) (n : List ℕ) → legal-name e n ≡ true → length n < 256
+name-lt e n h = omega (arith, legal-bounds e n h)
+
+-- the order of the tests is the same on both sides
+insert-chain : (l f h r : Bool) → done-or (otherwise l 11 (otherwise f 12 (otherwise h 14 (otherwise r 15 0))))
+    ≡ first-of l (refuse 11) (first-of f (refuse 12) (first-of h (refuse 14) (first-of r (refuse 15) done)))
+insert-chain false f h r = refl
+insert-chain true false h r = refl
+insert-chain true true false r = refl
+insert-chain true true true false = refl
+insert-chain true true true true = refl
+
+remove-chain : (l f h : Bool) → done-or (otherwise l 11 (otherwise f 12 (otherwise h 13 0)))
+    ≡ first-of l (refuse 11) (first-of f (refuse 12) (first-of h (refuse 13) done))
+remove-chain false f h = refl
+remove-chain true false h = refl
+remove-chain true true false = refl
+remove-chain true true true = refl
+
+keeps : {A : Type 0} (t : Bool) (x : A) → cond t x x ≡ x
+keeps true x = refl
+keeps false x = refl
+
+pub refused-not-done : (k : ℕ) → eqb k 0 ≡ false → is-done (done-or k) ≡ false
+refused-not-done k h = rw h refl
+
+-- the longest gap is at least as long as any
+pub longest-least : (gs : List Rec) (t : Split gs) (n : ℕ) → n ≤ size (t .here) → n ≤ size (longest gs)
+longest-least gs t n h =
+    by-cases (leb n (size (longest gs))) (λ q. leb-true n (size (longest gs)) q)
+    (λ q. let l : size (longest gs) < n = leb-false n (size (longest gs)) q in
+    let e : every (λ r. leb (size r) (size (longest gs))) gs ≡ true = longest-every gs (size (longest gs)) (le-refl (size (longest gs))) in
+    let m : leb (size (t .here)) (size (longest gs)) ≡ true =
+    every-at (λ r. leb (size r) (size (longest gs))) (t .before) (t .here) (t .behind) (subst (λ (z : List Rec). every (λ r. leb (size r) (size (longest gs))) z ≡ true) (t .is) e) in
+    absurd (omega (arith, leb-true (size (t .here)) (size (longest gs)) m)))
+
+module _ (e : Edition) (sane : Sane e) (b : List ℕ) (h : bytes b ≡ true) (a : Accepted e b) where
+  -- what the search finds is what the book holds
+  hit-holds : (k : Book) → SameBook (book-of e b) k → (n : List ℕ) → sought e b n .hit ≡ holds e n k
+  hit-holds k m n = hit-of e sane b h a n ∙ sym (holds-entries e n b) ∙ holds-same e n (book-of e b) k m
+
+  -- lookup
+  lookup-hit : (k : Book) → SameBook (book-of e b) k → (n : List ℕ) → sought e b n .hit ≡ true → target (number-at b (sought e b n .at)) (kind-at e b (sought e b n .at)) ≡ aim-of e n k
+  lookup-hit k m n q =
+      let f : First-named e n k = first-named e n k (sym (hit-holds k m n) ∙ q) in
+      target-found e sane b h a n q
+      ∙ sym (f .aim-is ∙ first-is e b n k m (good-of e sane b h a .once) (spot e sane b h a n q) (spot-name e sane b h a n q) f .1)
+
+  lookup-reply : (k : Book) → SameBook (book-of e b) k → (n : List ℕ) (r : Bool) → reply e b (look-up n) ≡ book-reply e k r (look-up n)
+  unfolding reply lookup lookup-refusal book-reply
+  lookup-reply k m n r =
+      by-cases (legal-name e n)
+      (λ l. by-cases (sought e b n .hit)
+      (λ q. rw (a, l, q, sym (hit-holds k m n) ∙ q) (ap found (lookup-hit k m n q)))
+      (λ q. rw (a, l, q, sym (hit-holds k m n) ∙ q) refl))
+      (λ l. rw (a, l) refl)
+
+  pub insert-code-is : (n : List ℕ) (i : Target) → insert-code e b n i
+      ≡ otherwise (legal-name e n && legal-target e i) 11 (otherwise (not (fixed-name n)) 12 (otherwise (not (sought e b n .hit)) 14 (otherwise (has-room e b n) 15 0)))
+  unfolding insert-code
+  insert-code-is n i = rw a refl
+
+  pub remove-code-is : (n : List ℕ) → remove-code e b n ≡ otherwise (legal-name e n) 11 (otherwise (not (fixed-name n)) 12 (otherwise (sought e b n .hit) 13 0))
+  unfolding remove-code
+  remove-code-is n = rw a refl
+
+  insert-reply : (k : Book) → SameBook (book-of e b) k → (n : List ℕ) (i : Target) → reply e b (insert n i) ≡ book-reply e k (has-room e b n) (insert n i)
+  unfolding reply book-reply
+  insert-reply k m n i =
+      ap done-or (insert-code-is n i) ∙ insert-chain (legal-name e n && legal-target e i) (not (fixed-name n)) (not (sought e b n .hit)) (has-room e b n)
+      ∙ ap (λ (t : Bool). first-of (legal-name e n && legal-target e i) (refuse 11) (first-of (not (fixed-name n)) (refuse 12) (first-of (not t) (refuse 14) (first-of (has-room e b n) (refuse 15) done)))) (hit-holds k m n)
+
+  remove-reply : (k : Book) → SameBook (book-of e b) k → (n : List ℕ) (r : Bool) → reply e b (remove n) ≡ book-reply e k r (remove n)
+  unfolding reply book-reply
+  remove-reply k m n r =
+      ap done-or (remove-code-is n) ∙ remove-chain (legal-name e n) (not (fixed-name n)) (sought e b n .hit)
+      ∙ ap (λ (t : Bool). first-of (legal-name e n) (refuse 11) (first-of (not (fixed-name n)) (refuse 12) (first-of t (refuse 13) done))) (hit-holds k m n)
+
+  -- an insert that is done
+  pub insert-facts : (n : List ℕ) (i : Target) → insert-code e b n i ≡ 0
+      → (legal-name e n ≡ true) × (legal-target e i ≡ true) × (fixed-name n ≡ false) × (sought e b n .hit ≡ false) × (has-room e b n ≡ true)
+  insert-facts n i q =
+      let p1 : _ = passes (legal-name e n && legal-target e i) 10 (otherwise (not (fixed-name n)) 12 (otherwise (not (sought e b n .hit)) 14 (otherwise (has-room e b n) 15 0))) (sym (insert-code-is n i) ∙ q) in
+      let p2 : _ = passes (not (fixed-name n)) 11 (otherwise (not (sought e b n .hit)) 14 (otherwise (has-room e b n) 15 0)) (p1 .1) in
+      let p3 : _ = passes (not (sought e b n .hit)) 13 (otherwise (has-room e b n) 15 0) (p2 .1) in
+      let p4 : _ = passes (has-room e b n) 14 0 (p3 .1) in
+      (and-left (legal-name e n) (legal-target e i) (p1 .0), and-right (legal-name e n) (legal-target e i) (p1 .0), not-true (fixed-name n) (p2 .0), not-true (sought e b n .hit) (p3 .0), p4 .0)
+
+  pub insert-done : (n : List ℕ) (i : Target) → bytes n ≡ true → insert-code e b n i ≡ 0 → Inserted e b n i (insert-block e b n i)
+  unfolding insert-block
+  insert-done n i nb q =
+      let f : _ = insert-facts n i q in
+      let ask : Asked e b n i = record { name-bytes = nb; name-legal = f .0; number-legal = f .1; not-fixed = f .2; absent = sym (hit-of e sane b h a n) ∙ f .3 } in
+      rw q (insert-any e sane b h a i n ask (f .4))
+
+  pub remove-facts : (n : List ℕ) → remove-code e b n ≡ 0 → (legal-name e n ≡ true) × (fixed-name n ≡ false) × (sought e b n .hit ≡ true)
+  remove-facts n q =
+      let p1 : _ = passes (legal-name e n) 10 (otherwise (not (fixed-name n)) 12 (otherwise (sought e b n .hit) 13 0)) (sym (remove-code-is n) ∙ q) in
+      let p2 : _ = passes (not (fixed-name n)) 11 (otherwise (sought e b n .hit) 13 0) (p1 .1) in
+      let p3 : _ = passes (sought e b n .hit) 12 0 (p2 .1) in
+      (p1 .0, not-true (fixed-name n) (p2 .0), p3 .0)
+
+  pub remove-done : (n : List ℕ) → remove-code e b n ≡ 0 → Removed e b n (remove-block e b n)
+  unfolding remove-block
+  remove-done n q = let f : _ = remove-facts n q in rw q (removed-of e sane b h a n (f .2) (f .1))
+
+  -- bytes stay bytes
+  pub stays-bytes : (c : Call) → call-bytes c ≡ true → bytes (after e b c) ≡ true
+  unfolding after insert-block remove-block
+  stays-bytes (look-up n) q = h
+  stays-bytes (insert n i) q =
+      by-cases (eqb (insert-code e b n i) 0)
+      (λ z. rw z (bytes-changed e sane b (insert-writes e b n i) h (all-insert e b n i q (name-lt e n (insert-facts n i (eqb-true (insert-code e b n i) 0 z) .0)))))
+      (λ z. rw z h)
+  stays-bytes (remove n) q =
+      by-cases (eqb (remove-code e b n) 0) (λ z. rw z (bytes-changed e sane b (remove-writes e b n) h (all-remove e b n))) (λ z. rw z h)
+
+  -- a call that changes nothing
+  unchanged : (k : Book) → SameBook (book-of e b) k → (c : Call) → reply e b c ≡ book-reply e k (has-room e b (call-name c)) c → after e b c ≡ b
+      → book-after e k (has-room e b (call-name c)) c ≡ k → Reuse e (after e b c) c (reply e b c) → Call-right e k b c
+  unchanged k m c an st bk re =
+      record { answers = an; accepted = rw st a; lengths = ap length st; listed = rw (st, bk) m; adds-up = rw st (adds-up e sane b h a); reuse = re }
+
+beq-yes : (p q : Bool) → Bool·beq p q ≡ true → q ≡ true → p ≡ true
+beq-yes true q h k = refl
+beq-yes false true h k = absurd (false≢true h)
+beq-yes false false h k = k
+
+module _ (e : Edition) (sane : Sane e) (b : List ℕ) (h : bytes b ≡ true) (a : Accepted e b) where
+  -- "." and ".." are always held
+  held-at : (d : List ℕ) (o : ℕ) → entry-at o (records e b) ≡ true → ((r : Rec) → name-ok e r ≡ true → eqb (r .off) o ≡ true → same (name r) d ≡ true)
+      → every (name-ok e) (entries (records e b)) ≡ true → (m : List ℕ) → same m d ≡ true → some-of (λ r. same-name e m (name r)) (entries (records e b)) ≡ true
+  held-at d o at ok ev m q =
+      let t : (t : Split (entries (records e b))) × (eqb (t .here .off) o ≡ true) = some-split (λ r. eqb (r .off) o) (entries (records e b)) at in
+      let r : Rec = t .0 .here in
+      let nk : name-ok e r ≡ true = every-at (name-ok e) (t .0 .before) r (t .0 .behind) (subst (λ (l : List Rec). every (name-ok e) l ≡ true) (t .0 .is) ev) in
+      let nm : name r ≡ d = same-eq (name r) d (ok r nk (t .1)) in
+      ap (some-of (λ r. same-name e m (name r))) (t .0 .is)
+      ∙ some-at (λ r. same-name e m (name r)) (t .0 .before) r (t .0 .behind) (subst (λ (l : List ℕ). same-name e m l ≡ true) (same-eq m d q ∙ sym nm) (same-name-refl e m))
+
+  fixed-held : (m : List ℕ) → fixed-name m ≡ true → some-of (λ r. same-name e m (name r)) (entries (records e b)) ≡ true
+  unfolding fixed-name names-ok
+  fixed-held m q =
+      let rs : List Rec = records e b in
+      let nm : Bool = every (name-ok e) (entries rs) in
+      let h0 : Bool = entry-at (e .header) rs in
+      let h1 : Bool = entry-at (e .header + 16) rs in
+      let ns : (nm && h0 && h1) ≡ true = good-of e sane b h a .names in
+      by-cases (same m dot)
+      (λ y. held-at dot (e .header) (and-right nm h0 (and-left (nm && h0) h1 ns))
+      (λ r k z. beq-yes (same (name r) dot) (eqb (r .off) (e .header))
+      (and-right (legal-name e (name r)) (Bool·beq (same (name r) dot) (eqb (r .off) (e .header)))
+      (and-left (legal-name e (name r) && Bool·beq (same (name r) dot) (eqb (r .off) (e .header))) (Bool·beq (same (name r) dotdot) (eqb (r .off) (e .header + 16))) k)) z)
+      (and-left nm h0 (and-left (nm && h0) h1 ns)) m y)
+      (λ y. held-at dotdot (e .header + 16) (and-right (nm && h0) h1 ns)
+      (λ r k z. beq-yes (same (name r) dotdot) (eqb (r .off) (e .header + 16))
+      (and-right (legal-name e (name r) && Bool·beq (same (name r) dot) (eqb (r .off) (e .header))) (Bool·beq (same (name r) dotdot) (eqb (r .off) (e .header + 16))) k) z)
+      (and-left nm h0 (and-left (nm && h0) h1 ns)) m (rw y at q))
+
+  -- room by (a) is room
+  room-by-a : (m : List ℕ) → 1 ≤ stale-of b → entry-size e (length m) ≤ size (longest (gaps (records e b))) → has-room e b m ≡ true
+  unfolding has-room room
+  room-by-a m s l =
+      let t : some-stale (room e b m) ≡ true = by-cases (some-stale (room e b m)) (λ q. q) (λ q. absurd (omega (arith, leb-false))) in
+      rw (t, le-leb (entry-size e (length m)) (size (longest (gaps (records e b)))) l) refl
+
+  -- a legal absent name with a legal number goes in where (a) finds room
+  goes-in : (m : List ℕ) (i : Target) → legal-name e m ≡ true → legal-target e i ≡ true → holds e m (book-of e b) ≡ false → has-room e b m ≡ true → reply e b (insert m i) ≡ done
+  unfolding reply
+  goes-in m i lg ln hd rm =
+      let nh : some-of (λ r. same-name e m (name r)) (entries (records e b)) ≡ false = sym (holds-entries e m b) ∙ hd in
+      let fx : fixed-name m ≡ false = by-cases (fixed-name m) (λ q. absurd (clash (fixed-held m q) nh)) (λ q. q) in
+      ap done-or (insert-code-is e sane b h a m i) ∙ rw (lg, ln, fx, hit-of e sane b h a m ∙ nh, rm) refl
+
+module _ (e : Edition) (sane : Sane e) (b : List ℕ) (h : bytes b ≡ true) (a : Accepted e b) (k : Book) (m : SameBook (book-of e b) k) where
+  look-right : (n : List ℕ) → Call-right e k b (look-up n)
+  unfolding after book-after Reuse
+  look-right n =
+      unchanged e sane b h a k m (look-up n) (lookup-reply e sane b h a k m n (has-room e b n)) refl (keeps (is-done (book-reply e k (has-room e b n) (look-up n))) k) tt
+
+  done-is : (c : Call) → reply e b c ≡ book-reply e k (has-room e b (call-name c)) c → reply e b c ≡ done → book-after e k (has-room e b (call-name c)) c ≡ entered e k c
+  unfolding book-after
+  done-is c an q = rw (sym an ∙ q) refl
+
+  refused-is : (c : Call) → reply e b c ≡ book-reply e k (has-room e b (call-name c)) c → is-done (reply e b c) ≡ false → book-after e k (has-room e b (call-name c)) c ≡ k
+  unfolding book-after
+  refused-is c an q = rw (ap is-done (sym an) ∙ q) refl
+
+  insert-right : (n : List ℕ) (i : Target) → bytes n ≡ true → Call-right e k b (insert n i)
+  unfolding after reply Reuse insert-block
+  insert-right n i nb =
+      let an : reply e b (insert n i) ≡ book-reply e k (has-room e b n) (insert n i) = insert-reply e sane b h a k m n i in
+      by-cases (eqb (insert-code e b n i) 0)
+      (λ z. let q : insert-code e b n i ≡ 0 = eqb-true (insert-code e b n i) 0 z in
+      let w : Inserted e b n i (insert-block e b n i) = insert-done e sane b h a n i nb q in
+      let bk : book-after e k (has-room e b n) (insert n i) ≡ held n (kept-of e i) ∷ k = done-is (insert n i) an (rw z refl) in
+      record {
+        answers = an;
+        accepted = w .accepted;
+        lengths = w .long;
+        listed = subst (λ (j : Book). SameBook (book-of e (insert-block e b n i)) j) (ap₂ (λ (x : List ℕ) (y : Target). held x y ∷ k) (w .named) (w .aimed) ∙ sym bk)
+            (book-inserted e b (insert-block e b n i) k m (w .before) (w .new) (w .behind) (w .old-entries) (w .new-entries-are));
+        adds-up = adds-up e sane (insert-block e b n i) (stays-bytes e sane b h a (insert n i) nb) (w .accepted);
+        reuse = tt;
+      })
+      (λ z. unchanged e sane b h a k m (insert n i) an (rw z refl) (refused-is (insert n i) an (refused-not-done (insert-code e b n i) z)) tt)
+
+  remove-right : (n : List ℕ) → bytes n ≡ true → Call-right e k b (remove n)
+  unfolding after reply Reuse remove-block
+  remove-right n nb =
+      let an : reply e b (remove n) ≡ book-reply e k (has-room e b n) (remove n) = remove-reply e sane b h a k m n (has-room e b n) in
+      by-cases (eqb (remove-code e b n) 0)
+      (λ z. let q : remove-code e b n ≡ 0 = eqb-true (remove-code e b n) 0 z in
+      let w : Removed e b n (remove-block e b n) = remove-done e sane b h a n q in
+      let c : List ℕ = remove-block e b n in
+      let cb : bytes c ≡ true = stays-bytes e sane b h a (remove n) nb in
+      let bk : book-after e k (has-room e b n) (remove n) ≡ without-first (named e n) k = done-is (remove n) an (rw z refl) in
+      let f : First-named e n k = first-named e n k (sym (hit-holds e sane b h a k m n) ∙ remove-facts e sane b h a n q .2) in
+      record {
+        answers = an;
+        accepted = w .accepted;
+        lengths = w .long;
+        listed = subst (λ (j : Book). SameBook (book-of e c) j) (sym bk)
+            (book-removed e b c k m (w .before) (w .gone) (w .behind) n (w .old-entries) (w .new-entries-are) (good-of e sane b h a .once) (w .of-name) f);
+        adds-up = adds-up e sane c cb (w .accepted);
+        reuse = λ dn x i xb lg ln hd len.
+            goes-in e sane c cb (w .accepted) x i lg ln hd
+            (room-by-a e sane c cb (w .accepted) x (omega (arith, w .one-more))
+            (longest-least (gaps (records e c)) (w .gap-split) (entry-size e (length x)) (le-trans (entry-size-mono e (length x) (length n) len) (w .gap-long))));
+      })
+      (λ z. unchanged e sane b h a k m (remove n) an (rw z refl) (refused-is (remove n) an (refused-not-done (remove-code e b n) z))
+      (λ dn x i xb lg ln hd len. absurd (clash (ap is-done dn) (refused-not-done (remove-code e b n) z))))
+
+-- every call
+pub steps : (e : Edition) → Sane e → Steps e
+steps e sane = record { right = λ k b c h a m q. right k b h a m c q; stays = λ b c h a q. stays-bytes e sane b h a c q }
+  where
+    right : (k : Book) (b : List ℕ) → bytes b ≡ true → Accepted e b → SameBook (book-of e b) k → (c : Call) → call-bytes c ≡ true → Call-right e k b c
+    right k b h a m (look-up n) q = look-right e sane b h a k m n
+    right k b h a m (insert n i) q = insert-right e sane b h a k m n i q
+    right k b h a m (remove n) q = remove-right e sane b h a k m n q

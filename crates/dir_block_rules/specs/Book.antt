@@ -1,0 +1,83 @@
+-- Demand 3's book: names with numbers, fed each call, and what it answers. It sees no answers of the block's.
+-- Assumes nothing.
+use Prim.Native.Nat.{ℕ}
+use mathlib.Core.Bool.{Bool, true, false, not, cond, _&&_}
+use mathlib.Core.Path.{_≡_}
+use mathlib.Core.List.{List, [], _∷_, map}
+use Rattle.be.specs.Lists.{some-of, tally, without-first, same}
+use Rattle.edition.specs.declared.Edition.{Edition}
+use Rattle.name.specs.Name.{legal-name, same-name, fixed-name}
+use Rattle.dir_block_rules.specs.declared.Target.{Target}
+use Rattle.dir_block_rules.specs.Record.{target, same-target, target-of, kept-of, entries, name as entry-name}
+use Rattle.dir_block_rules.specs.Verdict.{legal-target}
+use Rattle.dir_block_rules.specs.Block.{records}
+use Rattle.dir_block_rules.specs.Calls.{Call, look-up, insert, remove, Reply, found, done, refuse}
+
+-- a name with its number and file type
+pub record Held : Type 0 where
+  pub name : List ℕ
+  pub aim : Target
+
+abbrev pub held : List ℕ → Target → Held
+held n i = record { name = n; aim = i }
+
+abbrev pub Book : Type 0
+Book = List Held
+
+-- a block's names and numbers are its live entries', each name with its number and file type
+unfoldable pub book-of : Edition → List ℕ → Book
+book-of e b = map (λ r. held (entry-name r) (target-of e r)) (entries (records e b))
+
+abbrev pub named : Edition → List ℕ → Held → Bool
+named e n h = same-name e n (h .name)
+
+abbrev pub holds : Edition → List ℕ → Book → Bool
+holds e n k = some-of (named e n) k
+
+-- the number and file type of the first that has the name
+unfoldable pub aim-of : Edition → List ℕ → Book → Target
+aim-of e n [] = target 0 0
+aim-of e n (h ∷ hs) = let r = aim-of e n hs in cond (named e n h) (h .aim) r
+
+abbrev pub first-of : Bool → Reply → Reply → Reply
+first-of t r s = cond t s r
+
+-- the book's answer; room is whether the room rule finds room in the block that the call gets. The first that applies counts.
+-- Lookup: name not legal, 11; held, its number and type; else 13.
+-- Insert: name, number or type not legal, 11; "." or "..", 12; held, 14; no room, 15; else done.
+-- Removal: name not legal, 11; "." or "..", 12; not held, 13; else done.
+unfoldable pub book-reply : Edition → Book → Bool → Call → Reply
+book-reply e k room (look-up n) =
+    first-of (legal-name e n) (refuse 11) (
+    first-of (holds e n k) (refuse 13) (found (aim-of e n k)))
+book-reply e k room (insert n i) =
+    first-of (legal-name e n && legal-target e i) (refuse 11) (
+    first-of (not (fixed-name n)) (refuse 12) (
+    first-of (not (holds e n k)) (refuse 14) (
+    first-of room (refuse 15) done)))
+book-reply e k room (remove n) =
+    first-of (legal-name e n) (refuse 11) (
+    first-of (not (fixed-name n)) (refuse 12) (
+    first-of (holds e n k) (refuse 13) done))
+
+abbrev pub is-done : Reply → Bool
+is-done (found i) = false
+is-done done = true
+is-done (refuse k) = false
+
+-- an insert that is done is held from now on; a removal that is done is gone
+abbrev pub entered : Edition → Book → Call → Book
+entered e k (look-up n) = k
+entered e k (insert n i) = held n (kept-of e i) ∷ k
+entered e k (remove n) = without-first (named e n) k
+
+-- a refusal changes nothing
+unfoldable pub book-after : Edition → Book → Bool → Call → Book
+book-after e k room c = cond (is-done (book-reply e k room c)) (entered e k c) k
+
+-- two books hold the same names with the same numbers and types, order left out
+abbrev pub same-held : Held → Held → Bool
+same-held g h = same (g .name) (h .name) && same-target (g .aim) (h .aim)
+
+unfoldable pub SameBook : Book → Book → Type 0
+SameBook k l = (h : Held) → tally (same-held h) k ≡ tally (same-held h) l

@@ -1,0 +1,73 @@
+-- What is claimed of a block besides demand 3, each over every edition of sane sizes. The starred numbers stand in Starred.antt.
+-- Their proofs: proofs/LookupRight.antt, WholeWalk.antt, BestAnew.antt, SlotOrder.antt, Capacity.antt.
+-- Assumes nothing.
+use Prim.Native.Nat.{ℕ, suc, _+_, _-_, _/_, _≤_}
+use mathlib.Core.Bool.{Bool, true, false, not, cond, _&&_}
+use mathlib.Core.Path.{_≡_}
+use mathlib.Core.List.{List, [], _∷_, _++_, map}
+use lib.Dec.{leb, ltb}
+use lib.ListN.{length}
+use Rattle.be.specs.Lists.{some-of, keep}
+use Rattle.be.specs.Bytes.{bytes, part}
+use Rattle.edition.specs.declared.Edition.{Edition}
+use Rattle.name.specs.Name.{legal-name, same-name}
+use Rattle.dir_block_rules.specs.declared.Looked.the-variants.{Found, Absent}
+use Rattle.dir_block_rules.specs.declared.Walked.the-variants.{Stepped, Refused}
+use Rattle.dir_block_rules.specs.Record.{Rec, is-gap, entries, gaps, name, number, tag}
+use Rattle.dir_block_rules.specs.Block.{records, data-end, Slot}
+use Rattle.dir_block_rules.specs.Verdict.{Accepted, rising, best-pairs}
+use Rattle.dir_block_rules.specs.Lookup.{lookup, looked-code, names-compared}
+use Rattle.dir_block_rules.specs.Change.{best-table, insert-slot}
+use Rattle.dir_block_rules.specs.Calls.{Call, done, reply, after}
+use Rattle.dir_block_rules.specs.Demand.{call-bytes}
+use Rattle.dir_block_rules.specs.Walk.{entry-of, step-over, step-end, is-place, walk-step, walk}
+
+-- some live entry of the block bears the name
+abbrev pub borne : Edition → List ℕ → List ℕ → Bool
+borne e b n = some-of (λ r. same-name e n (name r)) (entries (records e b))
+
+-- demand 2: a lookup in an accepted block gives the number of whichever live entry bears the name, and is absent exactly when
+-- none does; both tell the names compared
+pub record Looks-up (e : Edition) (b n : List ℕ) : Type 0 where
+  pub found : (xs : List Rec) (r : Rec) (ys : List Rec) → entries (records e b) ≡ xs ++ r ∷ ys → same-name e n (name r) ≡ true
+      → lookup e b n ≡ Found (number r) (names-compared e b n)
+  pub absent : borne e b n ≡ false → lookup e b n ≡ Absent (names-compared e b n)
+  pub exactly : looked-code (lookup e b n) ≡ cond (borne e b n) 0 13
+
+unfoldable pub Lookup-right : Edition → Type 0
+Lookup-right e = (b n : List ℕ) → bytes b ≡ true → Accepted e b → legal-name e n ≡ true → Looks-up e b n
+
+-- each number is above the one before
+unfoldable pub climbs : List ℕ → Bool
+climbs [] = true
+climbs (m ∷ []) = true
+climbs (m ∷ n ∷ ns) = ltb m n && climbs (n ∷ ns)
+
+-- from the header's end (16) repeated steps meet each record once by rising tag, live entries and gaps as they are, and end after
+-- records plus one steps; at the end a step says end again; a live entry's name is the part of the block that its step says;
+-- any other place is refused with 11
+pub record Walks (e : Edition) (b : List ℕ) : Type 0 where
+  pub whole : walk e b (suc (length (records e b))) (e .header) ≡ map (λ r. Stepped (step-over r)) (records e b) ++ (Stepped (step-end (data-end b)) ∷ [])
+  pub rises : climbs (map tag (records e b)) ≡ true
+  pub again : walk-step e b (data-end b) ≡ Stepped (step-end (data-end b))
+  pub names : (xs : List Rec) (r : Rec) (ys : List Rec) → records e b ≡ xs ++ r ∷ ys → is-gap r ≡ false → part (entry-of r .start) (entry-of r .len) b ≡ name r
+  pub elsewhere : (p : ℕ) → is-place p (data-end b) (records e b) ≡ false → walk-step e b p ≡ Refused 11
+
+unfoldable pub Walk-right : Edition → Type 0
+Walk-right e = (b : List ℕ) → bytes b ≡ true → Accepted e b → Walks e b
+
+-- every change writes the pairs anew: the longest gaps of what it leaves, longest first, lower offset first among equals
+unfoldable pub Best-right : Edition → Type 0
+Best-right e =
+    (b : List ℕ) (c : Call) → bytes b ≡ true → Accepted e b → call-bytes c ≡ true → reply e b c ≡ done
+    → best-pairs e (after e b c) ≡ best-table (gaps (records e (after e b c)))
+
+-- the new slot stands after all slots with an equal or lower hash, and before all with a higher one
+unfoldable pub Slot-right : Type 0
+Slot-right =
+    (s : Slot) (ss : List Slot) → rising ss ≡ true
+    → insert-slot s ss ≡ keep (λ t. leb (t .hash) (s .hash)) ss ++ (s ∷ keep (λ t. not (leb (t .hash) (s .hash))) ss)
+
+-- C6: a block of L bytes holds at most (L - 24) / 24 live entries; 24 is V4's header and tail, and the least that an entry and its slot take
+unfoldable pub Capacity-right : Edition → Type 0
+Capacity-right e = (b : List ℕ) → bytes b ≡ true → Accepted e b → length (entries (records e b)) ≤ (length b - (e .header + 8)) / 24

@@ -1,0 +1,56 @@
+-- Demand 3: one claim about every list of lookups, inserts and removals, with any names and numbers.
+-- Its proof: proofs/Demand3.antt.
+-- Assumes nothing.
+use Prim.Native.Nat.{ℕ, _≤_}
+use mathlib.Core.Bool.{Bool, true, false}
+use mathlib.Core.Path.{_≡_}
+use mathlib.Core.List.{List, [], _∷_}
+use lib.ListN.{length}
+use Rattle.be.specs.Lists.{every}
+use Rattle.be.specs.Bytes.{bytes}
+use Rattle.edition.specs.declared.Edition.{Edition}
+use Rattle.name.specs.Name.{legal-name}
+use Rattle.dir_block_rules.specs.Block.{sum-of-parts}
+use Rattle.dir_block_rules.specs.Verdict.{Accepted, legal-target}
+use Rattle.dir_block_rules.specs.declared.Target.{Target}
+use Rattle.dir_block_rules.specs.Room.{has-room}
+use Rattle.dir_block_rules.specs.Calls.{Call, look-up, insert, remove, Reply, done, reply, after, call-name}
+use Rattle.dir_block_rules.specs.Book.{Book, book-of, holds, book-reply, book-after, SameBook}
+
+-- right after a removal that is done, any legal absent name that is no longer than the removed one goes in with any legal number
+unfoldable pub Reuse : Edition → List ℕ → Call → Reply → Type 0
+Reuse e b (look-up n) r = Unit {0}
+Reuse e b (insert n i) r = Unit {0}
+Reuse e b (remove n) r =
+    r ≡ done → (m : List ℕ) (i : Target) → bytes m ≡ true → legal-name e m ≡ true → legal-target e i ≡ true
+    → holds e m (book-of e b) ≡ false → length m ≤ length n → reply e b (insert m i) ≡ done
+
+-- one call c on block b, with book k
+pub record Call-right (e : Edition) (k : Book) (b : List ℕ) (c : Call) : Type 0 where
+  -- the answer is the book's, which is told whether the room rule finds room in the block that the call gets
+  pub answers : reply e b c ≡ book-reply e k (has-room e b (call-name c)) c
+  -- what is left is accepted and as long as before
+  pub accepted : Accepted e (after e b c)
+  pub lengths : length (after e b c) ≡ length b
+  -- its names and numbers are the book's, order left out
+  pub listed : SameBook (book-of e (after e b c)) (book-after e k (has-room e b (call-name c)) c)
+  -- header, live entries' E, gaps, 8 for each slot and 8 for the tail add up to the length
+  pub adds-up : sum-of-parts e (after e b c) ≡ length (after e b c)
+  -- freed room serves again
+  pub reuse : Reuse e (after e b c) c (reply e b c)
+
+-- each call gets the block and the book that the one before left
+abbrev pub Run : Edition → Book → List ℕ → List Call → Type 0
+Run e k b [] = Unit {0}
+Run e k b (c ∷ cs) =
+    Call-right e k b c × Run e (book-after e k (has-room e b (call-name c)) c) (after e b c) cs
+
+-- a call's name is a slice of bytes
+abbrev pub call-bytes : Call → Bool
+call-bytes c = bytes (call-name c)
+
+-- demand 3: every accepted block and every list of calls, refused ones among them; the book starts as the block's names and numbers
+unfoldable pub Demand-3 : Edition → Type 0
+Demand-3 e =
+    (b : List ℕ) → bytes b ≡ true → Accepted e b
+    → (cs : List Call) → every call-bytes cs ≡ true → Run e (book-of e b) b cs

@@ -1,0 +1,177 @@
+-- INDEX by a table: where the counts agree, the table's slot for each entry is all there is to test.
+-- Assumes nothing.
+use Prim.Native.Nat.{ℕ, zero, suc, _+_, _-_, _/_, _≤_, _<_}
+use native.Mathlib.Nat.{zero-add}
+use native.Mathlib.Numerals.{add-one}
+use native.Mathlib.Omega.{arith}
+use mathlib.Core.Bool.{Bool, true, cond, _&&_}
+use mathlib.Core.Path.{_≡_, refl, sym, _∙_, ap}
+use mathlib.Core.List.{List, [], _∷_, _++_, map}
+use lib.Dec.{eqb, leb, ltb}
+use lib.ListN.{length, getD, set, length-set}
+use lib.Seq.{getD-set-same, getD-set-other}
+use borrow.Author.Tests.{eqb-true, eqb-false, le-leb, leb-true, eq-eqb, ltb-true}
+use Rattle.be.specs.Lists.{every, some-of, tally}
+use Rattle.edition.specs.declared.Edition.{Edition}
+use Rattle.name.specs.Name.{hash-of}
+use Rattle.dir_block_rules.specs.Record.{Rec, name}
+use Rattle.dir_block_rules.specs.Block.{Slot, is-live}
+use Rattle.dir_block_rules.specs.Verdict.{has-slot}
+use Rattle.be.proofs.Bools.{by-cases, and-left, and-right, every-head, every-tail, every-cons, clash}
+use Rattle.dir_block_rules.proofs.SlotCounts.{Apart, at-addr}
+use Rattle.dir_block_rules.proofs.IndexedEntries.{addr-of, at-both, tally-le, Slotted, slotted}
+use Rattle.dir_block_rules.proofs.RecordPlaces.{some-at}
+use Rattle.dir_block_test.specs.Passes.{slots-from, hash-at, addr-at, filled, hint, slot-is}
+use Rattle.dir_block_test.proofs.SlotWalk.{slot-at, slots-next, slots-end}
+use Rattle.dir_block_test.proofs.OneSlotEach.{index-law}
+
+pub length-filled : (b : List ℕ) (t : ℕ) (M : List ℕ) (n : ℕ) → length (filled b t M n) ≡ length M
+unfolding filled
+length-filled b t M zero = refl
+length-filled b t M (suc n) = length-set (filled b t M n) (addr-at b t n) (suc n) ∙ length-filled b t M n
+
+-- the table after one slot more
+pub filled-on : (b : List ℕ) (t : ℕ) (M P Q : List ℕ) (i j a v : ℕ) → P ≡ filled b t M i → j ≡ i + 1 → a ≡ addr-at b t i → v ≡ j → Q ≡ set P a v → Q ≡ filled b t M j
+unfolding filled
+filled-on b t M P Q i j a v p q r s h =
+    let w : j ≡ suc i = q ∙ add-one i in
+    let sw : v ≡ suc i = s ∙ w in rw (w, h, p, r, sw)
+
+module _ (b : List ℕ) (t : ℕ) (M : List ℕ) (a : ℕ) (small : a < length M) where
+  filled-at : (n i : ℕ) → i < n → addr-at b t i ≡ a → ((j : ℕ) → i < j → j < n → addr-at b t j ≡ a → ⊥) → getD (filled b t M n) a 0 ≡ suc i
+  unfolding filled
+  filled-at zero i l e f = absurd (omega arith)
+  filled-at (suc n) i l e f =
+      by-cases (eqb i n)
+      (λ q. let i-is : i ≡ n = eqb-true i n q in
+      let e′ : addr-at b t n ≡ a = ap (addr-at b t) (sym i-is) ∙ e in
+      ap (λ (k : ℕ). getD (set (filled b t M n) k (suc n)) a 0) e′
+      ∙ getD-set-same (filled b t M n) a (suc n) 0 (omega (arith, length-filled b t M n)) ∙ ap suc (sym i-is))
+      (λ q. let less : i < n = lt-of (omega arith) (eqb-false i n q) in
+      getD-set-other (filled b t M n) (addr-at b t n) a (suc n) 0 (λ (z : a ≡ addr-at b t n). f n less (omega arith) (sym z))
+      ∙ filled-at n i less e (λ j u v. f j u (omega arith)))
+    where
+      lt-of : {x y : ℕ} → x ≤ y → (x ≡ y → ⊥) → x < y
+      lt-of u v = omega arith
+
+module _ (b : List ℕ) (t n : ℕ) where
+  pub slots-split : (i : ℕ) → i < n → (us : List Slot) × (slots-from b t n 0 ≡ us ++ slot-at b t i ∷ slots-from b t n (i + 1))
+  slots-split zero h = ([], slots-next b t n 0 h)
+  slots-split (suc i) h =
+      let r : (us : List Slot) × (slots-from b t n 0 ≡ us ++ slot-at b t i ∷ slots-from b t n (i + 1)) = slots-split i (omega arith) in
+      let q : slots-from b t n (i + 1) ≡ slot-at b t (suc i) ∷ slots-from b t n (suc i + 1) =
+      ap (slots-from b t n) (add-one i) ∙ slots-next b t n (suc i) h in
+      (r .0 ++ slot-at b t i ∷ [], r .1 ∙ ap (λ (l : List Slot). r .0 ++ slot-at b t i ∷ l) q ∙ snoc (r .0) (slot-at b t i) (slot-at b t (suc i) ∷ slots-from b t n (suc i + 1)))
+    where
+      snoc : (us : List Slot) (s : Slot) (l : List Slot) → us ++ s ∷ l ≡ (us ++ s ∷ []) ++ l
+      snoc [] s l = refl
+      snoc (u ∷ us) s l = ap (λ (k : List Slot). u ∷ k) (snoc us s l)
+
+  module _ (a h : ℕ) where
+    none-after : (j i : ℕ) → i + j ≡ n → tally (at-addr a) (slots-from b t n i) ≡ 0 → (k : ℕ) → i ≤ k → k < n → addr-at b t k ≡ a → ⊥
+    none-after zero i q z k l u e = omega arith
+    none-after (suc j) i q z k l u e =
+        let z′ : cond (eqb (addr-at b t i) a) 1 0 + tally (at-addr a) (slots-from b t n (i + 1)) ≡ 0 = rw (slots-next b t n i (omega arith)) at z in
+        by-cases (eqb i k)
+        (λ w. let e′ : eqb (addr-at b t i) a ≡ true = eq-eqb (addr-at b t i) a (ap (addr-at b t) (eqb-true i k w) ∙ e) in
+        let z″ : 1 + tally (at-addr a) (slots-from b t n (i + 1)) ≡ 0 = rw e′ at z′ in omega arith)
+        (λ w. let less : i < k = lt-of l (eqb-false i k w) in
+        none-after j (i + 1) (omega arith) (omega arith) k (omega arith) u e)
+      where
+        lt-of : {x y : ℕ} → x ≤ y → (x ≡ y → ⊥) → x < y
+        lt-of u v = omega arith
+
+    -- the only slot at an address
+    pub record Only (i₀ : ℕ) : Type 0 where
+      pub i : ℕ
+      pub from : i₀ ≤ i
+      pub within : i < n
+      pub addr-is : addr-at b t i ≡ a
+      pub hash-is : hash-at b t i ≡ h
+      pub last : (k : ℕ) → i < k → k < n → addr-at b t k ≡ a → ⊥
+
+    only : (j i : ℕ) → i + j ≡ n → tally (at-addr a) (slots-from b t n i) ≡ 1 → tally (at-both a h) (slots-from b t n i) ≡ 1 → Only i
+    only zero i q x y = absurd (let z : 0 ≡ 1 = sym (rw (slots-end b t n i (omega arith))) ∙ x in omega arith)
+    only (suc j) i q x y =
+        let x′ : cond (eqb (addr-at b t i) a) 1 0 + tally (at-addr a) (slots-from b t n (i + 1)) ≡ 1 = rw (slots-next b t n i (omega arith)) at x in
+        let y′ : cond (eqb (addr-at b t i) a && eqb (hash-at b t i) h) 1 0 + tally (at-both a h) (slots-from b t n (i + 1)) ≡ 1 = rw (slots-next b t n i (omega arith)) at y in
+        let few : tally (at-both a h) (slots-from b t n (i + 1)) ≤ tally (at-addr a) (slots-from b t n (i + 1)) =
+        tally-le (at-both a h) (at-addr a) (λ s z. and-left (eqb (s .addr) a) (eqb (s .hash) h) z) (slots-from b t n (i + 1)) in
+        by-cases (eqb (addr-at b t i) a)
+        (λ w. let x″ : 1 + tally (at-addr a) (slots-from b t n (i + 1)) ≡ 1 = rw w at x′ in
+        let y1 : cond (eqb (hash-at b t i) h) 1 0 + tally (at-both a h) (slots-from b t n (i + 1)) ≡ 1 = rw w at y′ in
+        by-cases (eqb (hash-at b t i) h)
+        (λ v. record {
+          i = i;
+          from = omega arith;
+          within = omega arith;
+          addr-is = eqb-true (addr-at b t i) a w;
+          hash-is = eqb-true (hash-at b t i) h v;
+          last = λ k l u e. none-after j (i + 1) (omega arith) (omega arith) k (omega arith) u e;
+        })
+        (λ v. absurd (let y2 : 0 + tally (at-both a h) (slots-from b t n (i + 1)) ≡ 1 = rw v at y1 in omega arith)))
+        (λ w. let x″ : 0 + tally (at-addr a) (slots-from b t n (i + 1)) ≡ 1 = rw w at x′ in
+        let y″ : 0 + tally (at-both a h) (slots-from b t n (i + 1)) ≡ 1 = rw w at y′ in
+        let r : Only (i + 1) = only j (i + 1) (omega arith) (omega arith) (omega arith) in
+        record { i = r .i; from = omega (arith, r .from); within = r .within; addr-is = r .addr-is; hash-is = r .hash-is; last = r .last })
+
+  module _ (M : List ℕ) (e : Edition) where
+    abbrev pub M′ : List ℕ
+    M′ = filled b t M n
+
+    abbrev pub hinted : Rec → Bool
+    hinted r = hint M′ b t n (r .off / 8) (hash-of e (name r))
+
+    abbrev SS : List Slot
+    SS = slots-from b t n 0
+
+    -- an entry with its slot has it in the table
+    slotted-hint : (r : Rec) → addr-of r < length M → Slotted e SS r → hinted r ≡ true
+    unfolding hint
+    slotted-hint r small s =
+        let o : Only (addr-of r) (hash-of e (name r)) 0 = only (addr-of r) (hash-of e (name r)) n 0 (zero-add n) (s .by-addr) (s .by-both) in
+        let g : getD (filled b t M n) (addr-of r) 0 ≡ suc (o .i) = filled-at b t M (addr-of r) small n (o .i) (o .within) (o .addr-is) (o .last) in
+        let back : suc (o .i) - 1 ≡ o .i = omega arith in
+        let i1 : leb 1 (suc (o .i)) ≡ true = le-leb 1 (suc (o .i)) (omega arith) in
+        let i2 : leb (suc (o .i)) n ≡ true = le-leb (suc (o .i)) n (o .within) in
+        rw (g, i1, i2, back, eq-eqb (addr-at b t (o .i)) (addr-of r) (o .addr-is), eq-eqb (hash-at b t (o .i)) (hash-of e (name r)) (o .hash-is))
+
+    -- what the table has is a slot
+    hint-found : (r : Rec) → hinted r ≡ true → some-of (slot-is (r .off / 8) (hash-of e (name r))) SS ≡ true
+    unfolding hint
+    hint-found r h =
+        let p : ℕ = getD M′ (r .off / 8) 0 in
+        let l : 1 ≤ getD M′ (r .off / 8) 0 = leb-true 1 (getD M′ (r .off / 8) 0) (and-left _ _ h) in
+        let h1 : (leb (getD M′ (r .off / 8) 0) n && (eqb (addr-at b t (getD M′ (r .off / 8) 0 - 1)) (r .off / 8) && eqb (hash-at b t (getD M′ (r .off / 8) 0 - 1)) (hash-of e (name r)))) ≡ true =
+        and-right (leb 1 (getD M′ (r .off / 8) 0)) _ h in
+        let u : getD M′ (r .off / 8) 0 ≤ n = leb-true (getD M′ (r .off / 8) 0) n (and-left _ _ h1) in
+        let i : ℕ = getD M′ (r .off / 8) 0 - 1 in
+        let s : (us : List Slot) × (SS ≡ us ++ slot-at b t (getD M′ (r .off / 8) 0 - 1) ∷ slots-from b t n (getD M′ (r .off / 8) 0 - 1 + 1)) = slots-split (getD M′ (r .off / 8) 0 - 1) (omega arith) in
+        ap (some-of (slot-is (r .off / 8) (hash-of e (name r)))) (s .1)
+        ∙ some-at (slot-is (r .off / 8) (hash-of e (name r))) (s .0) (slot-at b t (getD M′ (r .off / 8) 0 - 1)) (slots-from b t n (getD M′ (r .off / 8) 0 - 1 + 1)) (and-right (leb (getD M′ (r .off / 8) 0) n) _ h1)
+
+    has-hints : (es : List Rec) → every (λ r. ltb (addr-of r) (length M)) es ≡ true → every (has-slot e SS) es ≡ true → every hinted es ≡ true
+    has-hints [] w h = refl
+    has-hints (r ∷ es) w h =
+        every-cons hinted r es
+        (slotted-hint r (ltb-true (addr-of r) (length M) (every-head (λ r. ltb (addr-of r) (length M)) r es w)) (slotted e SS r (every-head (has-slot e SS) r es h)))
+        (has-hints es (every-tail (λ r. ltb (addr-of r) (length M)) r es w) (every-tail (has-slot e SS) r es h))
+
+    hints-found : (es : List Rec) → every hinted es ≡ true → every (λ r. some-of (slot-is (r .off / 8) (hash-of e (name r))) SS) es ≡ true
+    hints-found [] h = refl
+    hints-found (r ∷ es) h =
+        every-cons (λ r. some-of (slot-is (r .off / 8) (hash-of e (name r))) SS) r es (hint-found r (every-head hinted r es h)) (hints-found es (every-tail hinted r es h))
+
+    pub table-law : (es : List Rec) → Apart (map addr-of es) → every (λ r. ltb (addr-of r) (length M)) es ≡ true → tally is-live SS ≡ length es
+        → every (has-slot e SS) es ≡ every hinted es
+    table-law es ap′ w l =
+        by-cases (every hinted es)
+        (λ q. index-law e SS es ap′ l ∙ hints-found es q ∙ sym q)
+        (λ q. by-cases (every (has-slot e SS) es) (λ p. absurd (clash (has-hints es w p) q)) (λ p. p ∙ sym q))
+
+pub filled-none : (b : List ℕ) (t : ℕ) (M : List ℕ) → M ≡ filled b t M 0
+unfolding filled
+filled-none b t M = refl
+
+pub filled-end : (b : List ℕ) (t : ℕ) (M P : List ℕ) (i n : ℕ) → i ≤ n → n ≤ i → P ≡ filled b t M i → P ≡ filled b t M n
+filled-end b t M P i n l u h = let e : i ≡ n = omega arith in h ∙ ap (filled b t M) e

@@ -1,0 +1,171 @@
+-- What each pass of the test computes, over records and slots.
+-- Assumes nothing.
+use Prim.Native.Nat.{ℕ, zero, suc, _+_, _-_, _*_, _/_, _%_, _≤_, _<_, min}
+use mathlib.Core.Bool.{Bool, true, false, not, cond, _&&_, _||_, Bool·beq}
+use mathlib.Core.Path.{_≡_}
+use mathlib.Core.List.{List, [], _∷_}
+use lib.Dec.{eqb, leb}
+use lib.ListN.{length, take, drop, getD, set}
+use Rattle.be.specs.Lists.{every, some-of, tally, same, keep}
+use Rattle.be.specs.Bytes.{byte, field, part}
+use Rattle.be.specs.Codes.{otherwise}
+use Rattle.edition.specs.declared.Edition.{Edition}
+use Rattle.edition.specs.Edition.{largest-block}
+use Rattle.name.specs.Name.{legal-name, hash-of, same-name, dot, dotdot}
+use Rattle.dir_block_rules.specs.Record.{Rec, rec, cut, says, whole, is-gap, entries, gaps, name, size}
+use Rattle.dir_block_rules.specs.Block.{Slot, slots-in, is-stale}
+use Rattle.dir_block_rules.specs.Verdict.{name-ok, number-fits, number-ok, Pair, is-gap-of, best-ok, best-pairs, once-ok, names-ok, numbers-ok, index-ok, tile-ok}
+
+-- the records from o to the data's end t, with fuel k
+unfoldable pub rest : Edition → List ℕ → ℕ → ℕ → ℕ → List Rec
+rest e b t k o = cut e k o (part o (t - o) b)
+
+-- the slots from place i of the n that stand at t
+unfoldable pub slots-from : List ℕ → ℕ → ℕ → ℕ → List Slot
+slots-from b t n i = slots-in (n - i) (drop (t + 8 * i) b)
+
+-- TILE in one pass: whether the record before was a gap, and the records to come
+unfoldable pub tile-from : Edition → Bool → List Rec → Bool
+tile-from e g [] = true
+tile-from e g (r ∷ rs) = whole e r && not (g && is-gap r) && tile-from e (is-gap r) rs
+
+-- how long the record at o is, if it is whole; else 0
+unfoldable pub whole-len : Edition → List ℕ → ℕ → ℕ
+whole-len e d o = cond (whole e (rec o (take (says e d) d))) (says e d) 0
+
+-- what TILE's pass answers: 0, or n more than there are entries
+unfoldable pub tiled : Edition → Bool → ℕ → List Rec → ℕ
+tiled e g n rs = cond (tile-from e g rs) (n + length (entries rs)) 0
+
+-- a slot with this hash at this address
+abbrev pub slot-is : ℕ → ℕ → Slot → Bool
+slot-is a h s = eqb (s .addr) a && eqb (s .hash) h
+
+-- the first test that a record fails in a directory whose own number is `own`: 6, 7 or 8; 9 if none
+unfoldable pub fault : Edition → ℕ → (ℕ → ℕ → Bool) → Rec → ℕ
+fault e own f r =
+    cond (is-gap r) 9 (
+    otherwise (name-ok e r) 6 (
+    otherwise (number-ok e own r) 7 (
+    otherwise (f (r .off / 8) (hash-of e (name r))) 8 9)))
+
+unfoldable pub worst : Edition → ℕ → (ℕ → ℕ → Bool) → List Rec → ℕ
+worst e own f [] = 9
+worst e own f (r ∷ rs) = min (fault e own f r) (worst e own f rs)
+
+-- hashes never fall, from h on
+unfoldable pub climbs : ℕ → List Slot → Bool
+climbs h [] = true
+climbs h (s ∷ ss) = leb h (s .hash) && climbs (s .hash) ss
+
+-- the slots never fall, and n and their stale ones make m
+unfoldable pub in-order : ℕ → ℕ → ℕ → List Slot → Bool
+in-order h n m ss = climbs h ss && eqb (n + tally is-stale ss) m
+
+-- slot i's hash and address, of those at t
+abbrev pub hash-at : List ℕ → ℕ → ℕ → ℕ
+hash-at b t i = field (t + 8 * i) 4 b
+
+abbrev pub addr-at : List ℕ → ℕ → ℕ → ℕ
+addr-at b t i = field (t + 8 * i + 4) 4 b
+
+-- the name of the entry at o
+abbrev pub name-of : List ℕ → ℕ → List ℕ
+name-of b o = part (o + 9) (byte (o + 8) b) b
+
+-- a name that may stand at o
+unfoldable pub name-fits : Edition → ℕ → List ℕ → Bool
+name-fits e o n =
+    legal-name e n
+    && Bool·beq (same n dot) (eqb o (e .header))
+    && Bool·beq (same n dotdot) (eqb o (e .header + 16))
+
+-- the number at the header's end, where "." sits
+abbrev pub own-at : Edition → List ℕ → ℕ
+own-at e b = field (e .header) 8 b
+
+-- the first test that the entry at o fails, where f says whether an address and a hash have a slot
+unfoldable pub fault-at : Edition → ℕ → (ℕ → ℕ → Bool) → List ℕ → ℕ → ℕ
+fault-at e own f b o =
+    otherwise (name-fits e o (name-of b o)) 6 (
+    otherwise (number-fits e own o (field o 8 b)) 7 (
+    otherwise (f (o / 8) (hash-of e (name-of b o))) 8 9))
+
+-- the gaps that a pair does not name
+abbrev pub unnamed : Pair → List Rec → List Rec
+unnamed p gs = keep (λ g. not (is-gap-of p g)) gs
+
+-- BEST in one pass, where x, y, z say whether p, q, r are done: each other pair names a gap, and no gap that is not named is longer than r
+unfoldable pub best-left : Bool → Bool → Bool → Pair → Pair → Pair → List Rec → Bool
+best-left x y z p q r gs =
+    (x || some-of (is-gap-of p) gs)
+    && ((y || some-of (is-gap-of q) (unnamed p gs))
+    && ((z || some-of (is-gap-of r) (unnamed q (unnamed p gs)))
+    && every (λ g. leb (size g) (r .long)) (unnamed r (unnamed q (unnamed p gs)))))
+
+-- which pair names the record: 1, 2 or 3; 4 if none has to, 0 if one should
+unfoldable pub which : Bool → ℕ → ℕ → Pair → Pair → Pair → ℕ
+which g o n p q r =
+    cond g
+    (cond (eqb o (p .from) && eqb n (p .long)) 1 (
+    cond (eqb o (q .from) && eqb n (q .long)) 2 (
+    cond (eqb o (r .from) && eqb n (r .long)) 3 (
+    cond (leb n (r .long)) 4 0)))) 4
+
+-- a live slot at address a has the hash h, at the head of the slots ss, and the name of the entry at address c
+unfoldable pub clash-from : Edition → List ℕ → ℕ → ℕ → List Slot → Bool
+clash-from e b h c [] = false
+clash-from e b h c (s ∷ ss) =
+    let r = clash-from e b h c ss in
+    eqb (s .hash) h && ((not (eqb (s .addr) 0) && same-name e (name-of b (8 * c)) (name-of b (8 * s .addr))) || r)
+
+-- the first of the slots has this hash
+unfoldable pub runs-on : ℕ → List Slot → Bool
+runs-on h [] = false
+runs-on h (s ∷ ss) = eqb (s .hash) h
+
+-- TWICE in one pass over the slots
+unfoldable pub once-in : Edition → List ℕ → List Slot → Bool
+once-in e b [] = true
+once-in e b (s ∷ ss) = not (not (eqb (s .addr) 0) && clash-from e b (s .hash) (s .addr) ss) && once-in e b ss
+
+-- the names of the entries that the n slots at t address are within the block
+unfoldable pub Reach : List ℕ → ℕ → ℕ → Type 0
+Reach b t n = (i : ℕ) → i < n → (addr-at b t i ≡ 0 → ⊥) → 8 * addr-at b t i + 9 + byte (8 * addr-at b t i + 8) b ≤ length b
+
+-- the verdict on a block whose records are rs and slots ss, from BEST on, from NAME on, and from TILE on
+unfoldable pub after-index : Edition → List ℕ → List Rec → ℕ
+after-index e b rs = otherwise (best-ok (best-pairs e b) (gaps rs)) 9 (otherwise (once-ok e (entries rs)) 10 0)
+
+unfoldable pub after-tile : Edition → List ℕ → List Rec → List Slot → ℕ → ℕ
+after-tile e b rs ss m =
+    otherwise (names-ok e rs) 6 (
+    otherwise (numbers-ok e rs) 7 (
+    otherwise (index-ok e rs ss m) 8 (after-index e b rs)))
+
+unfoldable pub after-span : Edition → List ℕ → List Rec → List Slot → ℕ → ℕ
+after-span e b rs ss m = otherwise (tile-ok e rs) 5 (after-tile e b rs ss m)
+
+-- a block whose data ends at t and has n slots there, all counted
+pub record Parts (e : Edition) (b : List ℕ) (t n : ℕ) : Type 0 where
+  pub room : t + 8 * n ≤ length b
+  pub eights : t % 8 ≡ 0
+  pub least : e .header ≤ t
+  pub short : t < 65536
+  pub top : length b ≤ largest-block
+
+-- and whose data is tiled
+pub record Tiled (e : Edition) (b : List ℕ) (t n : ℕ) : Type 0 where
+  pub parts : Parts e b t n
+  pub tiles : tile-ok e (rest e b t (length b) (e .header)) ≡ true
+
+-- the places of the first i slots at t, by their addresses, in a table; the last slot at an address counts
+unfoldable pub filled : List ℕ → ℕ → List ℕ → ℕ → List ℕ
+filled b t M zero = M
+filled b t M (suc i) = set (filled b t M i) (addr-at b t i) (suc i)
+
+-- the slot that the table has for address a is one of the n, at that address, and has the hash h
+unfoldable pub hint : List ℕ → List ℕ → ℕ → ℕ → ℕ → ℕ → Bool
+hint M b t n a h =
+    let p = getD M a 0 in
+    leb 1 p && (leb p n && (eqb (addr-at b t (p - 1)) a && eqb (hash-at b t (p - 1)) h))

@@ -1,0 +1,32 @@
+-- What a walker meets, and where it then stands.
+-- Assumes nothing.
+use Prim.Native.Nat.{ℕ, zero, suc}
+use mathlib.Core.List.{List}
+use denote.Ref.{now}
+use Rattle.edition.specs.Edition.{v4}
+use Rattle.dir_block_rules.specs.declared.Walked.{Walked}
+use Rattle.dir_block_rules.specs.declared.Walked.the-variants.{Stepped, Refused}
+use Rattle.dir_block_rules.specs.Walk.{walk-step, step-code}
+use Rattle.dir_block_walker.specs.declared.Walker.{Walker}
+
+-- the plain walk's step from the walker's place
+abbrev pub met : Walker → Walked
+met w = walk-step v4 (now (w .block)) (w .place)
+
+-- the number of that step: 0, or its refusal's
+abbrev pub refusal : Walker → ℕ
+refusal w = step-code v4 (now (w .block)) (w .place)
+
+-- a step leads on; at the data's end it leads where it stood, and a refusal leaves the walker there
+abbrev pub place-after : ℕ → Walked → ℕ
+place-after p (Stepped s) = s .next
+place-after p (Refused k) = p
+
+-- the walker after its step: it holds the same block
+abbrev pub moved : Walker → Walker
+moved w = record { block = w .block; place = place-after (w .place) (met w) }
+
+-- where a walk over a block stands after n steps
+unfoldable pub nth-place : List ℕ → ℕ → ℕ
+nth-place b zero = v4 .header
+nth-place b (suc n) = place-after (nth-place b n) (walk-step v4 b (nth-place b n))

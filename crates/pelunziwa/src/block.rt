@@ -1,0 +1,78 @@
+// Block directories: the block is lent.
+ghost use mathlib.Core.Path.{_≡_};
+ghost use Rattle.edition.specs.Edition.{v4};
+ghost use Rattle.dir_block_rules.specs.Verdict.{verdict};
+ghost use Rattle.dir_block_rules.specs.Record.{target};
+ghost use Rattle.dir_block_rules.specs.Lookup.{lookup};
+ghost use Rattle.dir_block_rules.specs.Change.{insert-code, insert-block, remove-code, remove-block};
+ghost use Rattle.dir_block_rules.specs.Walk.{walk-step};
+ghost use Rattle.pelunziwa.specs.Answers.{as-found, as-seen, as-step};
+use crate::Found;
+use crate::Step;
+use dir_block_rules::Looked;
+use dir_block_rules::Seen;
+use dir_block_rules::Walked;
+
+// Tests a block.
+#[no_mangle]
+pub extern "C" fn pzw_block_test(block: &[u8]) -> u32
+    ensures { λ r. ⌜ r ≡ verdict v4 (now (block .entry)) ⌝ }
+{
+    crate::code(dir_block_test::test(block))
+}
+
+// The inode number stored with a name, and the names compared.
+#[no_mangle]
+pub extern "C" fn pzw_block_lookup(block: &[u8], name: &[u8]) -> Found
+    ensures { λ r. ⌜ r ≡ as-found (lookup v4 (now (block .entry)) (now (name .entry))) ⌝ }
+{
+    match dir_block_lookup::lookup(block, name) {
+        Looked::Found { number, compared } => crate::looked(0, number, compared),
+        Looked::Absent { compared } => crate::looked(13, 0, compared),
+        Looked::Refused(n) => crate::looked(crate::code(n), 0, 0),
+    }
+}
+
+// Puts an entry in.
+#[no_mangle]
+pub extern "C" fn pzw_block_insert(block: &mut [u8], name: &[u8], number: u64) -> u32
+    ensures { λ r. ⌜ (r ≡ insert-code v4 (now (block .entry)) (now (name .entry)) (target number 0))
+        × (now (block .exit) ≡ insert-block v4 (now (block .entry)) (now (name .entry)) (target number 0)) ⌝ }
+{
+    crate::code(dir_block_edit::insert(block, name, number))
+}
+
+// Takes an entry out.
+#[no_mangle]
+pub extern "C" fn pzw_block_remove(block: &mut [u8], name: &[u8]) -> u32
+    ensures { λ r. ⌜ (r ≡ remove-code v4 (now (block .entry)) (now (name .entry)))
+        × (now (block .exit) ≡ remove-block v4 (now (block .entry)) (now (name .entry))) ⌝ }
+{
+    crate::code(dir_block_edit::remove(block, name))
+}
+
+// What a step meets.
+fn seen_step(next: usize, seen: Seen) -> Step
+    ensures { λ r. ⌜ r ≡ as-seen next seen ⌝ }
+{
+    match seen {
+        Seen::Live(e) => crate::live(next, e.number, e.start, e.len),
+        Seen::Gap => crate::no_entry(0, 1, next),
+        Seen::End => crate::no_entry(0, 0, next),
+    }
+}
+
+// One step of the walk.
+#[no_mangle]
+pub extern "C" fn pzw_block_step(block: &[u8], place: u64) -> Step
+    ensures { λ r. ⌜ r ≡ as-step (walk-step v4 (now (block .entry)) place) ⌝ }
+{
+    match dir_block_lookup::step(block, place as usize) {
+        Walked::Stepped(t) => {
+            let next = t.next;
+            let seen = t.seen;
+            seen_step(next, seen)
+        }
+        Walked::Refused(n) => crate::no_entry(crate::code(n), 0, 0),
+    }
+}

@@ -1,0 +1,111 @@
+// What C and Rust call: each call of the library under a fixed name. An answer that is an enum goes out as a struct of numbers:
+// `refusal` is 0 or the refusal's number, and the other fields are 0 when it is not 0, except `compared` of a block lookup's 13.
+// include/pelunziwa.h declares the same structs and calls for C; the layouts are fixed.
+ghost use mathlib.Core.Path.{_≡_};
+ghost use Prim.Native.Nat.{_≤_};
+ghost use Rattle.pelunziwa.specs.Answers.{looked, live, no-entry};
+
+mod attr;
+mod block;
+mod inode;
+mod sfdir;
+
+// An inode's fields.
+#[repr(C)]
+pub struct Core {
+    pub refusal: u32,
+    pub magic: u32,
+    pub mode: u32,
+    pub version: u32,
+    pub format: u32,
+    pub forkoff: u32,
+    pub aformat: u32,
+    pub size: u64,
+}
+
+// A lookup in a directory: the inode number, and the names compared (0 in a short form).
+#[repr(C)]
+pub struct Found {
+    pub refusal: u32,
+    pub number: u64,
+    pub compared: u64,
+}
+
+// Where an attribute's value lies in the lent inode.
+#[repr(C)]
+pub struct Place {
+    pub refusal: u32,
+    pub start: u64,
+    pub len: u64,
+}
+
+// A step of a directory's walk; seen: 0 end, 1 gap, 2 live.
+#[repr(C)]
+pub struct Step {
+    pub refusal: u32,
+    pub seen: u32,
+    pub next: u64,
+    pub number: u64,
+    pub name_start: u64,
+    pub name_len: u64,
+}
+
+// A step of an attribute walk; seen: 0 end, 2 live.
+#[repr(C)]
+pub struct AttrStep {
+    pub refusal: u32,
+    pub seen: u32,
+    pub next: u64,
+    pub flags: u64,
+    pub name_start: u64,
+    pub name_len: u64,
+    pub value_start: u64,
+    pub value_len: u64,
+}
+
+// The number of a refusal, or 0 for done: at most 16, so that no bits are lost.
+fn code(n: usize) -> u32
+    requires { ⌜ n ≤ 16 ⌝ }
+    ensures { λ r. ⌜ r ≡ n ⌝ }
+{
+    n as u32
+}
+
+// What a lookup in a directory gives.
+fn looked(refusal: u32, number: u64, compared: usize) -> Found
+    ensures { λ r. ⌜ r ≡ looked refusal number compared ⌝ }
+{
+    Found {
+        refusal,
+        number,
+        compared: compared as u64,
+    }
+}
+
+// A step that meets a live entry.
+fn live(next: usize, number: u64, start: usize, len: usize) -> Step
+    ensures { λ r. ⌜ r ≡ live next number start len ⌝ }
+{
+    Step {
+        refusal: 0,
+        seen: 2,
+        next: next as u64,
+        number,
+        name_start: start as u64,
+        name_len: len as u64,
+    }
+}
+
+// A step that meets none.
+fn no_entry(refusal: u32, seen: u32, next: usize) -> Step
+    ensures { λ r. ⌜ r ≡ no-entry refusal seen next ⌝ }
+{
+    Step {
+        refusal,
+        seen,
+        next: next as u64,
+        number: 0,
+        name_start: 0,
+        name_len: 0,
+    }
+}

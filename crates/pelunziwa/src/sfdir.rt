@@ -1,0 +1,78 @@
+// Short-form directories: the inode is lent, and the filesystem's directory block size told.
+ghost use mathlib.Core.Path.{_≡_};
+ghost use Rattle.edition.specs.Edition.{v4};
+ghost use Rattle.dir_sf.specs.Inode.{verdict, lookup-answer, insert-number, remove-number, after-insert, after-remove};
+ghost use Rattle.dir_sf.specs.Walk.{step-answer};
+ghost use Rattle.pelunziwa.specs.Answers.{as-found-sf, as-seen-sf, as-step-sf};
+use crate::Found;
+use crate::Step;
+use dir_sf::Looked;
+use dir_sf::Seen;
+use dir_sf::Walked;
+
+// Tests a directory.
+#[no_mangle]
+pub extern "C" fn pzw_sfdir_test(inode: &[u8], told: u64) -> u32
+    ensures { λ r. ⌜ r ≡ verdict v4 told (now (inode .entry)) ⌝ }
+{
+    crate::code(dir_sf::test(inode, told as usize))
+}
+
+// The inode number stored with a name; ".." gives the parent.
+#[no_mangle]
+pub extern "C" fn pzw_sfdir_lookup<'a, 'b>(inode: &'a [u8], told: u64, name: &'b [u8]) -> Found
+    ensures { λ r. ⌜ r ≡ as-found-sf (lookup-answer v4 told (now (inode .entry)) (now (name .entry))) ⌝ }
+{
+    match dir_sf::lookup(inode, told as usize, name) {
+        Looked::Found { number } => crate::looked(0, number, 0),
+        Looked::Refused(n) => crate::looked(crate::code(n), 0, 0),
+    }
+}
+
+// Puts an entry in.
+#[no_mangle]
+pub extern "C" fn pzw_sfdir_insert<'a, 'b>(
+    inode: &'a mut [u8],
+    told: u64,
+    name: &'b [u8],
+    number: u64,
+) -> u32
+    ensures { λ r. ⌜ (r ≡ insert-number v4 told (now (inode .entry)) (now (name .entry)) 0 number)
+        × (now (inode .exit) ≡ after-insert v4 told (now (inode .entry)) (now (name .entry)) 0 number) ⌝ }
+{
+    crate::code(dir_sf_edit::insert(inode, told as usize, name, number))
+}
+
+// Takes an entry out.
+#[no_mangle]
+pub extern "C" fn pzw_sfdir_remove<'a, 'b>(inode: &'a mut [u8], told: u64, name: &'b [u8]) -> u32
+    ensures { λ r. ⌜ (r ≡ remove-number v4 told (now (inode .entry)) (now (name .entry)))
+        × (now (inode .exit) ≡ after-remove v4 told (now (inode .entry)) (now (name .entry))) ⌝ }
+{
+    crate::code(dir_sf_edit::remove(inode, told as usize, name))
+}
+
+// What a step meets.
+fn seen_step(next: usize, seen: Seen) -> Step
+    ensures { λ r. ⌜ r ≡ as-seen-sf next seen ⌝ }
+{
+    match seen {
+        Seen::Live(e) => crate::live(next, e.number, e.start, e.len),
+        Seen::End => crate::no_entry(0, 0, next),
+    }
+}
+
+// One step of the walk, from a place counted from the fork's start.
+#[no_mangle]
+pub extern "C" fn pzw_sfdir_step(inode: &[u8], told: u64, place: u64) -> Step
+    ensures { λ r. ⌜ r ≡ as-step-sf (step-answer v4 told (now (inode .entry)) place) ⌝ }
+{
+    match dir_sf::step_at(inode, told as usize, place as usize) {
+        Walked::Stepped(t) => {
+            let next = t.next;
+            let seen = t.seen;
+            seen_step(next, seen)
+        }
+        Walked::Refused(n) => crate::no_entry(crate::code(n), 0, 0),
+    }
+}
