@@ -13,7 +13,7 @@ use borrow.Author.Tests.{ne-eqb}
 use Rattle.be.specs.Bytes.{put}
 use Rattle.be.proofs.Bools.{by-cases}
 use Rattle.be.proofs.Writes.{put-whole, put-same}
-use Rattle.be.specs.Codes.{and-then}
+use Rattle.be.specs.Codes.{_and-then_}
 use Rattle.edition.specs.declared.Edition.{Edition}
 use Rattle.dinode.specs.Core.{attr-start, attr-fork}
 use Rattle.dinode.specs.declared.Fork.the-variants.{At, Refused}
@@ -43,15 +43,15 @@ module _ (e : Edition) (b : List ℕ) where
   module _ (n : ℕ) where
     -- the tests have passed: the change is the fork's
     change-at : {s m : ℕ} {new : List ℕ} (k : ℕ) (xs : List Entry) → At s m ≡ fork-if n e b → s ≤ length b → length new ≡ length (take (length b - s) (drop s b))
-        → new ≡ fork-changed (attr-fork e b) k xs → putMid s (length b - s) b new ≡ changed e b (and-then n k) xs
+        → new ≡ fork-changed (attr-fork e b) k xs → putMid s (length b - s) b new ≡ changed e b (n and-then k) xs
     change-at {s} {m} {new} k xs h i l w =
         let z = if-passed e b n s m h in lent-put s b new i (l ∙ lent-length s b) ∙ rw (z .0, z .1, w) (put-changed k xs)
 
-    code-at : {s m k r : ℕ} → At s m ≡ fork-if n e b → r ≡ k → r ≡ and-then n k
+    code-at : {s m k r : ℕ} → At s m ≡ fork-if n e b → r ≡ k → r ≡ (n and-then k)
     code-at h q = rw (if-passed e b n _ _ h .0) q
 
     -- they have not: nothing changes
-    change-refused : {r : ℕ} (k : ℕ) (xs : List Entry) → Refused r ≡ fork-if n e b → (r ≡ and-then n k) × (b ≡ changed e b (and-then n k) xs)
+    change-refused : {r : ℕ} (k : ℕ) (xs : List Entry) → Refused r ≡ fork-if n e b → (r ≡ (n and-then k)) × (b ≡ changed e b (n and-then k) xs)
     unfolding changed
     change-refused {r} k xs h =
         let z = if-refused e b n r h in

@@ -9,9 +9,10 @@ use lib.Dec.{eqb}
 use lib.ListN.{length, take, drop, length-drop}
 use lib.Seq.{take-all}
 use borrow.Author.Tests.{ne-eqb, eqb-true, eqb-false}
+use Rattle.refusal.specs.Refusal.{ASKED}
 use Rattle.be.proofs.Codes.{both}
 use Rattle.be.proofs.Bools.{by-cases, and-left, and-right}
-use Rattle.be.specs.Codes.{and-then}
+use Rattle.be.specs.Codes.{_and-then_}
 use Rattle.edition.specs.declared.Edition.{Edition}
 use Rattle.name.specs.Name.{legal-attr-name}
 use Rattle.name.proofs.Legality.{attr-bounds}
@@ -99,14 +100,14 @@ module _ (e : Edition) (b : List ℕ) where
 
     -- one test more
     module _ (k : ℕ) where
-      pub then-at : (s m : ℕ) → At s m ≡ fork-if n e b → k ≡ 0 → At s m ≡ fork-if (and-then n k) e b
+      pub then-at : (s m : ℕ) → At s m ≡ fork-if n e b → k ≡ 0 → At s m ≡ fork-if (n and-then k) e b
       then-at s m h z = let q : n ≡ 0 = if-passed s m h .0 in rw (q, z) (rw q at h)
 
-      pub then-not : (s m : ℕ) → At s m ≡ fork-if n e b → (k ≡ 0 → ⊥) → Refused k ≡ fork-if (and-then n k) e b
+      pub then-not : (s m : ℕ) → At s m ≡ fork-if n e b → (k ≡ 0 → ⊥) → Refused k ≡ fork-if (n and-then k) e b
       unfolding fork-if
       then-not s m h z = rw (if-passed s m h .0, ne-eqb k 0 z)
 
-      pub then-refused : (r : ℕ) → Refused r ≡ fork-if n e b → Refused r ≡ fork-if (and-then n k) e b
+      pub then-refused : (r : ℕ) → Refused r ≡ fork-if n e b → Refused r ≡ fork-if (n and-then k) e b
       then-refused r h = rw (ne-eqb n 0 (if-refused r h .1)) h
 
   -- ---- in the code's order: the fork of the inode, its tests, what was asked
@@ -138,7 +139,7 @@ module _ (e : Edition) (b : List ℕ) where
         rw (lent-fork s (z .1), z .1) (start-inside i, (fork-passed (z .0), omega (arith, fork-length i, inode-short i)))
 
     module _ (name : List ℕ) (flags : ℕ) where
-      pub asked-not : At s m ≡ fork-if (attr-code e b) e b → legal-key name flags ≡ false → Refused 11 ≡ fork-if (asked-code e b name flags) e b
+      pub asked-not : At s m ≡ fork-if (attr-code e b) e b → legal-key name flags ≡ false → Refused ASKED ≡ fork-if (asked-code e b name flags) e b
       unfolding asked-code
       asked-not h k = rw k (then-not (attr-code e b) 11 s m h (λ q. omega arith))
 

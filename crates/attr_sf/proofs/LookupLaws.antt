@@ -8,6 +8,7 @@ use mathlib.Core.List.{List, [], _∷_, _++_}
 use lib.Dec.{eqb}
 use lib.ListN.{length, take, drop}
 use borrow.Author.Tests.{eqb-true, eqb-false, ne-eqb, ltb-true}
+use Rattle.refusal.specs.Refusal.{ABSENT}
 use Rattle.be.specs.Lists.{some-of, keep}
 use Rattle.be.proofs.Bools.{by-cases, neither, keep-append}
 use Rattle.edition.specs.declared.Edition.{Edition}
@@ -113,11 +114,11 @@ module _ (e : Edition) (b name : List ℕ) (flags : ℕ) (a : asked-code e b nam
       let r = attr-at (attr-start e b) (attr-fork e b) (place-of (attr-fork e b) name flags) in
       rw (a, q) (part-at-is b (r .«value_start») (r .«value_len») ∙ parts-law e b (place-of (attr-fork e b) name flags) .1)
 
-  looked-none : held (attr-fork e b) name flags ≡ false → looked-up e b name flags ≡ Refused 13
+  looked-none : held (attr-fork e b) name flags ≡ false → looked-up e b name flags ≡ Refused ABSENT
   unfolding looked-up found-in
   looked-none q = rw (a, q)
 
-  pub absent-if : some-of (is-key name flags) (stored (attr-fork e b)) ≡ false → looked-up e b name flags ≡ Refused 13
+  pub absent-if : some-of (is-key name flags) (stored (attr-fork e b)) ≡ false → looked-up e b name flags ≡ Refused ABSENT
   absent-if n = looked-none (held-some (attr-fork e b) name flags z ∙ n)
 
   pub value-by : part-of b (looked-up e b name flags) ≡ value-among (keep (is-key name flags) (stored (attr-fork e b)))

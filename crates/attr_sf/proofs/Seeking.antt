@@ -9,6 +9,7 @@ use mathlib.Core.List.{List}
 use lib.Dec.{ltb}
 use lib.ListN.{length}
 use borrow.Author.Tests.{lt-ltb, le-ltb, ltb-true}
+use Rattle.refusal.specs.Refusal.{ABSENT}
 use Rattle.be.specs.Bytes.{byte, field}
 use Rattle.be.proofs.Bools.{by-cases}
 use Rattle.attr_sf.specs.declared.Place.{Place}
@@ -67,7 +68,7 @@ module _ (f name : List ℕ) (flags : ℕ) where
   unfolding found-in held attr-at totsize
   found-at s {p} {t} q d h = rw (← q, ← d, lt-ltb p t h)
 
-  pub found-not : (s : ℕ) {p t : ℕ} → p ≡ place-of f name flags → t ≡ field 0 2 f → t ≤ p → Refused 13 ≡ found-in s f name flags
+  pub found-not : (s : ℕ) {p t : ℕ} → p ≡ place-of f name flags → t ≡ field 0 2 f → t ≤ p → Refused ABSENT ≡ found-in s f name flags
   unfolding found-in held totsize
   found-not s {p} {t} q d h = rw (← q, ← d, le-ltb p t h)
 

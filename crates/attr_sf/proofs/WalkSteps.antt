@@ -8,6 +8,7 @@ use mathlib.Core.List.{List}
 use lib.Dec.{eqb}
 use lib.ListN.{length, take, drop}
 use borrow.Author.Tests.{eq-eqb, ne-eqb, eqb-true}
+use Rattle.refusal.specs.Refusal.{ASKED}
 use Rattle.be.proofs.Bools.{by-cases}
 use Rattle.be.specs.Bytes.{byte, field}
 use Rattle.edition.specs.declared.Edition.{Edition}
@@ -70,7 +71,7 @@ module _ (f : List ℕ) (place : ℕ) where
         omega (arith, stands-fits (totsize f) (count f) header (all-tiled f z) (rw m at h) (λ q. d (q ∙ sym e)), end-inside f z)
 
     module _ (s : ℕ) where
-      pub walk-not : stands f place n header ≡ false → Refused 11 ≡ walked-in s f place
+      pub walk-not : stands f place n header ≡ false → Refused ASKED ≡ walked-in s f place
       unfolding walked-in count
       walk-not h = rw (← m, h)
 

@@ -5,7 +5,8 @@ use mathlib.Core.Bool.{Bool, cond, _&&_}
 use mathlib.Core.List.{List, [], _∷_, _++_}
 use lib.Dec.{eqb, leb, ltb}
 use lib.ListN.{length}
-use Rattle.be.specs.Codes.{otherwise, and-then}
+use Rattle.refusal.specs.Refusal.{ASKED, ABSENT, NOROOM}
+use Rattle.be.specs.Codes.{_unless_then_, _and-then_}
 use Rattle.be.specs.Bytes.{byte, part, put}
 use Rattle.edition.specs.declared.Edition.{Edition}
 use Rattle.dinode.specs.Core.{attributes-code, attr-start, attr-length, attr-fork}
@@ -21,11 +22,11 @@ use Rattle.attr_sf.specs.declared.Place.the-variants.{At, Refused}
 
 -- the first test of the inode and its attribute fork that fails; 0 when none does
 unfoldable pub attr-code : Edition → List ℕ → ℕ
-attr-code e b = and-then (attributes-code e b) (fork-code (attr-fork e b))
+attr-code e b = attributes-code e b and-then fork-code (attr-fork e b)
 
 -- 11 ASKED: the caller's name or flags are not legal
 unfoldable pub asked-code : Edition → List ℕ → List ℕ → ℕ → ℕ
-asked-code e b name flags = and-then (attr-code e b) (otherwise (legal-key name flags) 11 0)
+asked-code e b name flags = attr-code e b and-then ASKED unless legal-key name flags then 0
 
 -- where the attribute fork lies, or the tests' number (inner: no public promise cites it)
 unfoldable pub fork-if : ℕ → Edition → List ℕ → Fork
@@ -39,10 +40,10 @@ held f name flags = ltb (place-of f name flags) (totsize f)
 
 -- 13 ABSENT: lookup or removal: no such live entry
 unfoldable pub held-code : List ℕ → List ℕ → ℕ → ℕ
-held-code f name flags = otherwise (held f name flags) 13 0
+held-code f name flags = ABSENT unless held f name flags then 0
 
 unfoldable pub found-code : Edition → List ℕ → List ℕ → ℕ → ℕ
-found-code e b name flags = and-then (asked-code e b name flags) (held-code (attr-fork e b) name flags)
+found-code e b name flags = asked-code e b name flags and-then held-code (attr-fork e b) name flags
 
 -- the entry at a place of the fork that starts at s: where its name and its value lie in the inode
 unfoldable pub attr-at : ℕ → List ℕ → ℕ → Attr
@@ -58,7 +59,7 @@ attr-at s f at =
 -- where the value lies in the inode whose attribute fork starts at s
 unfoldable pub found-in : ℕ → List ℕ → List ℕ → ℕ → Place
 found-in s f name flags =
-    let a = attr-at s f (place-of f name flags) in cond (held f name flags) (At (a .«value_start») (a .«value_len»)) (Refused 13)
+    let a = attr-at s f (place-of f name flags) in cond (held f name flags) (At (a .«value_start») (a .«value_len»)) (Refused ABSENT)
 
 -- what a lookup answers: where the value lies in the inode, or the refusal
 unfoldable pub looked-up : Edition → List ℕ → List ℕ → ℕ → Place
@@ -93,10 +94,10 @@ unfoldable pub room : List ℕ → List ℕ → ℕ → List ℕ → Bool
 room f name flags value = leb (length value) 255 && fits f (set-entries name flags value (stored f))
 
 unfoldable pub room-code : List ℕ → List ℕ → ℕ → List ℕ → ℕ
-room-code f name flags value = otherwise (room f name flags value) 15 0
+room-code f name flags value = NOROOM unless room f name flags value then 0
 
 unfoldable pub set-code : Edition → List ℕ → List ℕ → ℕ → List ℕ → ℕ
-set-code e b name flags value = and-then (asked-code e b name flags) (room-code (attr-fork e b) name flags value)
+set-code e b name flags value = asked-code e b name flags and-then room-code (attr-fork e b) name flags value
 
 -- the fork after a change with this number and these entries
 unfoldable pub fork-changed : List ℕ → ℕ → List Entry → List ℕ

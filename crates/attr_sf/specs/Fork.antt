@@ -5,7 +5,8 @@ use mathlib.Core.Bool.{Bool, cond, _&&_}
 use mathlib.Core.List.{List, [], _∷_, _++_}
 use lib.Dec.{eqb, leb}
 use lib.ListN.{length, replicate}
-use Rattle.be.specs.Codes.{otherwise}
+use Rattle.refusal.specs.Refusal.{SPAN, TILE, NAME, NUMBER, TWICE}
+use Rattle.be.specs.Codes.{_unless_then_}
 use Rattle.be.specs.Lists.{every}
 use Rattle.be.specs.Bytes.{byte, field, part, to-be}
 use Rattle.name.specs.Name.{legal-attr-name}
@@ -72,7 +73,7 @@ flags-ok f = every flags-legal-of (stored f)
 
 -- 6 and 7 of these entries, by number (inner: no public promise cites it)
 abbrev pub own-code : List Entry → ℕ
-own-code xs = otherwise (every name-legal-of xs) 6 (otherwise (every flags-legal-of xs) 7 0)
+own-code xs = NAME unless every name-legal-of xs then NUMBER unless every flags-legal-of xs then 0
 
 -- 10 TWICE: same name and flags
 unfoldable pub once-ok : List ℕ → Bool
@@ -81,11 +82,11 @@ once-ok f = distinct (stored f)
 -- the first test that fails, by its number; 0 when none does
 unfoldable pub fork-code : List ℕ → ℕ
 fork-code f =
-    otherwise (span-ok f) 4 (
-    otherwise (tile-ok f) 5 (
-    otherwise (names-ok f) 6 (
-    otherwise (flags-ok f) 7 (
-    otherwise (once-ok f) 10 0))))
+    SPAN unless span-ok f then
+    TILE unless tile-ok f then
+    NAME unless names-ok f then
+    NUMBER unless flags-ok f then
+    TWICE unless once-ok f then 0
 
 -- where the entry with this name and flags starts, among n entries from a place on; their end when none has them
 unfoldable pub seek : List ℕ → List ℕ → ℕ → ℕ → ℕ → ℕ

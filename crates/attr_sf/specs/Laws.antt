@@ -6,6 +6,7 @@ use mathlib.Core.List.{List, [], _∷_, _++_, map}
 use mathlib.Core.Bool.{true, false, _||_}
 use lib.Dec.{eqb}
 use lib.ListN.{length, take, drop, replicate}
+use Rattle.refusal.specs.Refusal.{ABSENT}
 use Rattle.be.specs.Bytes.{bytes, byte, part}
 use Rattle.be.specs.Lists.{some-of}
 use Rattle.edition.specs.Edition.{Sane}
@@ -36,7 +37,7 @@ pub record Removed (e : Edition) (b name : List ℕ) (flags : ℕ) (c : List ℕ
   -- every other attribute is as before, in order
   pub rest : stored (attr-fork e c) ≡ others name flags (stored (attr-fork e b))
   -- the one asked for is absent
-  pub gone : looked-up e c name flags ≡ Refused 13
+  pub gone : looked-up e c name flags ≡ Refused ABSENT
 
 pub record Set (e : Edition) (b name : List ℕ) (flags : ℕ) (value c : List ℕ) : Type 0 where
   pub left : Kept e b c
@@ -88,7 +89,7 @@ Found-law = (e : Edition) (b name : List ℕ) (flags : ℕ) → place-code (look
 
 -- an absent answer means that no stored entry has the name and the flags
 abbrev pub Absent-law : Type 0
-Absent-law = (e : Edition) (b name : List ℕ) (flags : ℕ) → looked-up e b name flags ≡ Refused 13
+Absent-law = (e : Edition) (b name : List ℕ) (flags : ℕ) → looked-up e b name flags ≡ Refused ABSENT
     → some-of (is-key name flags) (stored (attr-fork e b)) ≡ false
 
 -- ---- the walk

@@ -4,7 +4,8 @@ use Prim.Native.Nat.{ℕ, zero, suc, _+_}
 use mathlib.Core.Bool.{Bool, true, false, cond, _||_}
 use mathlib.Core.List.{List, [], _∷_}
 use lib.Dec.{eqb}
-use Rattle.be.specs.Codes.{and-then, otherwise}
+use Rattle.refusal.specs.Refusal.{ASKED}
+use Rattle.be.specs.Codes.{_and-then_, _unless_then_}
 use Rattle.edition.specs.declared.Edition.{Edition}
 use Rattle.dinode.specs.Core.{attr-start, attr-fork}
 use Rattle.attr_sf.specs.Fork.{header, totsize, count, size-at}
@@ -22,7 +23,7 @@ stands f place (suc n) at = eqb place at || stands f place n (at + size-at f at)
 
 -- 11 ASKED: the walk place is not legal, judged after the tests
 unfoldable pub step-code : Edition → List ℕ → ℕ → ℕ
-step-code e b place = and-then (attr-code e b) (otherwise (stands (attr-fork e b) place (count (attr-fork e b)) header) 11 0)
+step-code e b place = attr-code e b and-then ASKED unless stands (attr-fork e b) place (count (attr-fork e b)) header then 0
 
 -- a step at an entry of the fork that starts at s
 unfoldable pub live-step : ℕ → List ℕ → ℕ → Step
@@ -37,7 +38,7 @@ step-in s f place = cond (eqb place (totsize f)) (end-step place) (live-step s f
 
 -- what a step answers: live entry or end, together with where the walk now stands; or the refusal
 unfoldable pub walked-in : ℕ → List ℕ → ℕ → Walked
-walked-in s f place = cond (stands f place (count f) header) (Stepped (step-in s f place)) (Refused 11)
+walked-in s f place = cond (stands f place (count f) header) (Stepped (step-in s f place)) (Refused ASKED)
 
 unfoldable pub walked : Edition → List ℕ → ℕ → Walked
 walked e b place = cond (eqb (attr-code e b) 0) (walked-in (attr-start e b) (attr-fork e b) place) (Refused (attr-code e b))

@@ -144,7 +144,7 @@ fn faults(f: &[u8], n: usize, end: usize) -> usize
     let mut flagged = true;
     while 0 < left {
         if !name_ok(f, at) {
-            return 6;
+            return refusal::NAME;
         }
         flagged = flagged & flags_ok(f, at);
         at += size(f, at);
@@ -153,7 +153,7 @@ fn faults(f: &[u8], n: usize, end: usize) -> usize
     if flagged {
         return 0;
     }
-    7
+    refusal::NUMBER
 }
 
 // Where the entry with this name and flags starts, among n entries from a place on; their end when none has them.
@@ -214,25 +214,25 @@ fn code_of_fork(f: &[u8]) -> usize
     ensures { λ r. ⌜ r ≡ fork-code (now (f .entry)) ⌝ }
 {
     if f.len() < HEADER {
-        return 4;
+        return refusal::SPAN;
     }
     let end = be::be16(f, 0);
     if end < HEADER {
-        return 4;
+        return refusal::SPAN;
     }
     if f.len() < end {
-        return 4;
+        return refusal::SPAN;
     }
     let n = be::be8(f, 2);
     if !tiles(f, n, end) {
-        return 5;
+        return refusal::TILE;
     }
     let k = faults(f, n, end);
     if k != 0 {
         return k;
     }
     if !once(f, n, end) {
-        return 10;
+        return refusal::TWICE;
     }
     0
 }
@@ -279,7 +279,7 @@ fn asked<'a, 'b>(e: Edition, b: &'a [u8], name: &'b [u8], flags: usize) -> Fork
     match tested(e, b) {
         Fork::At(start, len) => {
             if !key_legal(name, flags) {
-                return Fork::Refused(11);
+                return Fork::Refused(refusal::ASKED);
             }
             Fork::At(start, len)
         }
@@ -307,7 +307,7 @@ fn find_in<'a, 'b>(f: &'a [u8], s: usize, name: &'b [u8], flags: usize) -> Place
         let name_len = be::be8(f, at);
         return Place::At(s + (at + 3 + name_len), be::be8(f, at + 1));
     }
-    Place::Refused(13)
+    Place::Refused(refusal::ABSENT)
 }
 
 fn look<'a, 'b>(e: Edition, b: &'a [u8], name: &'b [u8], flags: usize) -> Place
@@ -391,7 +391,7 @@ fn walk_in(f: &[u8], s: usize, place: usize) -> Walked
     let end = be::be16(f, 0);
     let n = be::be8(f, 2);
     if !stands_in(f, n, end, place) {
-        return Walked::Refused(11);
+        return Walked::Refused(refusal::ASKED);
     }
     if place == end {
         let seen = Seen::End;
@@ -501,7 +501,7 @@ fn remove_in<'a, 'b>(f: &'a mut [u8], name: &'b [u8], flags: usize) -> usize
     let kept = p.kept;
     let end = p.end;
     if end <= at {
-        return 13;
+        return refusal::ABSENT;
     }
     close(f, end, at, size);
     head(f, end - size, kept);
@@ -519,15 +519,15 @@ fn set_in<'a, 'b, 'c>(f: &'a mut [u8], name: &'b [u8], flags: usize, value: &'c 
     let kept = p.kept;
     let end = p.end;
     if 255 < value.len() {
-        return 15;
+        return refusal::NOROOM;
     }
     if 254 < kept {
-        return 15;
+        return refusal::NOROOM;
     }
     let to = end - size;
     let total = to + 3 + name.len() + value.len();
     if f.len() < total {
-        return 15;
+        return refusal::NOROOM;
     }
     close(f, end, at, size);
     write_entry(f, to, name, flags, value);

@@ -4,10 +4,12 @@ use Prim.Native.Nat.{ℕ}
 use mathlib.Core.Bool.{Bool, cond}
 use lib.Dec.{eqb}
 
--- a test with its number, and the answer of those behind it
-abbrev pub otherwise : Bool → ℕ → ℕ → ℕ
-otherwise t n rest = cond t rest n
+infixr 10 _unless_then_ _and-then_
 
--- tests that gave n, and the answer of those behind them
-abbrev pub and-then : ℕ → ℕ → ℕ
-and-then n rest = otherwise (eqb n 0) n rest
+-- the answer of a test that fails, and behind it the answer of those that follow: 'SIZE unless size-ok b then ..'
+abbrev pub _unless_then_ : {A : Type 0} → A → Bool → A → A
+x unless t then rest = cond t rest x
+
+-- the number of tests that stand together, and behind it the number of those that follow
+abbrev pub _and-then_ : ℕ → ℕ → ℕ
+n and-then rest = n unless eqb n 0 then rest

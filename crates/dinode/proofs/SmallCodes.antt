@@ -3,19 +3,20 @@
 use Prim.Native.Nat.{ℕ, _≤_}
 use mathlib.Core.List.{List}
 use borrow.Author.Tests.{leb-true}
-use Rattle.be.proofs.Codes.{otherwise-le}
+use Rattle.refusal.specs.Refusal.{HIGHEST}
+use Rattle.be.proofs.Codes.{unless-le}
 use Rattle.edition.specs.declared.Edition.{Edition}
 use Rattle.dinode.specs.Core.{inode-code, directory-code, attributes-code}
 
 module _ (e : Edition) (b : List ℕ) where
-  pub inode-small : inode-code e b ≤ 16
+  pub inode-small : inode-code e b ≤ HIGHEST
   unfolding inode-code
-  inode-small = search (otherwise-le, leb-true)
+  inode-small = search (unless-le, leb-true)
 
-  pub directory-small : directory-code e b ≤ 16
+  pub directory-small : directory-code e b ≤ HIGHEST
   unfolding directory-code
-  directory-small = search (otherwise-le, inode-small, leb-true)
+  directory-small = search (unless-le, inode-small, leb-true)
 
-  pub attributes-small : attributes-code e b ≤ 16
+  pub attributes-small : attributes-code e b ≤ HIGHEST
   unfolding attributes-code
-  attributes-small = search (otherwise-le, inode-small, leb-true)
+  attributes-small = search (unless-le, inode-small, leb-true)

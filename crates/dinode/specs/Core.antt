@@ -5,7 +5,8 @@ use mathlib.Core.Bool.{Bool, cond, not, _&&_, _||_}
 use mathlib.Core.List.{List}
 use lib.Dec.{eqb, leb}
 use lib.ListN.{length, drop}
-use Rattle.be.specs.Codes.{otherwise, and-then}
+use Rattle.refusal.specs.Refusal.{SIZE, MAGIC, KIND}
+use Rattle.be.specs.Codes.{_unless_then_, _and-then_}
 use Rattle.be.specs.Bytes.{byte, field, part}
 use Rattle.edition.specs.declared.Edition.{Edition}
 use Rattle.dinode.specs.declared.Core.{Core}
@@ -73,13 +74,13 @@ attributes-ok b = eqb (byte 83 b) 1 && not (eqb (byte 82 b) 0)
 -- the first test of an inode that fails, by its number; 0 when none does
 unfoldable pub inode-code : Edition → List ℕ → ℕ
 inode-code e b =
-    otherwise (inode-size (length b)) 1 (
-    otherwise (magic-ok b) 2 (
-    otherwise (kind-ok e b) 3 0))
+    SIZE unless inode-size (length b) then
+    MAGIC unless magic-ok b then
+    KIND unless kind-ok e b then 0
 
 -- the code of the tests so far, or 3 when a call asks more of the inode and that does not hold
 abbrev pub and-kind : ℕ → Bool → ℕ
-and-kind n good = and-then n (otherwise good 3 0)
+and-kind n good = n and-then KIND unless good then 0
 
 -- the code of an inode that has to be a local directory
 unfoldable pub directory-code : Edition → List ℕ → ℕ

@@ -73,16 +73,16 @@ pub fn code(e: Edition, b: &[u8]) -> usize
     ensures { λ r. ⌜ r ≡ inode-code e (now (b .entry)) ⌝ }
 {
     if !sized(b.len()) {
-        return 1;
+        return refusal::SIZE;
     }
     if be::be16(b, 0) != 0x494e {
-        return 2;
+        return refusal::MAGIC;
     }
     if !versioned(e, be::be8(b, 4)) {
-        return 3;
+        return refusal::KIND;
     }
     if b.len() < e.literal + 8 * be::be8(b, 82) {
-        return 3;
+        return refusal::KIND;
     }
     0
 }
@@ -126,7 +126,7 @@ pub fn code_of_directory(e: Edition, b: &[u8]) -> usize
     if directory(b) {
         return 0;
     }
-    3
+    refusal::KIND
 }
 
 // Tests 1 to 3 of an inode with attributes.
@@ -141,7 +141,7 @@ pub fn code_of_attributes(e: Edition, b: &[u8]) -> usize
     if attributes(b) {
         return 0;
     }
-    3
+    refusal::KIND
 }
 
 // The data fork of a local directory.

@@ -6,8 +6,9 @@ use mathlib.Core.Bool.{Bool, true, false, not, _&&_, and-true}
 use mathlib.Core.Path.{_≡_, refl, sym, _∙_, ap}
 use mathlib.Core.List.{List}
 use borrow.Author.Tests.{eq-eqb, ne-eqb}
+use Rattle.refusal.specs.Refusal.{ABSENT, EXISTS, NOROOM}
 use Rattle.be.proofs.Bools.{by-cases}
-use Rattle.be.specs.Codes.{otherwise}
+use Rattle.be.specs.Codes.{_unless_then_}
 use Rattle.edition.specs.declared.Edition.{Edition}
 use Rattle.name.specs.Name.{legal-name, fixed-name}
 use Rattle.dir_block_rules.specs.Verdict.{verdict, legal-target}
@@ -62,7 +63,7 @@ module _ (e : Edition) (b n : List ℕ) (i : Target) where
       (sym s, sym (rw (ne-eqb (insert-code e b n i) 0 (λ y. z (sym s ∙ y)))))
 
   module _ (t : ℕ) (tq : t ≡ verdict e b) (tz : t ≡ 0) where
-    insert-chain : insert-code e b n i ≡ asked-of (legal-name e n && legal-target e i) (fixed-name n) (otherwise (not (sought e b n .hit)) 14 (otherwise (has-room e b n) 15 0))
+    insert-chain : insert-code e b n i ≡ asked-of (legal-name e n && legal-target e i) (fixed-name n) (EXISTS unless not (sought e b n .hit) then NOROOM unless has-room e b n then 0)
     unfolding insert-code asked-of
     insert-chain = rw (eq-eqb (verdict e b) 0 (sym tq ∙ tz)) refl
 
@@ -81,7 +82,7 @@ module _ (e : Edition) (b n : List ℕ) where
       (sym s, sym (rw (ne-eqb (remove-code e b n) 0 (λ y. z (sym s ∙ y)))))
 
   module _ (t : ℕ) (tq : t ≡ verdict e b) (tz : t ≡ 0) where
-    remove-chain : remove-code e b n ≡ asked-of (legal-name e n) (fixed-name n) (otherwise (sought e b n .hit) 13 0)
+    remove-chain : remove-code e b n ≡ asked-of (legal-name e n) (fixed-name n) (ABSENT unless sought e b n .hit then 0)
     unfolding remove-code asked-of
     remove-chain = rw (eq-eqb (verdict e b) 0 (sym tq ∙ tz)) refl
 

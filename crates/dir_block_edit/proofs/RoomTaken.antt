@@ -5,9 +5,10 @@ use mathlib.Core.Bool.{true, false, not}
 use mathlib.Core.Path.{_≡_, refl, sym, _∙_, ap}
 use mathlib.Core.List.{List, [], _∷_, _++_}
 use lib.ListN.{length}
+use Rattle.refusal.specs.Refusal.{EXISTS, NOROOM}
 use Rattle.be.specs.Lists.{without-first, keep}
 use Rattle.be.specs.Bytes.{written}
-use Rattle.be.specs.Codes.{otherwise}
+use Rattle.be.specs.Codes.{_unless_then_}
 use Rattle.edition.specs.declared.Edition.{Edition}
 use Rattle.edition.specs.Edition.{entry-size, Sane}
 use Rattle.dir_block_rules.specs.Record.{size, gap-writes, gaps}
@@ -72,7 +73,7 @@ module _ (e : Edition) (b n : List ℕ) (i : Target) (o₁ l₁ o₂ l₂ o₃ l
 -- ---- the answer
 
 module _ (e : Edition) (sane : Sane e) (b n : List ℕ) (i : Target) (r : Ready e b) (ln : legal-name e n ≡ true) (li : legal-target e i ≡ true) (fx : fixed-name n ≡ false) where
-  chain : insert-code e b n i ≡ otherwise (not (sought e b n .hit)) 14 (otherwise (has-room e b n) 15 0)
+  chain : insert-code e b n i ≡ (EXISTS unless not (sought e b n .hit) then NOROOM unless has-room e b n then 0)
   chain = insert-code-is e sane b (r .are-bytes) (r .ok) n i ∙ rw (ln, li, fx)
 
   pub insert-there : sought e b n .hit ≡ true → (14 ≡ insert-code e b n i) × (b ≡ insert-block e b n i)

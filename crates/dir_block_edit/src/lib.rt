@@ -115,7 +115,7 @@ pub fn remove_ready(e: Edition, b: &mut [u8], name: &[u8]) -> usize
         remove_found(e, b, end, f.place, f.at, name);
         return 0;
     }
-    13
+    refusal::ABSENT
 }
 
 // The file type, where the edition has one.
@@ -380,14 +380,14 @@ pub fn insert_ready(e: Edition, b: &mut [u8], to: Target, name: &[u8]) -> usize
     let f = dir_block_lookup::seek(e, &b[..], end, c, name);
     let hit = f.hit;
     if hit {
-        return 14;
+        return refusal::EXISTS;
     }
     let room = choose(e, b, end, c, s, to, name);
     if room {
         dir_block_scan::best_table(e, b);
         return 0;
     }
-    15
+    refusal::NOROOM
 }
 
 // The refusals of a request that need no search: 11 if the name is not legal or number is false, 12; 0 if there is none.
@@ -396,13 +396,13 @@ fn request(e: Edition, name: &[u8], number: bool) -> usize
     ensures { λ r. ⌜ r ≡ asked-of (legal-name e (now (name .entry)) && number) (fixed-name (now (name .entry))) 0 ⌝ }
 {
     if !name::legal(e, name) {
-        return 11;
+        return refusal::ASKED;
     }
     if !number {
-        return 11;
+        return refusal::ASKED;
     }
     if name::fixed(name) {
-        return 12;
+        return refusal::FIXED;
     }
     0
 }

@@ -5,6 +5,7 @@ use mathlib.Core.Bool.{true, false}
 use mathlib.Core.Path.{_≡_, refl}
 use mathlib.Core.List.{List}
 use borrow.Author.Tests.{ne-eqb}
+use Rattle.refusal.specs.Refusal.{ASKED}
 use Rattle.edition.specs.declared.Edition.{Edition}
 use Rattle.name.specs.Name.{legal-name}
 use Rattle.dir_block_rules.specs.declared.Looked.the-variants.{Found, Absent, Refused}
@@ -19,7 +20,7 @@ module _ (e : Edition) (b n : List ℕ) where
   unfolding lookup lookup-refusal
   lookup-block h = rw (ne-eqb (verdict e b) 0 h, ne-eqb (verdict e b) 0 h) refl
 
-  pub lookup-asked : Accepted e b → legal-name e n ≡ false → Refused 11 ≡ lookup e b n
+  pub lookup-asked : Accepted e b → legal-name e n ≡ false → Refused ASKED ≡ lookup e b n
   unfolding lookup lookup-refusal
   lookup-asked a l = rw (a, l) refl
 

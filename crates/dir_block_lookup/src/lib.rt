@@ -140,7 +140,7 @@ fn lookup_in(e: Edition, b: &[u8], name: &[u8]) -> Looked
         return Looked::Refused(n);
     }
     if !name::legal(e, name) {
-        return Looked::Refused(11);
+        return Looked::Refused(refusal::ASKED);
     }
     lookup_ready(e, b, name)
 }
@@ -211,7 +211,7 @@ fn step_in(e: Edition, b: &[u8], p: usize) -> Walked
     }
     let end = end_of_data(e, b);
     if !stands(e, b, end, p) {
-        return Walked::Refused(11);
+        return Walked::Refused(refusal::ASKED);
     }
     Walked::Stepped(step_ready(e, b, end, p))
 }

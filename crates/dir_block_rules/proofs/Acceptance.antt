@@ -7,7 +7,7 @@ use mathlib.Core.Path.{_≡_, refl}
 use mathlib.Core.List.{List}
 use Rattle.be.proofs.Codes.{passes}
 use Rattle.be.specs.Lists.{every}
-use Rattle.be.specs.Codes.{otherwise}
+use Rattle.be.specs.Codes.{_unless_then_}
 use Rattle.edition.specs.declared.Edition.{Edition}
 use Rattle.dir_block_rules.specs.Record.{Rec, whole, apart, entries, gaps}
 use Rattle.dir_block_rules.specs.Block.{records, slots, stale-of}

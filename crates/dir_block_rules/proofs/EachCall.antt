@@ -9,7 +9,8 @@ use mathlib.Core.List.{List, _∷_}
 use lib.Dec.{eqb, leb}
 use lib.ListN.{length}
 use borrow.Author.Tests.{eqb-true, not-true, leb-true, le-leb, leb-false}
-use Rattle.be.specs.Codes.{otherwise}
+use Rattle.refusal.specs.Refusal.{ASKED, FIXED, ABSENT, EXISTS, NOROOM}
+use Rattle.be.specs.Codes.{_unless_then_}
 use Rattle.be.proofs.Codes.{passes}
 use Rattle.name.proofs.Legality.{legal-bounds, number-bounds}
 use Rattle.edition.proofs.Sizes.{entry-size-mono}
@@ -26,7 +27,7 @@ use Rattle.dir_block_rules.specs.Lookup.{lookup, lookup-refusal, sought,
 use Rattle.dir_block_rules.specs.Room.{some-stale, room, longest, has-room}
 use Rattle.dir_block_rules.specs.Change.{insert-writes, insert-code, insert-block, remove-writes, remove-code, remove-block}
 use Rattle.dir_block_rules.specs.Calls.{done-or, Call, look-up, insert, remove, found, done, refuse, reply, after, call-name}
-use Rattle.dir_block_rules.specs.Book.{first-of, held, Book, book-of, named, holds, aim-of, SameBook, book-reply, book-after, entered, is-done}
+use Rattle.dir_block_rules.specs.Book.{held, Book, book-of, named, holds, aim-of, SameBook, book-reply, book-after, entered, is-done}
 use Rattle.dir_block_rules.specs.Demand.{Reuse, Call-right, call-bytes}
 use Rattle.be.proofs.Bools.{and-left, and-right, by-cases, clash}
 use Rattle.dir_block_rules.proofs.RecordPlaces.{Split, some-split, some-at, every-at}
@@ -48,16 +49,16 @@ pub name-lt : (e : Edition) (n : List ℕ) → legal-name e n ≡ true → lengt
 name-lt e n h = omega (arith, legal-bounds e n h)
 
 -- the order of the tests is the same on both sides
-insert-chain : (l f h r : Bool) → done-or (otherwise l 11 (otherwise f 12 (otherwise h 14 (otherwise r 15 0))))
-    ≡ first-of l (refuse 11) (first-of f (refuse 12) (first-of h (refuse 14) (first-of r (refuse 15) done)))
+insert-chain : (l f h r : Bool) → done-or (ASKED unless l then FIXED unless f then EXISTS unless h then NOROOM unless r then 0)
+    ≡ (refuse ASKED unless l then refuse FIXED unless f then refuse EXISTS unless h then refuse NOROOM unless r then done)
 insert-chain false f h r = refl
 insert-chain true false h r = refl
 insert-chain true true false r = refl
 insert-chain true true true false = refl
 insert-chain true true true true = refl
 
-remove-chain : (l f h : Bool) → done-or (otherwise l 11 (otherwise f 12 (otherwise h 13 0)))
-    ≡ first-of l (refuse 11) (first-of f (refuse 12) (first-of h (refuse 13) done))
+remove-chain : (l f h : Bool) → done-or (ASKED unless l then FIXED unless f then ABSENT unless h then 0)
+    ≡ (refuse ASKED unless l then refuse FIXED unless f then refuse ABSENT unless h then done)
 remove-chain false f h = refl
 remove-chain true false h = refl
 remove-chain true true false = refl
@@ -102,11 +103,11 @@ module _ (e : Edition) (sane : Sane e) (b : List ℕ) (h : bytes b ≡ true) (a 
       (λ l. rw (a, l) refl)
 
   pub insert-code-is : (n : List ℕ) (i : Target) → insert-code e b n i
-      ≡ otherwise (legal-name e n && legal-target e i) 11 (otherwise (not (fixed-name n)) 12 (otherwise (not (sought e b n .hit)) 14 (otherwise (has-room e b n) 15 0)))
+      ≡ (ASKED unless legal-name e n && legal-target e i then FIXED unless not (fixed-name n) then EXISTS unless not (sought e b n .hit) then NOROOM unless has-room e b n then 0)
   unfolding insert-code
   insert-code-is n i = rw a refl
 
-  pub remove-code-is : (n : List ℕ) → remove-code e b n ≡ otherwise (legal-name e n) 11 (otherwise (not (fixed-name n)) 12 (otherwise (sought e b n .hit) 13 0))
+  pub remove-code-is : (n : List ℕ) → remove-code e b n ≡ (ASKED unless legal-name e n then FIXED unless not (fixed-name n) then ABSENT unless sought e b n .hit then 0)
   unfolding remove-code
   remove-code-is n = rw a refl
 
@@ -114,21 +115,21 @@ module _ (e : Edition) (sane : Sane e) (b : List ℕ) (h : bytes b ≡ true) (a 
   unfolding reply book-reply
   insert-reply k m n i =
       ap done-or (insert-code-is n i) ∙ insert-chain (legal-name e n && legal-target e i) (not (fixed-name n)) (not (sought e b n .hit)) (has-room e b n)
-      ∙ ap (λ (t : Bool). first-of (legal-name e n && legal-target e i) (refuse 11) (first-of (not (fixed-name n)) (refuse 12) (first-of (not t) (refuse 14) (first-of (has-room e b n) (refuse 15) done)))) (hit-holds k m n)
+      ∙ ap (λ (t : Bool). refuse ASKED unless legal-name e n && legal-target e i then refuse FIXED unless not (fixed-name n) then refuse EXISTS unless not t then refuse NOROOM unless has-room e b n then done) (hit-holds k m n)
 
   remove-reply : (k : Book) → SameBook (book-of e b) k → (n : List ℕ) (r : Bool) → reply e b (remove n) ≡ book-reply e k r (remove n)
   unfolding reply book-reply
   remove-reply k m n r =
       ap done-or (remove-code-is n) ∙ remove-chain (legal-name e n) (not (fixed-name n)) (sought e b n .hit)
-      ∙ ap (λ (t : Bool). first-of (legal-name e n) (refuse 11) (first-of (not (fixed-name n)) (refuse 12) (first-of t (refuse 13) done))) (hit-holds k m n)
+      ∙ ap (λ (t : Bool). refuse ASKED unless legal-name e n then refuse FIXED unless not (fixed-name n) then refuse ABSENT unless t then done) (hit-holds k m n)
 
   -- an insert that is done
   pub insert-facts : (n : List ℕ) (i : Target) → insert-code e b n i ≡ 0
       → (legal-name e n ≡ true) × (legal-target e i ≡ true) × (fixed-name n ≡ false) × (sought e b n .hit ≡ false) × (has-room e b n ≡ true)
   insert-facts n i q =
-      let p1 : _ = passes (legal-name e n && legal-target e i) 10 (otherwise (not (fixed-name n)) 12 (otherwise (not (sought e b n .hit)) 14 (otherwise (has-room e b n) 15 0))) (sym (insert-code-is n i) ∙ q) in
-      let p2 : _ = passes (not (fixed-name n)) 11 (otherwise (not (sought e b n .hit)) 14 (otherwise (has-room e b n) 15 0)) (p1 .1) in
-      let p3 : _ = passes (not (sought e b n .hit)) 13 (otherwise (has-room e b n) 15 0) (p2 .1) in
+      let p1 : _ = passes (legal-name e n && legal-target e i) 10 (FIXED unless not (fixed-name n) then EXISTS unless not (sought e b n .hit) then NOROOM unless has-room e b n then 0) (sym (insert-code-is n i) ∙ q) in
+      let p2 : _ = passes (not (fixed-name n)) 11 (EXISTS unless not (sought e b n .hit) then NOROOM unless has-room e b n then 0) (p1 .1) in
+      let p3 : _ = passes (not (sought e b n .hit)) 13 (NOROOM unless has-room e b n then 0) (p2 .1) in
       let p4 : _ = passes (has-room e b n) 14 0 (p3 .1) in
       (and-left (legal-name e n) (legal-target e i) (p1 .0), and-right (legal-name e n) (legal-target e i) (p1 .0), not-true (fixed-name n) (p2 .0), not-true (sought e b n .hit) (p3 .0), p4 .0)
 
@@ -141,8 +142,8 @@ module _ (e : Edition) (sane : Sane e) (b : List ℕ) (h : bytes b ≡ true) (a 
 
   pub remove-facts : (n : List ℕ) → remove-code e b n ≡ 0 → (legal-name e n ≡ true) × (fixed-name n ≡ false) × (sought e b n .hit ≡ true)
   remove-facts n q =
-      let p1 : _ = passes (legal-name e n) 10 (otherwise (not (fixed-name n)) 12 (otherwise (sought e b n .hit) 13 0)) (sym (remove-code-is n) ∙ q) in
-      let p2 : _ = passes (not (fixed-name n)) 11 (otherwise (sought e b n .hit) 13 0) (p1 .1) in
+      let p1 : _ = passes (legal-name e n) 10 (FIXED unless not (fixed-name n) then ABSENT unless sought e b n .hit then 0) (sym (remove-code-is n) ∙ q) in
+      let p2 : _ = passes (not (fixed-name n)) 11 (ABSENT unless sought e b n .hit then 0) (p1 .1) in
       let p3 : _ = passes (sought e b n .hit) 12 0 (p2 .1) in
       (p1 .0, not-true (fixed-name n) (p2 .0), p3 .0)
 

@@ -3,7 +3,8 @@
 use Prim.Native.Nat.{ℕ, _≤_}
 use mathlib.Core.List.{List}
 use borrow.Author.Tests.{leb-true}
-use Rattle.be.proofs.Codes.{otherwise-le}
+use Rattle.refusal.specs.Refusal.{HIGHEST}
+use Rattle.be.proofs.Codes.{unless-le}
 use Rattle.edition.specs.declared.Edition.{Edition}
 use Rattle.dir_block_rules.specs.declared.Target.{Target}
 use Rattle.dir_block_rules.specs.Verdict.{verdict}
@@ -12,22 +13,22 @@ use Rattle.dir_block_rules.specs.Change.{insert-code, remove-code}
 use Rattle.dir_block_rules.specs.Walk.{step-code}
 
 module _ (e : Edition) (b : List ℕ) where
-  pub verdict-small : verdict e b ≤ 16
+  pub verdict-small : verdict e b ≤ HIGHEST
   unfolding verdict
-  verdict-small = search (otherwise-le, leb-true) depth 12
+  verdict-small = search (unless-le, leb-true) depth 12
 
-  pub lookup-small : (n : List ℕ) → lookup-code e b n ≤ 16
+  pub lookup-small : (n : List ℕ) → lookup-code e b n ≤ HIGHEST
   unfolding lookup-code lookup-refusal
-  lookup-small n = search (otherwise-le, verdict-small, leb-true) depth 8
+  lookup-small n = search (unless-le, verdict-small, leb-true) depth 8
 
-  pub insert-small : (n : List ℕ) (i : Target) → insert-code e b n i ≤ 16
+  pub insert-small : (n : List ℕ) (i : Target) → insert-code e b n i ≤ HIGHEST
   unfolding insert-code
-  insert-small n i = search (otherwise-le, verdict-small, leb-true) depth 8
+  insert-small n i = search (unless-le, verdict-small, leb-true) depth 8
 
-  pub remove-small : (n : List ℕ) → remove-code e b n ≤ 16
+  pub remove-small : (n : List ℕ) → remove-code e b n ≤ HIGHEST
   unfolding remove-code
-  remove-small n = search (otherwise-le, verdict-small, leb-true) depth 8
+  remove-small n = search (unless-le, verdict-small, leb-true) depth 8
 
-  pub step-small : (p : ℕ) → step-code e b p ≤ 16
+  pub step-small : (p : ℕ) → step-code e b p ≤ HIGHEST
   unfolding step-code
-  step-small p = search (otherwise-le, verdict-small, leb-true)
+  step-small p = search (unless-le, verdict-small, leb-true)

@@ -9,6 +9,7 @@ use mathlib.Core.List.{List, [], _∷_, _++_, map, append-assoc, append-nil}
 use lib.Dec.{eqb, ltb}
 use lib.ListN.{length, length-append, take}
 use borrow.Author.Tests.{eq-eqb, eqb-true, ne-eqb, lt-ltb}
+use Rattle.refusal.specs.Refusal.{ASKED}
 use Rattle.be.specs.Lists.{some-of}
 use Rattle.be.specs.Bytes.{bytes, part}
 use Rattle.edition.specs.declared.Edition.{Edition}
@@ -99,7 +100,7 @@ module _ (e : Edition) (sane : Sane e) (b : List ℕ) (h : bytes b ≡ true) (a 
       let far : length hd ≡ r .off = rw (length-append, fit-of e sane b h a .head) (sym (l .0)) in
       ap (part (r .off + 9) (namelen r)) around ∙ part-there e hd tl r (l .1) g far
 
-  elsewhere : (p : ℕ) → is-place p (data-end b) (records e b) ≡ false → walk-step e b p ≡ Refused 11
+  elsewhere : (p : ℕ) → is-place p (data-end b) (records e b) ≡ false → walk-step e b p ≡ Refused ASKED
   unfolding walk-step step-code
   elsewhere p q = rw (a, q) refl
 

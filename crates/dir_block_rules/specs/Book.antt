@@ -4,6 +4,8 @@ use Prim.Native.Nat.{ℕ}
 use mathlib.Core.Bool.{Bool, true, false, not, cond, _&&_}
 use mathlib.Core.Path.{_≡_}
 use mathlib.Core.List.{List, [], _∷_, map}
+use Rattle.refusal.specs.Refusal.{ASKED, FIXED, ABSENT, EXISTS, NOROOM}
+use Rattle.be.specs.Codes.{_unless_then_}
 use Rattle.be.specs.Lists.{some-of, tally, without-first, same}
 use Rattle.edition.specs.declared.Edition.{Edition}
 use Rattle.name.specs.Name.{legal-name, same-name, fixed-name}
@@ -39,26 +41,23 @@ unfoldable pub aim-of : Edition → List ℕ → Book → Target
 aim-of e n [] = target 0 0
 aim-of e n (h ∷ hs) = let r = aim-of e n hs in cond (named e n h) (h .aim) r
 
-abbrev pub first-of : Bool → Reply → Reply → Reply
-first-of t r s = cond t s r
-
 -- the book's answer; room is whether the room rule finds room in the block that the call gets. The first that applies counts.
 -- Lookup: name not legal, 11; held, its number and type; else 13.
 -- Insert: name, number or type not legal, 11; "." or "..", 12; held, 14; no room, 15; else done.
 -- Removal: name not legal, 11; "." or "..", 12; not held, 13; else done.
 unfoldable pub book-reply : Edition → Book → Bool → Call → Reply
 book-reply e k room (look-up n) =
-    first-of (legal-name e n) (refuse 11) (
-    first-of (holds e n k) (refuse 13) (found (aim-of e n k)))
+    refuse ASKED unless legal-name e n then
+    refuse ABSENT unless holds e n k then found (aim-of e n k)
 book-reply e k room (insert n i) =
-    first-of (legal-name e n && legal-target e i) (refuse 11) (
-    first-of (not (fixed-name n)) (refuse 12) (
-    first-of (not (holds e n k)) (refuse 14) (
-    first-of room (refuse 15) done)))
+    refuse ASKED unless legal-name e n && legal-target e i then
+    refuse FIXED unless not (fixed-name n) then
+    refuse EXISTS unless not (holds e n k) then
+    refuse NOROOM unless room then done
 book-reply e k room (remove n) =
-    first-of (legal-name e n) (refuse 11) (
-    first-of (not (fixed-name n)) (refuse 12) (
-    first-of (holds e n k) (refuse 13) done))
+    refuse ASKED unless legal-name e n then
+    refuse FIXED unless not (fixed-name n) then
+    refuse ABSENT unless holds e n k then done
 
 abbrev pub is-done : Reply → Bool
 is-done (found i) = false

@@ -6,9 +6,10 @@ use mathlib.Core.Bool.{Bool, not, cond, _&&_}
 use mathlib.Core.List.{List, [], _∷_, _++_}
 use lib.Dec.{eqb, leb}
 use lib.ListN.{length}
+use Rattle.refusal.specs.Refusal.{ASKED, FIXED, ABSENT, EXISTS, NOROOM}
 use Rattle.be.specs.Lists.{keep, without-first}
 use Rattle.be.specs.Bytes.{to-be, Write, write, written}
-use Rattle.be.specs.Codes.{otherwise, and-then}
+use Rattle.be.specs.Codes.{_unless_then_, _and-then_}
 use Rattle.edition.specs.declared.Edition.{Edition}
 use Rattle.edition.specs.Edition.{entry-size}
 use Rattle.name.specs.Name.{hash-of, legal-name, fixed-name}
@@ -116,11 +117,11 @@ module _ (e : Edition) (b n : List ℕ) (i : Target) where
   -- the block's refusal; 11 ASKED: name or number not legal; 12 FIXED; 14 EXISTS; 15 NOROOM
   unfoldable pub insert-code : ℕ
   insert-code =
-      and-then (verdict e b) (
-      otherwise (legal-name e n && legal-target e i) 11 (
-      otherwise (not (fixed-name n)) 12 (
-      otherwise (not (sought e b n .hit)) 14 (
-      otherwise (has-room e b n) 15 0))))
+      verdict e b and-then
+      ASKED unless legal-name e n && legal-target e i then
+      FIXED unless not (fixed-name n) then
+      EXISTS unless not (sought e b n .hit) then
+      NOROOM unless has-room e b n then 0
 
   -- a refusal leaves every byte
   unfoldable pub insert-block : List ℕ
@@ -149,10 +150,10 @@ module _ (e : Edition) (b n : List ℕ) where
   -- the block's refusal; 11 ASKED: name not legal; 12 FIXED; 13 ABSENT
   unfoldable pub remove-code : ℕ
   remove-code =
-      and-then (verdict e b) (
-      otherwise (legal-name e n) 11 (
-      otherwise (not (fixed-name n)) 12 (
-      otherwise (sought e b n .hit) 13 0)))
+      verdict e b and-then
+      ASKED unless legal-name e n then
+      FIXED unless not (fixed-name n) then
+      ABSENT unless sought e b n .hit then 0
 
   -- a refusal leaves every byte
   unfoldable pub remove-block : List ℕ

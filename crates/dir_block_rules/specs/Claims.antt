@@ -7,6 +7,7 @@ use mathlib.Core.Path.{_≡_}
 use mathlib.Core.List.{List, [], _∷_, _++_, map}
 use lib.Dec.{leb, ltb}
 use lib.ListN.{length}
+use Rattle.refusal.specs.Refusal.{ASKED}
 use Rattle.be.specs.Lists.{some-of, keep}
 use Rattle.be.specs.Bytes.{bytes, part}
 use Rattle.edition.specs.declared.Edition.{Edition}
@@ -51,7 +52,7 @@ pub record Walks (e : Edition) (b : List ℕ) : Type 0 where
   pub rises : climbs (map tag (records e b)) ≡ true
   pub again : walk-step e b (data-end b) ≡ Stepped (step-end (data-end b))
   pub names : (xs : List Rec) (r : Rec) (ys : List Rec) → records e b ≡ xs ++ r ∷ ys → is-gap r ≡ false → part (entry-of r .start) (entry-of r .len) b ≡ name r
-  pub elsewhere : (p : ℕ) → is-place p (data-end b) (records e b) ≡ false → walk-step e b p ≡ Refused 11
+  pub elsewhere : (p : ℕ) → is-place p (data-end b) (records e b) ≡ false → walk-step e b p ≡ Refused ASKED
 
 unfoldable pub Walk-right : Edition → Type 0
 Walk-right e = (b : List ℕ) → bytes b ≡ true → Accepted e b → Walks e b

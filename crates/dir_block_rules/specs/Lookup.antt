@@ -4,9 +4,10 @@ use Prim.Native.Nat.{ℕ, suc, _+_, _*_}
 use mathlib.Core.Bool.{Bool, true, false, cond, _&&_}
 use mathlib.Core.List.{List, [], _∷_}
 use lib.Dec.{eqb}
+use Rattle.refusal.specs.Refusal.{ASKED, ABSENT}
 use Rattle.be.specs.Lists.{tally}
 use Rattle.be.specs.Bytes.{byte, field, part}
-use Rattle.be.specs.Codes.{otherwise, and-then}
+use Rattle.be.specs.Codes.{_unless_then_, _and-then_}
 use Rattle.edition.specs.declared.Edition.{Edition}
 use Rattle.name.specs.Name.{hash-of, same-name, legal-name}
 use Rattle.dir_block_rules.specs.declared.Looked.{Looked}
@@ -72,7 +73,7 @@ names-compared e b n = tally (candidate (hash-of e n)) (up-to (bears e b n) (slo
 
 -- the refusal before the search: of the block, or 11 ASKED
 unfoldable pub lookup-refusal : Edition → List ℕ → List ℕ → ℕ
-lookup-refusal e b n = and-then (verdict e b) (otherwise (legal-name e n) 11 0)
+lookup-refusal e b n = verdict e b and-then ASKED unless legal-name e n then 0
 
 abbrev pub looked-of : List ℕ → Sought → Looked
 looked-of b s = cond (s .hit) (Found (number-at b (s .at)) (s .compared)) (Absent (s .compared))
@@ -84,7 +85,7 @@ lookup e b n =
 
 -- a lookup's number: 0 when found
 unfoldable pub lookup-code : Edition → List ℕ → List ℕ → ℕ
-lookup-code e b n = and-then (lookup-refusal e b n) (otherwise (sought e b n .hit) 13 0)
+lookup-code e b n = lookup-refusal e b n and-then ABSENT unless sought e b n .hit then 0
 
 -- the paper's number and values of each case of an answer: 0 when found; a refusal has its number only, 13 also the names compared
 abbrev pub looked-code : Looked → ℕ

@@ -6,7 +6,8 @@ use mathlib.Core.Path.{_≡_}
 use mathlib.Core.List.{List, [], _∷_}
 use lib.Dec.{eqb, leb}
 use lib.ListN.{length, drop}
-use Rattle.be.specs.Codes.{otherwise}
+use Rattle.refusal.specs.Refusal.{SIZE, MAGIC, SPAN, TILE, NAME, NUMBER, INDEX, BEST, TWICE}
+use Rattle.be.specs.Codes.{_unless_then_}
 use Rattle.be.specs.Lists.{every, some-of, tally, same}
 use Rattle.be.specs.Bytes.{field}
 use Rattle.edition.specs.declared.Edition.{Edition}
@@ -126,15 +127,15 @@ once-ok e (r ∷ rs) = not (some-of (λ s. same-name e (name r) (name s)) rs) &&
 -- tests run in number order; each takes the earlier ones as passed
 unfoldable pub verdict : Edition → List ℕ → ℕ
 verdict e b =
-    otherwise (size-ok b) 1 (
-    otherwise (magic-ok e b) 2 (
-    otherwise (span-ok e b) 4 (
-    otherwise (tile-ok e (records e b)) 5 (
-    otherwise (names-ok e (records e b)) 6 (
-    otherwise (numbers-ok e (records e b)) 7 (
-    otherwise (index-ok e (records e b) (slots b) (stale-of b)) 8 (
-    otherwise (best-ok (best-pairs e b) (gaps (records e b))) 9 (
-    otherwise (once-ok e (entries (records e b))) 10 0))))))))
+    SIZE unless size-ok b then
+    MAGIC unless magic-ok e b then
+    SPAN unless span-ok e b then
+    TILE unless tile-ok e (records e b) then
+    NAME unless names-ok e (records e b) then
+    NUMBER unless numbers-ok e (records e b) then
+    INDEX unless index-ok e (records e b) (slots b) (stale-of b) then
+    BEST unless best-ok (best-pairs e b) (gaps (records e b)) then
+    TWICE unless once-ok e (entries (records e b)) then 0
 
 -- accepted: no test fails
 abbrev pub Accepted : Edition → List ℕ → Type 0

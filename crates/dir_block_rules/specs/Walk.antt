@@ -4,8 +4,9 @@ use Prim.Native.Nat.{ℕ, zero, suc, _+_}
 use mathlib.Core.Bool.{Bool, cond, _||_}
 use mathlib.Core.List.{List, [], _∷_}
 use lib.Dec.{eqb}
+use Rattle.refusal.specs.Refusal.{ASKED}
 use Rattle.be.specs.Lists.{some-of}
-use Rattle.be.specs.Codes.{otherwise, and-then}
+use Rattle.be.specs.Codes.{_unless_then_, _and-then_}
 use Rattle.edition.specs.declared.Edition.{Edition}
 use Rattle.dir_block_rules.specs.declared.Entry.{Entry}
 use Rattle.dir_block_rules.specs.declared.Seen.{Seen}
@@ -44,7 +45,7 @@ is-place p u rs = eqb p u || some-of (λ r. eqb (r .off) p) rs
 -- a step's number: the block's, or 11 ASKED for any other place
 unfoldable pub step-code : Edition → List ℕ → ℕ → ℕ
 step-code e b p =
-    and-then (verdict e b) (otherwise (is-place p (data-end b) (records e b)) 11 0)
+    verdict e b and-then ASKED unless is-place p (data-end b) (records e b) then 0
 
 -- one step: live entry, gap or end, together with where the walk now stands
 unfoldable pub walk-step : Edition → List ℕ → ℕ → Walked

@@ -8,6 +8,7 @@ use mathlib.Core.Path.{_≡_, refl, sym, _∙_, ap, subst}
 use mathlib.Core.List.{List, [], _∷_}
 use lib.Dec.{eqb}
 use lib.ListN.{length, take, getD}
+use Rattle.refusal.specs.Refusal.{NAME, NUMBER, INDEX}
 use Rattle.be.specs.Lists.{every}
 use Rattle.be.specs.Bytes.{be, part, field}
 use Rattle.edition.specs.declared.Edition.{Edition}
@@ -18,7 +19,7 @@ use Rattle.dir_block_rules.specs.Verdict.{number-fits}
 use Rattle.be.proofs.Bools.{and-left, and-right, by-cases}
 use Rattle.dir_block_rules.proofs.CutJoin.{Whole, whole→, head-size}
 use Rattle.edition.proofs.Sizes.{entry-size-least}
-use Rattle.dir_block_test.specs.Passes.{rest, whole-len, name-fits, name-of, fault-at, fault, worst}
+use Rattle.dir_block_test.specs.Passes.{no-fault, rest, whole-len, name-fits, name-of, fault-at, fault, worst}
 use Rattle.be.proofs.Parts.{part-part, getD-part, part-length}
 use Rattle.dir_block_test.proofs.WholeRecord.{says-entry, gap-is}
 use Rattle.dir_block_test.proofs.TileWalk.{Head, head, rest-head, rest-end, head-gap}
@@ -28,43 +29,43 @@ module _ (e : Edition) (own : ℕ) (ss : ℕ → ℕ → Bool) (b : List ℕ) (o
   named : name-fits e o (name-of b o) ≡ x
   named = sym (xs ∙ ap (λ (k : ℕ). name-fits e o (part (o + 9) k b)) is)
 
-  pub fault-6 : x ≡ false → 6 ≡ fault-at e own ss b o
+  pub fault-name : x ≡ false → NAME ≡ fault-at e own ss b o
   unfolding fault-at
-  fault-6 p = sym (rw (named, p))
+  fault-name p = sym (rw (named, p))
 
   module _ (p : x ≡ true) (i : ℕ) (ii : i ≡ field o 8 b) (y : Bool) (ys : y ≡ legal-number i) where
     numbered : number-fits e own o (field o 8 b) ≡ y
     unfolding number-fits
     numbered = sym (ys ∙ ap legal-number ii)
 
-    pub fault-7 : y ≡ false → 7 ≡ fault-at e own ss b o
+    pub fault-number : y ≡ false → NUMBER ≡ fault-at e own ss b o
     unfolding fault-at
-    fault-7 q = sym (rw (named, p, numbered, q))
+    fault-number q = sym (rw (named, p, numbered, q))
 
     module _ (q : y ≡ true) (h : ℕ) (hs : h ≡ hash-of e (part (o + 9) len b)) (z : Bool) (zs : z ≡ ss (o / 8) h) where
       slotted : ss (o / 8) (hash-of e (name-of b o)) ≡ z
       slotted = sym (zs ∙ ap (λ (k : ℕ). ss (o / 8) k) (hs ∙ ap (λ (k : ℕ). hash-of e (part (o + 9) k b)) is))
 
-      pub fault-9 : z ≡ true → 9 ≡ fault-at e own ss b o
+      pub fault-none : z ≡ true → no-fault ≡ fault-at e own ss b o
       unfolding fault-at
-      fault-9 r = sym (rw (named, p, numbered, q, slotted, r))
+      fault-none r = sym (rw (named, p, numbered, q, slotted, r))
 
-      pub fault-8 : z ≡ false → 8 ≡ fault-at e own ss b o
+      pub fault-index : z ≡ false → INDEX ≡ fault-at e own ss b o
       unfolding fault-at
-      fault-8 r = sym (rw (named, p, numbered, q, slotted, r))
+      fault-index r = sym (rw (named, p, numbered, q, slotted, r))
 
 -- the lower of two
 module _ (w f : ℕ) (g k : Bool) (gs : g ≡ k) where
-  pub worse-gap : g ≡ true → 9 < w → 9 ≡ min w (cond k 9 f)
+  pub worse-gap : g ≡ true → no-fault < w → no-fault ≡ min w (cond k no-fault f)
   worse-gap p h = let q : k ≡ true = sym gs ∙ p in rw q (omega arith)
 
-  pub worse-gap-kept : g ≡ true → w ≤ 9 → w ≡ min w (cond k 9 f)
+  pub worse-gap-kept : g ≡ true → w ≤ no-fault → w ≡ min w (cond k no-fault f)
   worse-gap-kept p h = let q : k ≡ true = sym gs ∙ p in rw q (omega arith)
 
-  pub worse-entry : g ≡ false → f < w → f ≡ min w (cond k 9 f)
+  pub worse-entry : g ≡ false → f < w → f ≡ min w (cond k no-fault f)
   worse-entry p h = let q : k ≡ false = sym gs ∙ p in rw q (omega arith)
 
-  pub worse-entry-kept : g ≡ false → w ≤ f → w ≡ min w (cond k 9 f)
+  pub worse-entry-kept : g ≡ false → w ≤ f → w ≡ min w (cond k no-fault f)
   worse-entry-kept p h = let q : k ≡ false = sym gs ∙ p in rw q (omega arith)
 
 -- a walk over whole records: P of the records that are left
@@ -168,7 +169,7 @@ module _ (e : Edition) (b : List ℕ) (t o n : ℕ) (lo : o < t) (hi : t ≤ len
         let i : is-gap (rec o (part o n b)) ≡ false = head-gap e b t o lo hi n hd ∙ g in
         rw (i, name-here, number-here)
 
-  pub fault-here : (own : ℕ) (ss : ℕ → ℕ → Bool) → fault e own ss (rec o (part o n b)) ≡ cond (eqb (field o 2 b) 0xffff) 9 (fault-at e own ss b o)
+  pub fault-here : (own : ℕ) (ss : ℕ → ℕ → Bool) → fault e own ss (rec o (part o n b)) ≡ cond (eqb (field o 2 b) 0xffff) no-fault (fault-at e own ss b o)
   unfolding fault
   fault-here own ss =
       by-cases (eqb (field o 2 b) 0xffff)
@@ -180,15 +181,15 @@ module _ (e : Edition) (own : ℕ) (ss : ℕ → ℕ → Bool) (all : List Rec) 
   abbrev pub Faulting : ℕ → List Rec → Type 0
   Faulting w rs = worst e own ss all ≡ min w (worst e own ss rs)
 
-  pub worst-start : worst e own ss all ≡ min 9 (worst e own ss all)
+  pub worst-start : worst e own ss all ≡ min no-fault (worst e own ss all)
   unfolding worst fault
   worst-start = go all
     where
-      go : (rs : List Rec) → worst e own ss rs ≡ min 9 (worst e own ss rs)
+      go : (rs : List Rec) → worst e own ss rs ≡ min no-fault (worst e own ss rs)
       go [] = refl
-      go (r ∷ rs) = let h : worst e own ss rs ≡ min 9 (worst e own ss rs) = go rs in omega arith
+      go (r ∷ rs) = let h : worst e own ss rs ≡ min no-fault (worst e own ss rs) = go rs in omega arith
 
-  pub worst-end : (w : ℕ) → w ≤ 9 → Faulting w [] → w ≡ worst e own ss all
+  pub worst-end : (w : ℕ) → w ≤ no-fault → Faulting w [] → w ≡ worst e own ss all
   unfolding worst
   worst-end w l h = omega arith
 

@@ -14,7 +14,7 @@ use Rattle.name.specs.Name.{hash-of}
 use Rattle.dir_block_rules.specs.Record.{Rec, whole, apart, is-gap, entries, name, number}
 use Rattle.dir_block_rules.specs.Verdict.{tile-ok, name-ok, number-ok}
 use Rattle.be.proofs.Bools.{by-cases}
-use Rattle.dir_block_test.specs.Passes.{tile-from, tiled, fault, worst}
+use Rattle.dir_block_test.specs.Passes.{no-fault, tile-from, tiled, fault, worst}
 
 -- TILE
 apart-from : Bool → List Rec → Bool
@@ -84,7 +84,7 @@ every-same p q h (r ∷ rs) = rw (h r, every-same p q h rs)
 module _ (e : Edition) (own : ℕ) (ss : ℕ → ℕ → Bool) where
   worst-leb : (m : ℕ) → m ≤ 9 → (rs : List Rec) → leb m (worst e own ss rs) ≡ every (λ r. leb m (fault e own ss r)) rs
   unfolding worst
-  worst-leb m h [] = le-leb m 9 h
+  worst-leb m h [] = le-leb m no-fault (omega arith)
   worst-leb m h (r ∷ rs) = min-leb m (fault e own ss r) (worst e own ss rs) ∙ ap (λ (t : Bool). leb m (fault e own ss r) && t) (worst-leb m h rs)
 
   abbrev pub slot-ok : Rec → Bool

@@ -6,9 +6,10 @@ use mathlib.Core.Path.{_≡_}
 use mathlib.Core.List.{List, [], _∷_}
 use lib.Dec.{eqb, leb}
 use lib.ListN.{length, take, drop, getD, set}
+use Rattle.refusal.specs.Refusal.{TILE, NAME, NUMBER, INDEX, BEST, TWICE, HIGHEST}
 use Rattle.be.specs.Lists.{every, some-of, tally, same, keep}
 use Rattle.be.specs.Bytes.{byte, field, part}
-use Rattle.be.specs.Codes.{otherwise}
+use Rattle.be.specs.Codes.{_unless_then_}
 use Rattle.edition.specs.declared.Edition.{Edition}
 use Rattle.edition.specs.Edition.{largest-block}
 use Rattle.name.specs.Name.{legal-name, hash-of, same-name, dot, dotdot}
@@ -41,16 +42,20 @@ tiled e g n rs = cond (tile-from e g rs) (n + length (entries rs)) 0
 abbrev pub slot-is : ℕ → ℕ → Slot → Bool
 slot-is a h s = eqb (s .addr) a && eqb (s .hash) h
 
--- the first test that a record fails in a directory whose own number is `own`: 6, 7 or 8; 9 if none
+-- no test failed: above every refusal, so that the lowest fault counts
+abbrev pub no-fault : ℕ
+no-fault = suc HIGHEST
+
+-- the first test that a record fails in a directory whose own number is `own`: NAME, NUMBER or INDEX
 unfoldable pub fault : Edition → ℕ → (ℕ → ℕ → Bool) → Rec → ℕ
 fault e own f r =
-    cond (is-gap r) 9 (
-    otherwise (name-ok e r) 6 (
-    otherwise (number-ok e own r) 7 (
-    otherwise (f (r .off / 8) (hash-of e (name r))) 8 9)))
+    cond (is-gap r) no-fault (
+    NAME unless name-ok e r then
+    NUMBER unless number-ok e own r then
+    INDEX unless f (r .off / 8) (hash-of e (name r)) then no-fault)
 
 unfoldable pub worst : Edition → ℕ → (ℕ → ℕ → Bool) → List Rec → ℕ
-worst e own f [] = 9
+worst e own f [] = no-fault
 worst e own f (r ∷ rs) = min (fault e own f r) (worst e own f rs)
 
 -- hashes never fall, from h on
@@ -87,9 +92,9 @@ own-at e b = field (e .header) 8 b
 -- the first test that the entry at o fails, where f says whether an address and a hash have a slot
 unfoldable pub fault-at : Edition → ℕ → (ℕ → ℕ → Bool) → List ℕ → ℕ → ℕ
 fault-at e own f b o =
-    otherwise (name-fits e o (name-of b o)) 6 (
-    otherwise (number-fits e own o (field o 8 b)) 7 (
-    otherwise (f (o / 8) (hash-of e (name-of b o))) 8 9))
+    NAME unless name-fits e o (name-of b o) then
+    NUMBER unless number-fits e own o (field o 8 b) then
+    INDEX unless f (o / 8) (hash-of e (name-of b o)) then no-fault
 
 -- the gaps that a pair does not name
 abbrev pub unnamed : Pair → List Rec → List Rec
@@ -135,16 +140,16 @@ Reach b t n = (i : ℕ) → i < n → (addr-at b t i ≡ 0 → ⊥) → 8 * addr
 
 -- the verdict on a block whose records are rs and slots ss, from BEST on, from NAME on, and from TILE on
 unfoldable pub after-index : Edition → List ℕ → List Rec → ℕ
-after-index e b rs = otherwise (best-ok (best-pairs e b) (gaps rs)) 9 (otherwise (once-ok e (entries rs)) 10 0)
+after-index e b rs = BEST unless best-ok (best-pairs e b) (gaps rs) then TWICE unless once-ok e (entries rs) then 0
 
 unfoldable pub after-tile : Edition → List ℕ → List Rec → List Slot → ℕ → ℕ
 after-tile e b rs ss m =
-    otherwise (names-ok e rs) 6 (
-    otherwise (numbers-ok e rs) 7 (
-    otherwise (index-ok e rs ss m) 8 (after-index e b rs)))
+    NAME unless names-ok e rs then
+    NUMBER unless numbers-ok e rs then
+    INDEX unless index-ok e rs ss m then after-index e b rs
 
 unfoldable pub after-span : Edition → List ℕ → List Rec → List Slot → ℕ → ℕ
-after-span e b rs ss m = otherwise (tile-ok e rs) 5 (after-tile e b rs ss m)
+after-span e b rs ss m = TILE unless tile-ok e rs then after-tile e b rs ss m
 
 -- a block whose data ends at t and has n slots there, all counted
 pub record Parts (e : Edition) (b : List ℕ) (t n : ℕ) : Type 0 where

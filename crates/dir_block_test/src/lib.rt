@@ -10,7 +10,7 @@ ghost use Rattle.edition.specs.Edition.{v4, Sane, largest-block, record-places}
 ghost use Rattle.name.specs.Name.{legal-name, same-name};
 ghost use Rattle.dir_block_rules.specs.Record.{says, whole, gaps, entries};
 ghost use Rattle.dir_block_rules.specs.Verdict.{pair, best-pairs, best-ok, index-ok, verdict};
-ghost use Rattle.dir_block_test.specs.Passes.{rest, whole-len, tiled, slots-from, in-order, hash-at, addr-at, filled, hint, name-fits, name-of, fault-at, own-at, worst, best-left, which, clash-from, runs-on, once-in, Reach, after-index, after-tile, after-span, Parts, Tiled};
+ghost use Rattle.dir_block_test.specs.Passes.{no-fault, rest, whole-len, tiled, slots-from, in-order, hash-at, addr-at, filled, hint, name-fits, name-of, fault-at, own-at, worst, best-left, which, clash-from, runs-on, once-in, Reach, after-index, after-tile, after-span, Parts, Tiled};
 use edition::Edition;
 use edition::V4;
 
@@ -199,7 +199,10 @@ fn name_fits(e: Edition, legal: bool, s: &[u8], o: usize) -> bool
     agree(name::equal(s, b".."), o == e.header + 16)
 }
 
-// The first test that the entry at o fails: 6, 7 or 8; 9 if none.
+// No test failed: above every refusal, so that the lowest fault counts.
+const NO_FAULT: usize = refusal::HIGHEST + 1;
+
+// The first test that the entry at o fails: NAME, NUMBER or INDEX.
 fn entry_fault(e: Edition, b: &[u8], o: usize, t: usize, n: usize, pos: &[u16; PLACES]) -> usize
     requires { ⌜ Sane e ⌝ }
     requires { ⌜ (t + 8 * n ≤ length (now b)) × (t ≤ largest-block) × (o + 9 + byte (o + 8) (now b) ≤ t) ⌝ }
@@ -209,26 +212,26 @@ fn entry_fault(e: Edition, b: &[u8], o: usize, t: usize, n: usize, pos: &[u16; P
     let end = from + be::be8(b, o + 8);
     let c = name::check(e, &b[from..end]);
     if !name_fits(e, c.legal, &b[from..end], o) {
-        return 6;
+        return refusal::NAME;
     }
     if !name::number_legal(be::be64(b, o)) {
-        return 7;
+        return refusal::NUMBER;
     }
     if has_slot(b, t, n, pos, c.hash, o / 8) {
-        return 9;
+        return NO_FAULT;
     }
-    8
+    refusal::INDEX
 }
 
 // The lower of w and the record's first fault.
 fn worse(e: Edition, b: &[u8], o: usize, t: usize, n: usize, pos: &[u16; PLACES], w: usize) -> usize
     requires { ⌜ Sane e ⌝ }
     requires { ⌜ (t + 8 * n ≤ length (now b)) × (t ≤ largest-block) × (o + 2 ≤ t) × (eqb (field o 2 (now b)) 0xffff ≡ false → o + 9 + byte (o + 8) (now b) ≤ t) ⌝ }
-    ensures { λ r. ⌜ r ≡ min w (cond (eqb (field o 2 (now (b .entry))) 0xffff) 9 (fault-at e (own-at e (now (b .entry))) (hint (now (pos .entry)) (now (b .entry)) t n) (now (b .entry)) o)) ⌝ }
+    ensures { λ r. ⌜ r ≡ min w (cond (eqb (field o 2 (now (b .entry))) 0xffff) no-fault (fault-at e (own-at e (now (b .entry))) (hint (now (pos .entry)) (now (b .entry)) t n) (now (b .entry)) o)) ⌝ }
 {
     if is_gap(b, o) {
-        if 9 < w {
-            return 9;
+        if NO_FAULT < w {
+            return NO_FAULT;
         }
         return w;
     }
@@ -239,14 +242,14 @@ fn worse(e: Edition, b: &[u8], o: usize, t: usize, n: usize, pos: &[u16; PLACES]
     w
 }
 
-// The lowest fault of the entries' names, numbers and slots; 9 if none.
+// The lowest fault of the entries' names, numbers and slots.
 fn faults(e: Edition, b: &[u8], t: usize, n: usize, pos: &[u16; PLACES]) -> usize
     requires { ⌜ Sane e ⌝ }
     requires { ⌜ (t + 8 * n ≤ length (now b)) × (t ≤ largest-block) × (t % 8 ≡ 0) × (e .header ≤ t) × (every (whole e) (rest e (now b) t (length (now b)) (e .header)) ≡ true) ⌝ }
     ensures { λ r. ⌜ r ≡ worst e (own-at e (now (b .entry))) (hint (now (pos .entry)) (now (b .entry)) t n) (rest e (now (b .entry)) t (length (now (b .entry))) (e .header)) ⌝ }
 {
     let mut o = e.header;
-    let mut w = 9;
+    let mut w = NO_FAULT;
     while o < t {
         w = worse(e, b, o, t, n, pos, w);
         o += rec_len(e, b, o, t);
@@ -439,10 +442,10 @@ fn test_best(e: Edition, b: &[u8], t: usize, n: usize, m: usize) -> usize
     ensures { λ r. ⌜ r ≡ after-index e (now (b .entry)) (rest e (now (b .entry)) t (length (now (b .entry))) (e .header)) ⌝ }
 {
     if !best_fits(e, b, t, n) {
-        return 9;
+        return refusal::BEST;
     }
     if !once(e, b, t, n) {
-        return 10;
+        return refusal::TWICE;
     }
     0
 }
@@ -485,20 +488,20 @@ fn test_entries(e: Edition, b: &[u8], t: usize, n: usize, m: usize, live: usize)
     let mut pos = [0u16; PLACES];
     places(b, t, n, &mut pos);
     let w = faults(e, b, t, searched(fit, n), &pos);
-    if w < 7 {
-        return 6;
+    if w <= refusal::NAME {
+        return refusal::NAME;
     }
     if !(entry_at(b, e.header, t) & entry_at(b, e.header + 16, t)) {
-        return 6;
+        return refusal::NAME;
     }
-    if w < 8 {
-        return 7;
+    if w <= refusal::NUMBER {
+        return refusal::NUMBER;
     }
     if !fit {
-        return 8;
+        return refusal::INDEX;
     }
-    if w < 9 {
-        return 8;
+    if w <= refusal::INDEX {
+        return refusal::INDEX;
     }
     test_best(e, b, t, n, m)
 }
@@ -511,7 +514,7 @@ fn test_data(e: Edition, b: &[u8], t: usize, n: usize, m: usize) -> usize
 {
     let k = tiles(e, b, t);
     if k == 0 {
-        return 5;
+        return refusal::TILE;
     }
     test_entries(e, b, t, n, m, k - 1)
 }
@@ -523,18 +526,18 @@ pub fn code(e: Edition, b: &[u8]) -> usize
 {
     let len = b.len();
     if !edition::block_sized(len) {
-        return 1;
+        return refusal::SIZE;
     }
     if be::be32(b, 0) != e.magic {
-        return 2;
+        return refusal::MAGIC;
     }
     let n = be::be32(b, len - 8);
     let m = be::be32(b, len - 4);
     if len < e.header + 8 * n + 8 {
-        return 4;
+        return refusal::SPAN;
     }
     if n < m {
-        return 4;
+        return refusal::SPAN;
     }
     test_data(e, b, len - 8 - 8 * n, n, m)
 }

@@ -10,6 +10,7 @@ use lib.Dec.{ltb}
 use lib.ListN.{length, drop}
 use lib.Seq.{drop-drop}
 use borrow.Author.Tests.{lt-ltb, le-ltb, ltb-true, not-true, not-false}
+use Rattle.refusal.specs.Refusal.{ASKED, FIXED, ABSENT}
 use Rattle.be.specs.Lists.{same}
 use Rattle.be.specs.Bytes.{byte, field}
 use Rattle.be.proofs.Bools.{by-cases}
@@ -97,12 +98,12 @@ hit-index e n u i s h =
 -- ---- the answer, test by test
 
 module _ (e : Edition) (n : List ℕ) (p : ℕ) (xs : List Entry) (t₁ : Bool) (h₁ : t₁ ≡ legal-name e n) where
-  pub look-11 : not t₁ ≡ true → Refused 11 ≡ looked e n p xs
+  pub look-11 : not t₁ ≡ true → Refused ASKED ≡ looked e n p xs
   unfolding looked as-looked lookup-code
   look-11 f = sym (rw (sym h₁ ∙ not-true t₁ f) refl)
 
   module _ (g₁ : not t₁ ≡ false) (t₂ : Bool) (h₂ : t₂ ≡ same n (46 ∷ [])) where
-    pub look-12 : t₂ ≡ true → Refused 12 ≡ looked e n p xs
+    pub look-12 : t₂ ≡ true → Refused FIXED ≡ looked e n p xs
     unfolding looked as-looked lookup-code
     look-12 f = sym (rw (sym h₁ ∙ not-false t₁ g₁, sym h₂ ∙ f) refl)
 
@@ -111,7 +112,7 @@ module _ (e : Edition) (n : List ℕ) (p : ℕ) (xs : List Entry) (t₁ : Bool) 
       unfolding looked as-looked lookup-code lookup-inode
       look-parent j f q = sym (rw (sym h₁ ∙ not-false t₁ g₁, sym h₂ ∙ g₂, sym h₃ ∙ f, q) refl)
 
-      pub look-13 : (t₄ : Bool) → t₃ ≡ false → t₄ ≡ holds e n xs → t₄ ≡ false → Refused 13 ≡ looked e n p xs
+      pub look-13 : (t₄ : Bool) → t₃ ≡ false → t₄ ≡ holds e n xs → t₄ ≡ false → Refused ABSENT ≡ looked e n p xs
       unfolding looked as-looked lookup-code
       look-13 t₄ f h q = sym (rw (sym h₁ ∙ not-false t₁ g₁, sym h₂ ∙ g₂, sym h₃ ∙ f, sym h ∙ q) refl)
 

@@ -3,7 +3,8 @@
 use Prim.Native.Nat.{ℕ, _≤_}
 use mathlib.Core.List.{List}
 use borrow.Author.Tests.{leb-true}
-use Rattle.be.proofs.Codes.{otherwise-le}
+use Rattle.refusal.specs.Refusal.{HIGHEST}
+use Rattle.be.proofs.Codes.{unless-le}
 use Rattle.edition.specs.declared.Edition.{Edition}
 use Rattle.dinode.proofs.SmallCodes.{directory-small}
 use Rattle.dir_sf.specs.Fork.{used-verdict, fork-verdict}
@@ -11,27 +12,27 @@ use Rattle.dir_sf.specs.Change.{lookup-code, insert-code, remove-code}
 use Rattle.dir_sf.specs.Inode.{verdict, lookup-number, insert-number, remove-number}
 use Rattle.dir_sf.specs.Walk.{step-number}
 
-fork-small : (e : Edition) (told : ℕ) (f : List ℕ) (size : ℕ) → fork-verdict e told f size ≤ 16
+fork-small : (e : Edition) (told : ℕ) (f : List ℕ) (size : ℕ) → fork-verdict e told f size ≤ HIGHEST
 unfolding fork-verdict used-verdict
-fork-small e told f size = search (otherwise-le, leb-true) depth 8
+fork-small e told f size = search (unless-le, leb-true) depth 8
 
 module _ (e : Edition) (told : ℕ) (b : List ℕ) where
-  pub verdict-small : verdict e told b ≤ 16
+  pub verdict-small : verdict e told b ≤ HIGHEST
   unfolding verdict
-  verdict-small = search (otherwise-le, directory-small, fork-small, leb-true)
+  verdict-small = search (unless-le, directory-small, fork-small, leb-true)
 
-  pub lookup-small : (n : List ℕ) → lookup-number e told b n ≤ 16
+  pub lookup-small : (n : List ℕ) → lookup-number e told b n ≤ HIGHEST
   unfolding lookup-number lookup-code
-  lookup-small n = search (otherwise-le, verdict-small, leb-true) depth 8
+  lookup-small n = search (unless-le, verdict-small, leb-true) depth 8
 
-  pub insert-small : (n : List ℕ) (kind i : ℕ) → insert-number e told b n kind i ≤ 16
+  pub insert-small : (n : List ℕ) (kind i : ℕ) → insert-number e told b n kind i ≤ HIGHEST
   unfolding insert-number insert-code
-  insert-small n kind i = search (otherwise-le, verdict-small, leb-true) depth 8
+  insert-small n kind i = search (unless-le, verdict-small, leb-true) depth 8
 
-  pub remove-small : (n : List ℕ) → remove-number e told b n ≤ 16
+  pub remove-small : (n : List ℕ) → remove-number e told b n ≤ HIGHEST
   unfolding remove-number remove-code
-  remove-small n = search (otherwise-le, verdict-small, leb-true) depth 8
+  remove-small n = search (unless-le, verdict-small, leb-true) depth 8
 
-  pub step-small : (place : ℕ) → step-number e told b place ≤ 16
+  pub step-small : (place : ℕ) → step-number e told b place ≤ HIGHEST
   unfolding step-number
-  step-small place = search (otherwise-le, verdict-small, leb-true)
+  step-small place = search (unless-le, verdict-small, leb-true)

@@ -6,6 +6,7 @@ use mathlib.Core.Path.{_≡_, refl, sym, _∙_}
 use mathlib.Core.List.{List, [], _∷_, _++_}
 use lib.Dec.{eqb}
 use borrow.Author.Tests.{eqb-true, not-true}
+use Rattle.refusal.specs.Refusal.{ABSENT}
 use Rattle.be.specs.Lists.{every, same}
 use Rattle.be.proofs.Bools.{by-cases, and-left, and-right, or-right, neither}
 use Rattle.edition.specs.declared.Edition.{Edition}
@@ -60,7 +61,7 @@ dotdot-legal e = refl
 
 module _ (e : Edition) (sane : Sane e) (told : ℕ) (b : List ℕ) (v : verdict e told b ≡ 0) where
   absent : (n : List ℕ) → legal-name e n ≡ true → fixed-name n ≡ false
-      → lookup-answer e told b n ≡ cond (holds e n (entries e (used e b))) (Found (number-in e n (entries e (used e b)))) (Refused 13)
+      → lookup-answer e told b n ≡ cond (holds e n (entries e (used e b))) (Found (number-in e n (entries e (used e b)))) (Refused ABSENT)
   unfolding lookup-answer looked as-looked lookup-code lookup-inode
   absent n h f =
       let d = not-fixed n f in

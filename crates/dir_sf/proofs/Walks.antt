@@ -10,7 +10,8 @@ use lib.Dec.{eqb}
 use lib.ListN.{length, take, drop, getD, length-take, length-drop}
 use lib.Seq.{drop-drop}
 use borrow.Author.Tests.{eq-eqb, ne-eqb}
-use Rattle.be.specs.Codes.{otherwise}
+use Rattle.refusal.specs.Refusal.{ASKED}
+use Rattle.be.specs.Codes.{_unless_then_}
 use Rattle.be.specs.Bytes.{field}
 use Rattle.be.proofs.Bools.{by-cases}
 use Rattle.edition.specs.declared.Edition.{Edition}
@@ -90,7 +91,7 @@ module _ (e : Edition) (u : List ℕ) (k wides place i p : ℕ) (a : k ≡ getD 
       → Stepped (record { next = p + 3 + n + v; seen = Live (record { number = j; start = e .literal + (p + 3); len = n }) }) ≡ step-in e u place
   walk-hit n v j h e₀ c f g = hit e (width-of wides) u (2 + width-of wides) k place i p n v s h e₀ c f j g ∙ whole e u k wides place a b
 
-  over : k ≤ i → step-in e u place ≡ cond (eqb place p) (at-end p) (Refused 11)
+  over : k ≤ i → step-in e u place ≡ cond (eqb place p) (at-end p) (Refused ASKED)
   unfolding step-over
   over h =
       let q : k - i ≡ 0 = omega arith in
@@ -100,7 +101,7 @@ module _ (e : Edition) (u : List ℕ) (k wides place i p : ℕ) (a : k ≡ getD 
   unfolding at-end
   walk-end h f = sym (over h ∙ rw (eq-eqb _ _ f) refl)
 
-  pub walk-off : k ≤ i → (place ≡ p → ⊥) → Refused 11 ≡ step-in e u place
+  pub walk-off : k ≤ i → (place ≡ p → ⊥) → Refused ASKED ≡ step-in e u place
   walk-off h f = sym (over h ∙ rw (ne-eqb _ _ f) refl)
 
 -- ---- the walk meets entry j at its place, for each j, and ends behind the last
@@ -155,7 +156,7 @@ pub lent-short : (e : Edition) (z : ℕ) (b : List ℕ) → z ≤ data-length e 
 lent-short e z b h k = simp (length-take, length-drop) (omega arith)
 
 -- a step's number
-over-is : (e : Edition) (w k p : ℕ) (d : List ℕ) (place : ℕ) → walked-code (step-over e w k p d place) ≡ otherwise (is-place e w k p d place) 11 0
+over-is : (e : Edition) (w k p : ℕ) (d : List ℕ) (place : ℕ) → walked-code (step-over e w k p d place) ≡ (ASKED unless is-place e w k p d place then 0)
 unfolding step-over is-place at-end at-entry
 over-is e w zero p d place = by-cases (eqb place p) (λ q. rw q refl) (λ q. rw q refl)
 over-is e w (suc k) p d place = by-cases (eqb place p) (λ q. rw q refl) (λ q. rw q (over-is e w k (p + long-in e w d) (drop (long-in e w d) d) place))

@@ -6,8 +6,9 @@ use mathlib.Core.Path.{_≡_}
 use mathlib.Core.List.{List, [], _∷_, _++_}
 use lib.Dec.{eqb, leb, ltb}
 use lib.ListN.{length, take, drop}
+use Rattle.refusal.specs.Refusal.{ASKED, FIXED, ABSENT, EXISTS, NOROOM, NARROW}
 use Rattle.be.specs.Lists.{same, without-first}
-use Rattle.be.specs.Codes.{otherwise}
+use Rattle.be.specs.Codes.{_unless_then_}
 use Rattle.edition.specs.declared.Edition.{Edition}
 use Rattle.edition.specs.Edition.{entry-size}
 use Rattle.name.specs.Name.{legal-name, legal-number, same-name, fixed-name, dot, dotdot}
@@ -37,9 +38,9 @@ pub record Hits (e : Edition) (n u : List ℕ) (r : Hit) : Type 0 where
 -- 11 ASKED, 12 FIXED ("." looked up in a short form), 13 ABSENT
 unfoldable pub lookup-code : Edition → List ℕ → List Entry → ℕ
 lookup-code e n xs =
-    otherwise (legal-name e n) 11 (
-    otherwise (not (same n dot)) 12 (
-    otherwise (same n dotdot || holds e n xs) 13 0))
+    ASKED unless legal-name e n then
+    FIXED unless not (same n dot) then
+    ABSENT unless same n dotdot || holds e n xs then 0
 
 -- Lookup of ".." gives the parent
 unfoldable pub lookup-inode : Edition → List ℕ → ℕ → List Entry → ℕ
@@ -88,10 +89,10 @@ has-room e told fork n kind i p xs =
 -- 11 ASKED, 12 FIXED, 14 EXISTS, 15 NOROOM
 unfoldable pub insert-code : Edition → ℕ → ℕ → List ℕ → ℕ → ℕ → ℕ → List Entry → ℕ
 insert-code e told fork n kind i p xs =
-    otherwise (legal-name e n && legal-number i) 11 (
-    otherwise (not (fixed-name n)) 12 (
-    otherwise (not (holds e n xs)) 14 (
-    otherwise (has-room e told fork n kind i p xs) 15 0)))
+    ASKED unless legal-name e n && legal-number i then
+    FIXED unless not (fixed-name n) then
+    EXISTS unless not (holds e n xs) then
+    NOROOM unless has-room e told fork n kind i p xs then 0
 
 -- ---- removal
 
@@ -110,7 +111,7 @@ narrows p xs ys = not (eqb (wides-of p xs) 0) && eqb (wides-of p ys) 0 && is-wid
 -- 11 ASKED, 12 FIXED, 13 ABSENT, 16 NARROW
 unfoldable pub remove-code : Edition → List ℕ → ℕ → List Entry → ℕ
 remove-code e n p xs =
-    otherwise (legal-name e n) 11 (
-    otherwise (not (fixed-name n)) 12 (
-    otherwise (holds e n xs) 13 (
-    otherwise (not (narrows p xs (removed e n xs))) 16 0)))
+    ASKED unless legal-name e n then
+    FIXED unless not (fixed-name n) then
+    ABSENT unless holds e n xs then
+    NARROW unless not (narrows p xs (removed e n xs)) then 0

@@ -7,7 +7,8 @@ use mathlib.Core.Bool.{Bool, true, not, cond, _&&_}
 use mathlib.Core.List.{List, [], _∷_, _++_}
 use lib.Dec.{eqb, leb}
 use lib.ListN.{length, take, drop, replicate}
-use Rattle.be.specs.Codes.{otherwise}
+use Rattle.refusal.specs.Refusal.{SPAN, TILE, NAME, NUMBER, INDEX, TWICE}
+use Rattle.be.specs.Codes.{_unless_then_}
 use Rattle.be.specs.Lists.{every, some-of}
 use Rattle.be.specs.Bytes.{byte, field, to-be}
 use Rattle.edition.specs.declared.Edition.{Edition}
@@ -97,11 +98,11 @@ once-ok e (x ∷ xs) = not (holds e (x .name) xs) && once-ok e xs
 -- tests 5 to 10 of the used bytes, 8 INDEX being i8count; 0 if none fails
 unfoldable pub used-verdict : Edition → ℕ → List ℕ → ℕ
 used-verdict e told u =
-    otherwise (tile-ok e told u) 5 (
-    otherwise (names-ok e (entries e u)) 6 (
-    otherwise (numbers-ok (parent u) (entries e u)) 7 (
-    otherwise (eqb (stored-wides u) (wides-of (parent u) (entries e u))) 8 (
-    otherwise (once-ok e (entries e u)) 10 0))))
+    TILE unless tile-ok e told u then
+    NAME unless names-ok e (entries e u) then
+    NUMBER unless numbers-ok (parent u) (entries e u) then
+    INDEX unless eqb (stored-wides u) (wides-of (parent u) (entries e u)) then
+    TWICE unless once-ok e (entries e u) then 0
 
 unfoldable pub fork-verdict : Edition → ℕ → List ℕ → ℕ → ℕ
-fork-verdict e told f size = otherwise (span-ok f size) 4 (used-verdict e told (take size f))
+fork-verdict e told f size = SPAN unless span-ok f size then used-verdict e told (take size f)

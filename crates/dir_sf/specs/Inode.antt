@@ -5,8 +5,9 @@ use mathlib.Core.Bool.{cond}
 use mathlib.Core.List.{List, [], _∷_}
 use lib.Dec.{eqb}
 use lib.ListN.{length, take}
+use Rattle.refusal.specs.Refusal.{SIZE}
 use Rattle.be.specs.Bytes.{field, to-be, written, write}
-use Rattle.be.specs.Codes.{otherwise, and-then}
+use Rattle.be.specs.Codes.{_unless_then_, _and-then_}
 use Rattle.edition.specs.declared.Edition.{Edition}
 use Rattle.edition.specs.Edition.{block-size}
 use Rattle.dinode.specs.Core.{directory-code, data-fork, data-length}
@@ -27,13 +28,13 @@ used e b = take (size-of b) (data-fork e b)
 -- tests 1 to 10, 1 SIZE being the told block length's first: 0, or the number of the first that fails
 unfoldable pub verdict : Edition → ℕ → List ℕ → ℕ
 verdict e told b =
-    otherwise (block-size told) 1 (
-    and-then (directory-code e b) (
-    fork-verdict e told (data-fork e b) (size-of b)))
+    SIZE unless block-size told then
+    directory-code e b and-then
+    fork-verdict e told (data-fork e b) (size-of b)
 
 -- the verdict, or what the request itself comes to
 abbrev pub after-tests : Edition → ℕ → List ℕ → ℕ → ℕ
-after-tests e told b code = and-then (verdict e told b) code
+after-tests e told b code = verdict e told b and-then code
 
 -- ---- what each call answers
 

@@ -5,6 +5,7 @@ use mathlib.Core.Bool.{true, false, cond}
 use mathlib.Core.Path.{_≡_}
 use mathlib.Core.List.{List, _∷_, _++_}
 use lib.ListN.{length}
+use Rattle.refusal.specs.Refusal.{ABSENT}
 use Rattle.edition.specs.declared.Edition.{Edition}
 use Rattle.name.specs.Name.{legal-name, fixed-name, dotdot}
 use Rattle.dir_sf.specs.declared.Looked.the-variants.{Found, Refused}
@@ -26,7 +27,7 @@ Lookup-stored e = (told : ℕ) (b : List ℕ) (ys zs : List Entry) (x : Entry) �
 -- a name that may be stored is absent exactly when no entry bears it
 unfoldable pub Lookup-absent : Edition → Type 0
 Lookup-absent e = (told : ℕ) (b n : List ℕ) → verdict e told b ≡ 0 → legal-name e n ≡ true → fixed-name n ≡ false
-    → lookup-answer e told b n ≡ cond (holds e n (entries e (used e b))) (Found (number-in e n (entries e (used e b)))) (Refused 13)
+    → lookup-answer e told b n ≡ cond (holds e n (entries e (used e b))) (Found (number-in e n (entries e (used e b)))) (Refused ABSENT)
 
 -- ".." gives the parent
 unfoldable pub Lookup-parent : Edition → Type 0

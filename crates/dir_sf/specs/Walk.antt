@@ -5,7 +5,8 @@ use mathlib.Core.Bool.{Bool, cond, _||_}
 use mathlib.Core.List.{List, [], _∷_}
 use lib.Dec.{eqb}
 use lib.ListN.{length, drop}
-use Rattle.be.specs.Codes.{otherwise}
+use Rattle.refusal.specs.Refusal.{ASKED}
+use Rattle.be.specs.Codes.{_unless_then_}
 use Rattle.edition.specs.declared.Edition.{Edition}
 use Rattle.dir_sf.specs.declared.Walked.{Walked}
 use Rattle.dir_sf.specs.declared.Seen.{Seen}
@@ -31,7 +32,7 @@ at-entry e w p d =
 
 -- the step from a place, over k entries in d, the first of them at p: places are record starts and the list's end
 unfoldable pub step-over : Edition → ℕ → ℕ → ℕ → List ℕ → ℕ → Walked
-step-over e w zero p d place = cond (eqb place p) (at-end p) (Refused 11)
+step-over e w zero p d place = cond (eqb place p) (at-end p) (Refused ASKED)
 step-over e w (suc k) p d place =
     let r = step-over e w k (p + long-in e w d) (drop (long-in e w d) d) place in
     cond (eqb place p) (at-entry e w p d) r
@@ -52,7 +53,7 @@ is-place e w (suc k) p d place = eqb place p || is-place e w k (p + long-in e w 
 unfoldable pub step-number : Edition → ℕ → List ℕ → ℕ → ℕ
 step-number e told b place =
     let u = used e b in
-    after-tests e told b (otherwise (is-place e (used-width u) (count-of u) (2 + used-width u) (list-of u) place) 11 0)
+    after-tests e told b (ASKED unless is-place e (used-width u) (count-of u) (2 + used-width u) (list-of u) place then 0)
 
 -- the number of each case of an answer: 0 when the step is done
 abbrev pub walked-code : Walked → ℕ

@@ -268,20 +268,20 @@ fn used_code(e: Edition, u: &[u8], told: usize) -> usize
     let wides = be::be8(u, 1);
     let at = 2 + width(wides);
     if !tiled(e, u, at, k, wides, told) {
-        return 5;
+        return refusal::TILE;
     }
     if !named(e, u, at, k, wides) {
-        return 6;
+        return refusal::NAME;
     }
     let parent = number(u, 2, wides);
     if !numbered(e, u, parent, at, k, wides) {
-        return 7;
+        return refusal::NUMBER;
     }
     if wides != count_wide(e, u, parent, at, k, wides) {
-        return 8;
+        return refusal::INDEX;
     }
     if !once(e, u, at, k, wides) {
-        return 10;
+        return refusal::TWICE;
     }
     0
 }
@@ -293,10 +293,10 @@ fn fork_code(e: Edition, f: &[u8], size: usize, told: usize) -> usize
 {
     let wides = be::be8(f, 1);
     if size < 2 + width(wides) {
-        return 4;
+        return refusal::SPAN;
     }
     if f.len() < size {
-        return 4;
+        return refusal::SPAN;
     }
     used_code(e, &f[..size], told)
 }
@@ -319,7 +319,7 @@ pub fn code(e: Edition, b: &[u8], told: usize) -> usize
     ensures { λ r. ⌜ r ≡ verdict e told (now (b .entry)) ⌝ }
 {
     if !edition::block_sized(told) {
-        return 1;
+        return refusal::SIZE;
     }
     let c = dinode::code_of_directory(e, b);
     if c != 0 {
@@ -410,10 +410,10 @@ fn look<'a, 'b>(e: Edition, u: &'a [u8], name: &'b [u8]) -> Looked
     ensures { λ r. ⌜ r ≡ looked e (now (name .entry)) (parent (now (u .entry))) (entries e (now (u .entry))) ⌝ }
 {
     if !name::legal(e, name) {
-        return Looked::Refused(11);
+        return Looked::Refused(refusal::ASKED);
     }
     if name::equal(name, b".") {
-        return Looked::Refused(12);
+        return Looked::Refused(refusal::FIXED);
     }
     if name::equal(name, b"..") {
         let number = parent_of(u);
@@ -423,7 +423,7 @@ fn look<'a, 'b>(e: Edition, u: &'a [u8], name: &'b [u8]) -> Looked
     if h.held {
         return Looked::Found { number: h.number };
     }
-    Looked::Refused(13)
+    Looked::Refused(refusal::ABSENT)
 }
 
 fn look_up<'a, 'b>(e: Edition, b: &'a [u8], told: usize, name: &'b [u8]) -> Looked
@@ -483,7 +483,7 @@ fn step_over(e: Edition, u: &[u8], place: usize) -> Walked
             seen: Seen::End,
         });
     }
-    Walked::Refused(11)
+    Walked::Refused(refusal::ASKED)
 }
 
 fn walk_from(e: Edition, b: &[u8], told: usize, place: usize) -> Walked

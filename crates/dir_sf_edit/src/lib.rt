@@ -248,14 +248,14 @@ fn removal_code<'a, 'b>(e: Edition, u: &'a [u8], name: &'b [u8]) -> usize
     ensures { λ r. ⌜ r ≡ remove-code e (now (name .entry)) (parent (now (u .entry))) (entries e (now (u .entry))) ⌝ }
 {
     if !name::legal(e, name) {
-        return 11;
+        return refusal::ASKED;
     }
     if name::fixed(name) {
-        return 12;
+        return refusal::FIXED;
     }
     let h = dir_sf::seek_name(e, u, name);
     if !h.held {
-        return 13;
+        return refusal::ABSENT;
     }
     let wides = be::be8(u, 1);
     if narrowing(
@@ -263,7 +263,7 @@ fn removal_code<'a, 'b>(e: Edition, u: &'a [u8], name: &'b [u8]) -> usize
         wides - dir_sf::one_if_wide(h.number),
         dir_sf::parent_of(u),
     ) {
-        return 16;
+        return refusal::NARROW;
     }
     0
 }
@@ -468,24 +468,24 @@ fn insertion_code<'a, 'b>(
     ensures { λ r. ⌜ r ≡ insert-code e told fork (now (name .entry)) kind ino (parent (now (u .entry))) (entries e (now (u .entry))) ⌝ }
 {
     if !name::legal(e, name) {
-        return 11;
+        return refusal::ASKED;
     }
     if !name::number_legal(ino) {
-        return 11;
+        return refusal::ASKED;
     }
     if name::fixed(name) {
-        return 12;
+        return refusal::FIXED;
     }
     let h = dir_sf::seek_name(e, u, name);
     if h.held {
-        return 14;
+        return refusal::EXISTS;
     }
     let tag = tag_of(e, u, name.len(), told);
     if tag == 0 {
-        return 15;
+        return refusal::NOROOM;
     }
     if fork < grown(e, u, name, tag, kind, ino) {
-        return 15;
+        return refusal::NOROOM;
     }
     0
 }

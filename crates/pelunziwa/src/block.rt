@@ -28,7 +28,7 @@ pub extern "C" fn pzw_block_lookup(block: &[u8], name: &[u8]) -> Found
 {
     match dir_block_lookup::lookup(block, name) {
         Looked::Found { number, compared } => crate::looked(0, number, compared),
-        Looked::Absent { compared } => crate::looked(13, 0, compared),
+        Looked::Absent { compared } => crate::looked(crate::code(refusal::ABSENT), 0, compared),
         Looked::Refused(n) => crate::looked(crate::code(n), 0, 0),
     }
 }

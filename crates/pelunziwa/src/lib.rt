@@ -1,8 +1,9 @@
 // What C and Rust call: each call of the library under a fixed name. An answer that is an enum goes out as a struct of numbers:
-// `refusal` is 0 or the refusal's number, and the other fields are 0 when it is not 0, except `compared` of a block lookup's 13.
+// `refusal` is 0 or the refusal's number, and the other fields are 0 when it is not 0, except `compared` of a block lookup's ABSENT.
 // include/pelunziwa.h declares the same structs and calls for C; the layouts are fixed.
 ghost use mathlib.Core.Path.{_≡_};
 ghost use Prim.Native.Nat.{_≤_};
+ghost use Rattle.refusal.specs.Refusal.{HIGHEST};
 ghost use Rattle.pelunziwa.specs.Answers.{looked, live, no-entry};
 
 mod attr;
@@ -63,9 +64,9 @@ pub struct AttrStep {
     pub value_len: u64,
 }
 
-// The number of a refusal, or 0 for done: at most 16, so that no bits are lost.
+// The number of a refusal, or 0 for done: at most the highest, so that no bits are lost.
 fn code(n: usize) -> u32
-    requires { ⌜ n ≤ 16 ⌝ }
+    requires { ⌜ n ≤ HIGHEST ⌝ }
     ensures { λ r. ⌜ r ≡ n ⌝ }
 {
     n as u32

@@ -5,7 +5,7 @@ use denote.Ref.{now}
 use borrow.Author.Needs.{needs}
 use borrow.Author.Tests.{not-true, not-false}
 use Rattle.be.specs.Bytes.{byte}
-use Rattle.dir_block_test.proofs.EntryWalk.{fault-6, fault-7, fault-8, fault-9}
+use Rattle.dir_block_test.proofs.EntryWalk.{fault-name, fault-number, fault-index, fault-none}
 use Rattle.dir_block_test.proofs.entry_fault.Statement.{statement}
 use Rattle.dir_block_test.proofs.entry_fault.Tie as tie
 
@@ -14,28 +14,28 @@ returns c =
     let a = c .before .before .before .before .before .before .before .args in
     let k : ℕ = a .o + 9 + c .before .before .before .before .before .be8 .result - (a .o + 9) in
     let q : a .o + 9 + c .before .before .before .before .before .be8 .result - (a .o + 9) ≡ byte (a .o + 8) (now (a .b)) = omega (arith, c .before .before .before .before .before .be8 .ensures .0) in
-    fault-6 _ _ _ (now (a .b)) (a .o) k q _ (c .before .name-fits .ensures) (not-true _ (c .if1 .taken))
+    fault-name _ _ _ (now (a .b)) (a .o) k q _ (c .before .name-fits .ensures) (not-true _ (c .if1 .taken))
 
 returns-2 : tie.Need-returns-2
 returns-2 c =
     let a = c .before .before .before .before .before .before .before .before .before .before .args in
     let k : ℕ = a .o + 9 + c .before .before .before .before .before .before .before .before .be8 .result - (a .o + 9) in
     let q : a .o + 9 + c .before .before .before .before .before .before .before .before .be8 .result - (a .o + 9) ≡ byte (a .o + 8) (now (a .b)) = omega (arith, c .before .before .before .before .before .before .before .before .be8 .ensures .0) in
-    fault-7 _ _ _ (now (a .b)) (a .o) k q _ (c .before .before .before .before .name-fits .ensures) (not-false _ (c .before .before .before .if1 .left)) _ (c .before .before .be64 .ensures) _ (c .before .number-legal .ensures) (not-true _ (c .if2 .taken))
+    fault-number _ _ _ (now (a .b)) (a .o) k q _ (c .before .before .before .before .name-fits .ensures) (not-false _ (c .before .before .before .if1 .left)) _ (c .before .before .be64 .ensures) _ (c .before .number-legal .ensures) (not-true _ (c .if2 .taken))
 
 returns-3 : tie.Need-returns-3
 returns-3 c =
     let a = c .before .before .before .before .before .before .before .before .before .before .before .before .args in
     let k : ℕ = a .o + 9 + c .before .before .before .before .before .before .before .before .before .before .be8 .result - (a .o + 9) in
     let q : a .o + 9 + c .before .before .before .before .before .before .before .before .before .before .be8 .result - (a .o + 9) ≡ byte (a .o + 8) (now (a .b)) = omega (arith, c .before .before .before .before .before .before .before .before .before .before .be8 .ensures .0) in
-    fault-9 _ _ _ (now (a .b)) (a .o) k q _ (c .before .before .before .before .before .before .name-fits .ensures) (not-false _ (c .before .before .before .before .before .if1 .left)) _ (c .before .before .before .before .be64 .ensures) _ (c .before .before .before .number-legal .ensures) (not-false _ (c .before .before .if2 .left)) _ (c .before .before .before .before .before .before .before .before .check .ensures .1 .0) _ (c .before .has-slot .ensures) (c .if3 .taken)
+    fault-none _ _ _ (now (a .b)) (a .o) k q _ (c .before .before .before .before .before .before .name-fits .ensures) (not-false _ (c .before .before .before .before .before .if1 .left)) _ (c .before .before .before .before .be64 .ensures) _ (c .before .before .before .number-legal .ensures) (not-false _ (c .before .before .if2 .left)) _ (c .before .before .before .before .before .before .before .before .check .ensures .1 .0) _ (c .before .has-slot .ensures) (c .if3 .taken)
 
 returns-4 : tie.Need-returns-4
 returns-4 c =
     let a = c .before .before .before .before .before .before .before .before .before .before .before .before .args in
     let k : ℕ = a .o + 9 + c .before .before .before .before .before .before .before .before .before .before .be8 .result - (a .o + 9) in
     let q : a .o + 9 + c .before .before .before .before .before .before .before .before .before .before .be8 .result - (a .o + 9) ≡ byte (a .o + 8) (now (a .b)) = omega (arith, c .before .before .before .before .before .before .before .before .before .before .be8 .ensures .0) in
-    fault-8 _ _ _ (now (a .b)) (a .o) k q _ (c .before .before .before .before .before .before .name-fits .ensures) (not-false _ (c .before .before .before .before .before .if1 .left)) _ (c .before .before .before .before .be64 .ensures) _ (c .before .before .before .number-legal .ensures) (not-false _ (c .before .before .if2 .left)) _ (c .before .before .before .before .before .before .before .before .check .ensures .1 .0) _ (c .before .has-slot .ensures) (c .if3 .left)
+    fault-index _ _ _ (now (a .b)) (a .o) k q _ (c .before .before .before .before .before .before .name-fits .ensures) (not-false _ (c .before .before .before .before .before .if1 .left)) _ (c .before .before .before .before .be64 .ensures) _ (c .before .before .before .number-legal .ensures) (not-false _ (c .before .before .if2 .left)) _ (c .before .before .before .before .before .before .before .before .check .ensures .1 .0) _ (c .before .has-slot .ensures) (c .if3 .left)
 
 pub entry-fault-spec : {M : Type 1} → statement M
 entry-fault-spec =

@@ -1,7 +1,7 @@
 use native.Mathlib.Omega.{arith}
 use Prim.Native.Nat.{_-_, _≤_}
 use mathlib.Core.Path.{refl}
-use Rattle.dir_block_test.specs.Passes.{hint, rest, own-at}
+use Rattle.dir_block_test.specs.Passes.{no-fault, hint, rest, own-at}
 use lib.ListN.{length}
 use Rattle.dir_block_test.proofs.EntryWalk.{Walk, Faulting, walk-start, walk-end, walk-on, walk-head, walk-room, worst-start, worst-end, worst-on, fault-here, entry-fits}
 use Rattle.dir_block_test.proofs.faults.Statement.{statement}
@@ -9,7 +9,7 @@ use Rattle.dir_block_test.proofs.faults.Tie as tie
 
 abbrev Inv-loop : tie.InvT-loop
 Inv-loop e b t n pos o₀ w₀ o w =
-    Walk e b t o (Faulting e (own-at e b) (hint pos b t n) (rest e b t (length b) (e .header)) w) × (w ≤ 9)
+    Walk e b t o (Faulting e (own-at e b) (hint pos b t n) (rest e b t (length b) (e .header)) w) × (w ≤ no-fault)
 
 abbrev μ-loop : tie.MeasureT-loop
 μ-loop e b t n pos o₀ w₀ o w =

@@ -26,7 +26,7 @@ returns : tie.Need-returns
 returns c =
     let q = c .before .before .before .before .before .before .before .before .pre in
     let p = q .1 in
-    end-6 _ (q .0) _ _ _ (p .0) _ _ (replicate {A = ℕ} record-places 0) len0 (p .1) (p .2) _ (c .before .before .before .before .before .before .counts-fit .ensures) _ (c .before .before .before .searched .ensures) _ (c .before .before .before .before .places .ensures) _ (c .before .faults .ensures) (c .if1 .taken)
+    end-6 _ (q .0) _ _ _ (p .0) _ _ (replicate {A = ℕ} record-places 0) len0 (p .1) (p .2) _ (c .before .before .before .before .before .before .counts-fit .ensures) _ (c .before .before .before .searched .ensures) _ (c .before .before .before .before .places .ensures) _ (c .before .faults .ensures) (omega (arith, c .if1 .taken))
 
 entry-at-requires : tie.Need-entry-at-requires
 entry-at-requires c κs =
@@ -46,7 +46,7 @@ returns-3 : tie.Need-returns-3
 returns-3 c =
     let q = c .before .before .before .before .before .before .before .before .before .before .before .before .before .pre in
     let p = q .1 in
-    end-7 _ (q .0) _ _ _ (p .0) _ _ (replicate {A = ℕ} record-places 0) len0 (p .1) (p .2) _ (c .before .before .before .before .before .before .before .before .before .before .before .counts-fit .ensures) _ (c .before .before .before .before .before .before .before .before .searched .ensures) _ (c .before .before .before .before .before .before .before .before .before .places .ensures) _ (c .before .before .before .before .before .before .faults .ensures) (c .before .before .before .before .before .if1 .left) _ (both-there refl (c .before .before .before .before .entry-at .ensures) (c .before .before .entry-at2 .ensures)) (not-false _ (c .before .if2 .left)) (c .if3 .taken)
+    end-7 _ (q .0) _ _ _ (p .0) _ _ (replicate {A = ℕ} record-places 0) len0 (p .1) (p .2) _ (c .before .before .before .before .before .before .before .before .before .before .before .counts-fit .ensures) _ (c .before .before .before .before .before .before .before .before .searched .ensures) _ (c .before .before .before .before .before .before .before .before .before .places .ensures) _ (c .before .before .before .before .before .before .faults .ensures) (c .before .before .before .before .before .if1 .left) _ (both-there refl (c .before .before .before .before .entry-at .ensures) (c .before .before .entry-at2 .ensures)) (not-false _ (c .before .if2 .left)) (omega (arith, c .if3 .taken))
 
 returns-4 : tie.Need-returns-4
 returns-4 c =
@@ -58,7 +58,7 @@ returns-5 : tie.Need-returns-5
 returns-5 c =
     let q = c .before .before .before .before .before .before .before .before .before .before .before .before .before .before .before .pre in
     let p = q .1 in
-    end-8′ _ (q .0) _ _ _ (p .0) _ _ (replicate {A = ℕ} record-places 0) len0 (p .1) (p .2) _ (c .before .before .before .before .before .before .before .before .before .before .before .before .before .counts-fit .ensures) _ (c .before .before .before .before .before .before .before .before .before .before .searched .ensures) _ (c .before .before .before .before .before .before .before .before .before .before .before .places .ensures) _ (c .before .before .before .before .before .before .before .before .faults .ensures) (c .before .before .before .before .before .before .before .if1 .left) _ (both-there refl (c .before .before .before .before .before .before .entry-at .ensures) (c .before .before .before .before .entry-at2 .ensures)) (not-false _ (c .before .before .before .if2 .left)) (c .before .before .if3 .left) (not-false _ (c .before .if4 .left)) (c .if5 .taken)
+    end-8′ _ (q .0) _ _ _ (p .0) _ _ (replicate {A = ℕ} record-places 0) len0 (p .1) (p .2) _ (c .before .before .before .before .before .before .before .before .before .before .before .before .before .counts-fit .ensures) _ (c .before .before .before .before .before .before .before .before .before .before .searched .ensures) _ (c .before .before .before .before .before .before .before .before .before .before .before .places .ensures) _ (c .before .before .before .before .before .before .before .before .faults .ensures) (c .before .before .before .before .before .before .before .if1 .left) _ (both-there refl (c .before .before .before .before .before .before .entry-at .ensures) (c .before .before .before .before .entry-at2 .ensures)) (not-false _ (c .before .before .before .if2 .left)) (c .before .before .if3 .left) (not-false _ (c .before .if4 .left)) (omega (arith, c .if5 .taken))
 
 test-best-requires : tie.Need-test-best-requires
 test-best-requires c κs =
