@@ -11,7 +11,7 @@ use Rattle.be.proofs.Writes.{put-next, put-nothing}
 use Rattle.edition.specs.declared.Edition.{Edition}
 use Rattle.edition.specs.Edition.{entry-size}
 use Rattle.edition.proofs.Sizes.{entry-size-least}
-use Rattle.dir_block_rules.specs.declared.Target.{Target}
+use Rattle.dir.specs.declared.Target.{Target}
 use Rattle.dir_block_rules.specs.Record.{pad, entry-bytes, gap-writes}
 use Rattle.dir_block_rules.specs.Change.{entry-writes}
 

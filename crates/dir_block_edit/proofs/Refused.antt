@@ -11,8 +11,9 @@ use Rattle.be.proofs.Bools.{by-cases}
 use Rattle.be.specs.Codes.{_unless_then_}
 use Rattle.edition.specs.declared.Edition.{Edition}
 use Rattle.name.specs.Name.{legal-name, fixed-name}
-use Rattle.dir_block_rules.specs.Verdict.{verdict, legal-target}
-use Rattle.dir_block_rules.specs.declared.Target.{Target}
+use Rattle.dir.specs.Target.{legal-target}
+use Rattle.dir_block_rules.specs.Verdict.{verdict}
+use Rattle.dir.specs.declared.Target.{Target}
 use Rattle.dir_block_rules.specs.Lookup.{sought}
 use Rattle.dir_block_rules.specs.Room.{has-room}
 use Rattle.dir_block_rules.specs.Change.{insert-code, insert-block, remove-code, remove-block}

@@ -14,9 +14,10 @@ use Rattle.edition.specs.Edition.{entry-size, Sane}
 use Rattle.dir_block_rules.specs.Record.{size, gap-writes, gaps}
 use Rattle.dir_block_rules.specs.Block.{slots, slot, stale-of, is-stale, is-live, records}
 use Rattle.name.specs.Name.{hash-of, legal-name, fixed-name}
-use Rattle.dir_block_rules.specs.declared.Target.{Target}
+use Rattle.dir.specs.declared.Target.{Target}
 use Rattle.dir_block_rules.specs.Lookup.{sought}
-use Rattle.dir_block_rules.specs.Verdict.{pair, legal-target}
+use Rattle.dir.specs.Target.{legal-target}
+use Rattle.dir_block_rules.specs.Verdict.{pair}
 use Rattle.dir_block_rules.specs.Room.{has-room, room, other-gaps, longest}
 use Rattle.dir_block_rules.specs.Change.{index-writes, insert-slot, entry-writes, insert-writes, changed, insert-code, insert-block}
 use Rattle.dir_block_rules.proofs.EachCall.{insert-code-is}

@@ -5,7 +5,7 @@ use mathlib.Core.Bool.{Bool, true, false}
 use mathlib.Core.List.{List}
 use Rattle.be.specs.Bytes.{written}
 use Rattle.edition.specs.declared.Edition.{Edition}
-use Rattle.dir_block_rules.specs.declared.Target.{Target}
+use Rattle.dir.specs.declared.Target.{Target}
 use Rattle.dir_block_rules.specs.Change.{insert-writes}
 
 abbrev pub chosen : Edition → Bool → List ℕ → List ℕ → Target → List ℕ

@@ -15,12 +15,13 @@ use Rattle.edition.specs.Edition.{entry-size, Sane}
 use Rattle.dir_block_rules.specs.Record.{Rec, size, gaps, besides, is-gap, gap-writes}
 use Rattle.dir_block_rules.specs.Block.{Slot, slot, slots, records, data-end, stale-of, is-stale, is-live, slot-bytes, count-of}
 use Rattle.name.specs.Name.{hash-of, legal-name, fixed-name}
-use Rattle.dir_block_rules.specs.Verdict.{Pair, pair, legal-target}
+use Rattle.dir.specs.Target.{legal-target}
+use Rattle.dir_block_rules.specs.Verdict.{Pair, pair}
 use Rattle.dir_block_rules.specs.Room.{room, longest, touching, other-gaps, has-room, case-a, case-b, case-c, case-d, last-of}
 use Rattle.dir_block_rules.specs.Change.{best-of, index-writes, insert-slot, entry-writes, insert-writes, writes-a, writes-b, writes-c, writes-d}
 use Rattle.be.proofs.Bools.{by-cases}
 use Rattle.be.proofs.Numbers.{length-to-be}
-use Rattle.dir_block_rules.specs.declared.Target.{Target}
+use Rattle.dir.specs.declared.Target.{Target}
 use Rattle.dir_block_rules.specs.Lookup.{sought}
 use Rattle.dir_block_rules.proofs.RecordPlaces.{Split}
 use Rattle.dir_block_rules.proofs.AcceptedParts.{keep-find, Found-in}

@@ -16,13 +16,14 @@ use Rattle.be.proofs.Bools.{every-cons, every-append, and-both, by-cases}
 use Rattle.edition.specs.declared.Edition.{Edition}
 use Rattle.edition.specs.Edition.{Sane, entry-size}
 use Rattle.edition.proofs.Sizes.{entry-size-least}
-use Rattle.dir_block_rules.specs.declared.Seen.{Seen}
-use Rattle.dir_block_rules.specs.declared.Seen.the-variants.{Live, Gap}
-use Rattle.dir_block_rules.specs.declared.Step.{Step}
-use Rattle.dir_block_rules.specs.declared.Walked.the-variants.{Stepped}
+use Rattle.dir.specs.declared.Seen.{Seen}
+use Rattle.dir.specs.declared.Seen.the-variants.{Live, Gap}
+use Rattle.dir.specs.declared.Step.{Step}
+use Rattle.dir.specs.declared.Walked.the-variants.{Stepped}
 use Rattle.dir_block_rules.specs.Record.{Rec, size, gap-start, number, namelen}
 use Rattle.dir_block_rules.specs.Block.{records, data-end}
-use Rattle.dir_block_rules.specs.Walk.{step-over, step-end, is-place, walk-step, seen-start, seen-len}
+use Rattle.dir.specs.Answers.{seen-start, seen-len}
+use Rattle.dir_block_rules.specs.Walk.{step-over, step-end, is-place, walk-step}
 use Rattle.dir_block_rules.proofs.CutJoin.{Laid, join, laid-back, laid-front, join-append}
 use Rattle.dir_block_rules.proofs.RecordPlaces.{some-at, off-above, none-at}
 use Rattle.dir_block_rules.proofs.WholeWalk.{step-at, at-end}

@@ -9,9 +9,10 @@ use Rattle.edition.specs.declared.Edition.{Edition}
 use Rattle.dir_block_rules.specs.Record.{Rec, size, gaps, is-gap}
 use Rattle.dir_block_rules.specs.Block.{records, data-end}
 use Rattle.dir_block_rules.specs.Verdict.{Pair}
-use Rattle.dir_block_rules.specs.declared.Step.{Step}
-use Rattle.dir_block_rules.specs.declared.Walked.the-variants.{Stepped}
-use Rattle.dir_block_rules.specs.Walk.{is-place, walk-step, seen-start, seen-len}
+use Rattle.dir.specs.declared.Step.{Step}
+use Rattle.dir.specs.declared.Walked.the-variants.{Stepped}
+use Rattle.dir.specs.Answers.{seen-start, seen-len}
+use Rattle.dir_block_rules.specs.Walk.{is-place, walk-step}
 use Rattle.dir_block_rules.specs.Room.{touching}
 use Rattle.dir_block_rules.specs.Change.{best-of}
 use Rattle.dir_block_rules.proofs.CutJoin.{join}

@@ -8,8 +8,8 @@ use borrow.Author.Tests.{ne-eqb}
 use Rattle.refusal.specs.Refusal.{ASKED}
 use Rattle.edition.specs.declared.Edition.{Edition}
 use Rattle.name.specs.Name.{legal-name}
-use Rattle.dir_block_rules.specs.declared.Looked.the-variants.{Found, Absent, Refused}
-use Rattle.dir_block_rules.specs.declared.Walked.the-variants.{Refused as Walked-refused}
+use Rattle.dir.specs.declared.Looked.the-variants.{Found, Absent, Refused}
+use Rattle.dir.specs.declared.Walked.the-variants.{Refused as Walked-refused}
 use Rattle.dir_block_rules.specs.Block.{records, data-end}
 use Rattle.dir_block_rules.specs.Verdict.{verdict, Accepted}
 use Rattle.dir_block_rules.specs.Lookup.{Sought, sought, number-at, lookup, lookup-refusal}

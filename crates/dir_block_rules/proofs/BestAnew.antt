@@ -9,20 +9,22 @@ use Rattle.be.proofs.Bools.{by-cases, clash}
 use Rattle.edition.specs.declared.Edition.{Edition}
 use Rattle.edition.specs.Edition.{v4, Sane}
 use Rattle.edition.proofs.Sizes.{v4-sane}
-use Rattle.dir_block_rules.specs.declared.Looked.{Looked}
+use Rattle.dir.specs.declared.Looked.{Looked}
 use Rattle.dir_block_rules.specs.Record.{gaps}
 use Rattle.dir_block_rules.specs.Block.{records}
 use Rattle.dir_block_rules.specs.Verdict.{best-pairs}
-use Rattle.dir_block_rules.specs.Lookup.{lookup, sought, kind-at, looked-code}
+use Rattle.dir.specs.Answers.{looked-code}
+use Rattle.dir_block_rules.specs.Lookup.{lookup}
 use Rattle.dir_block_rules.specs.Change.{best-table, insert-code, remove-code}
-use Rattle.dir_block_rules.specs.Calls.{Call, look-up, insert, remove, done, found-or, done-or, reply, after}
-use Rattle.dir_block_rules.specs.Book.{is-done}
+use Rattle.dir.specs.Calls.{Call, look-up, insert, remove, done, found-or, done-or}
+use Rattle.dir_block_rules.specs.Calls.{reply, after}
+use Rattle.dir.specs.Book.{is-done}
 use Rattle.dir_block_rules.specs.Demand.{call-bytes}
 use Rattle.dir_block_rules.specs.Claims.{Best-right}
 use Rattle.dir_block_rules.proofs.EachCall.{refused-not-done, insert-done, remove-done}
 
-found-not-done : (k : ℕ) (a : Looked) → is-done (found-or k a) ≡ false
-found-not-done k a = by-cases (eqb (looked-code a) 0) (λ z. rw z refl) (λ z. rw z refl)
+found-not-done : (a : Looked) → is-done (found-or a) ≡ false
+found-not-done a = by-cases (eqb (looked-code a) 0) (λ z. rw z refl) (λ z. rw z refl)
 
 done-is-0 : (k : ℕ) → done-or k ≡ done → k ≡ 0
 done-is-0 k q = by-cases (eqb k 0) (λ z. eqb-true k 0 z) (λ z. absurd (clash (ap is-done q) (refused-not-done k z)))
@@ -32,7 +34,7 @@ unfolding Best-right reply after
 best-right e sane b c h a q d = anew c q d
   where
     anew : (c : Call) → call-bytes c ≡ true → reply e b c ≡ done → best-pairs e (after e b c) ≡ best-table (gaps (records e (after e b c)))
-    anew (look-up n) q d = absurd (clash (ap is-done d) (found-not-done (kind-at e b (sought e b n .at)) (lookup e b n)))
+    anew (look-up n) q d = absurd (clash (ap is-done d) (found-not-done (lookup e b n)))
     anew (insert n i) q d = insert-done e sane b h a n i q (done-is-0 (insert-code e b n i) d) .best-is
     anew (remove n) q d = remove-done e sane b h a n (done-is-0 (remove-code e b n) d) .best-is
 

@@ -11,11 +11,13 @@ use Rattle.name.proofs.Same.{same-refl, same-eq, same-name-sym, same-name-trans
 use Rattle.be.specs.Lists.{some-of, tally, without-first, same}
 use Rattle.edition.specs.declared.Edition.{Edition}
 use Rattle.name.specs.Name.{same-name}
-use Rattle.dir_block_rules.specs.declared.Target.{Target}
-use Rattle.dir_block_rules.specs.Record.{Rec, target, same-target, target-of, name, number, entries}
+use Rattle.dir.specs.declared.Target.{Target}
+use Rattle.dir.specs.Target.{target, same-target}
+use Rattle.dir_block_rules.specs.Record.{Rec, target-of, name, number, entries}
 use Rattle.dir_block_rules.specs.Block.{records}
 use Rattle.dir_block_rules.specs.Verdict.{once-ok}
-use Rattle.dir_block_rules.specs.Book.{Held, held, Book, book-of, named, holds, aim-of, same-held, SameBook}
+use Rattle.dir.specs.Book.{Held, held, Book, named, holds, target-held, same-held, SameBook}
+use Rattle.dir_block_rules.specs.Calls.{book-of}
 use Rattle.be.proofs.Bools.{and-left, and-right, and-both, by-cases, clash, neither, and-false}
 use Rattle.dir_block_rules.proofs.OneMore.{some-mid, tally-mid, once-mid, alone}
 use Rattle.dir_block_rules.proofs.RecordPlaces.{Split, split-cons, some-split, some-at, tally-split}
@@ -29,10 +31,10 @@ target-eq s t h =
     (eqb-true (s .kind) (t .kind) (and-right (eqb (s .inode) (t .inode)) (eqb (s .kind) (t .kind)) h))
 
 held-self : (h : Held) → same-held h h ≡ true
-held-self h = and-both (same (h .name) (h .name)) (same-target (h .aim) (h .aim)) (same-refl (h .name)) (target-self (h .aim))
+held-self h = and-both (same (h .name) (h .name)) (same-target (h .target) (h .target)) (same-refl (h .name)) (target-self (h .target))
 
 -- what one book holds, the other holds
-pub in-other : (j k : Book) → SameBook j k → (s : Split j) → (t : Split k) × (t .here .name ≡ s .here .name) × (t .here .aim ≡ s .here .aim)
+pub in-other : (j k : Book) → SameBook j k → (s : Split j) → (t : Split k) × (t .here .name ≡ s .here .name) × (t .here .target ≡ s .here .target)
 unfolding SameBook
 in-other j k m s =
     let h : Held = s .here in
@@ -40,8 +42,8 @@ in-other j k m s =
     ap (tally (same-held h)) (s .is) ∙ tally-mid (same-held h) (s .before) h (s .behind) ∙ rw (held-self h) in
     let t : (t : Split k) × (same-held h (t .here) ≡ true) = tally-split (same-held h) k (omega (arith, c, m h)) in
     let n : Bool = same (h .name) (t .0 .here .name) in
-    let i : Bool = same-target (h .aim) (t .0 .here .aim) in
-    (t .0, sym (same-eq (h .name) (t .0 .here .name) (and-left n i (t .1))), sym (target-eq (h .aim) (t .0 .here .aim) (and-right n i (t .1))))
+    let i : Bool = same-target (h .target) (t .0 .here .target) in
+    (t .0, sym (same-eq (h .name) (t .0 .here .name) (and-left n i (t .1))), sym (target-eq (h .target) (t .0 .here .target) (and-right n i (t .1))))
 
 pub book-sym : (j k : Book) → SameBook j k → SameBook k j
 unfolding SameBook
@@ -50,7 +52,7 @@ book-sym j k m = λ h. sym (m h)
 holds-true : (e : Edition) (n : List ℕ) (j k : Book) → SameBook j k → holds e n j ≡ true → holds e n k ≡ true
 holds-true e n j k m h =
     let s : (s : Split j) × (named e n (s .here) ≡ true) = some-split (named e n) j h in
-    let t : (t : Split k) × (t .here .name ≡ s .0 .here .name) × (t .here .aim ≡ s .0 .here .aim) = in-other j k m (s .0) in
+    let t : (t : Split k) × (t .here .name ≡ s .0 .here .name) × (t .here .target ≡ s .0 .here .target) = in-other j k m (s .0) in
     ap (some-of (named e n)) (t .0 .is) ∙ some-at (named e n) (t .0 .before) (t .0 .here) (t .0 .behind) (ap (same-name e n) (t .1) ∙ s .1)
 
 pub holds-same : (e : Edition) (n : List ℕ) (j k : Book) → SameBook j k → holds e n j ≡ holds e n k
@@ -70,16 +72,16 @@ pub holds-entries : (e : Edition) (n b : List ℕ) → holds e n (book-of e b) �
 unfolding book-of
 holds-entries e n b = some-map (named e n) (entry-held e) (entries (records e b))
 
-map-split : (e : Edition) (es : List Rec) → (s : Split (map (entry-held e) es)) → (t : Split es) × (name (t .here) ≡ s .here .name) × (target-of e (t .here) ≡ s .here .aim)
+map-split : (e : Edition) (es : List Rec) → (s : Split (map (entry-held e) es)) → (t : Split es) × (name (t .here) ≡ s .here .name) × (target-of e (t .here) ≡ s .here .target)
 map-split e es s = go es (s .before) (s .here) (s .behind) (s .is)
   where
-    go : (es : List Rec) (xs : List Held) (x : Held) (ys : List Held) → map (entry-held e) es ≡ xs ++ x ∷ ys → (t : Split es) × (name (t .here) ≡ x .name) × (target-of e (t .here) ≡ x .aim)
+    go : (es : List Rec) (xs : List Held) (x : Held) (ys : List Held) → map (entry-held e) es ≡ xs ++ x ∷ ys → (t : Split es) × (name (t .here) ≡ x .name) × (target-of e (t .here) ≡ x .target)
     go [] [] x ys q = absurd (nil≢cons q)
     go [] (z ∷ xs) x ys q = absurd (nil≢cons q)
     go (r ∷ es) [] x ys q =
-        (record { before = []; here = r; behind = es; is = refl }, ap (λ (h : Held). h .name) (head-eq-of-cons-eq q), ap (λ (h : Held). h .aim) (head-eq-of-cons-eq q))
+        (record { before = []; here = r; behind = es; is = refl }, ap (λ (h : Held). h .name) (head-eq-of-cons-eq q), ap (λ (h : Held). h .target) (head-eq-of-cons-eq q))
     go (r ∷ es) (z ∷ xs) x ys q =
-        let w : (t : Split es) × (name (t .here) ≡ x .name) × (target-of e (t .here) ≡ x .aim) = go es xs x ys (tail-eq-of-cons-eq q) in
+        let w : (t : Split es) × (name (t .here) ≡ x .name) × (target-of e (t .here) ≡ x .target) = go es xs x ys (tail-eq-of-cons-eq q) in
         (split-cons r es (w .0), w .1, w .2)
 
 some-sub : {A : Type 0} (p q : A → Bool) → ((x : A) → p x ≡ true → q x ≡ true) → (l : List A) → some-of q l ≡ false → some-of p l ≡ false
@@ -118,26 +120,26 @@ module _ (e : Edition) (es : List Rec) (once : once-ok e es ≡ true) where
 pub record First-named (e : Edition) (n : List ℕ) (k : Book) : Type 0 where
   pub split : Split k
   pub is-named : named e n (split .here) ≡ true
-  pub aim-is : aim-of e n k ≡ split .here .aim
+  pub target-is : target-held e n k ≡ split .here .target
   pub without : (p : Held → Bool) → cond (p (split .here)) 1 0 + tally p (without-first (named e n) k) ≡ tally p k
 
 pub first-named : (e : Edition) (n : List ℕ) (k : Book) → holds e n k ≡ true → First-named e n k
-unfolding aim-of
+unfolding target-held
 first-named e n [] h = absurd (false≢true h)
 first-named e n (x ∷ k) h =
     by-cases (named e n x)
-    (λ q. record { split = record { before = []; here = x; behind = k; is = refl }; is-named = q; aim-is = rw q refl; without = λ p. rw q refl })
+    (λ q. record { split = record { before = []; here = x; behind = k; is = refl }; is-named = q; target-is = rw q refl; without = λ p. rw q refl })
     (λ q. let r : First-named e n k = first-named e n k (rw q at h) in
-    record { split = split-cons x k (r .split); is-named = r .is-named; aim-is = rw q (r .aim-is); without = λ p. rw q (omega (arith, r .without p)) })
+    record { split = split-cons x k (r .split); is-named = r .is-named; target-is = rw q (r .target-is); without = λ p. rw q (omega (arith, r .without p)) })
 
 -- an entry's name in the book: its number is the entry's
 module _ (e : Edition) (b n : List ℕ) (k : Book) (m : SameBook (book-of e b) k) (once : once-ok e (entries (records e b)) ≡ true)
     (s : Split (entries (records e b))) (sn : same-name e n (name (s .here)) ≡ true) where
-  pub first-is : (f : First-named e n k) → (f .split .here .name ≡ name (s .here)) × (f .split .here .aim ≡ target-of e (s .here))
+  pub first-is : (f : First-named e n k) → (f .split .here .name ≡ name (s .here)) × (f .split .here .target ≡ target-of e (s .here))
   unfolding book-of
   first-is f =
-      let o : (t : Split (book-of e b)) × (t .here .name ≡ f .split .here .name) × (t .here .aim ≡ f .split .here .aim) = in-other k (book-of e b) (book-sym (book-of e b) k m) (f .split) in
-      let r : (t : Split (entries (records e b))) × (name (t .here) ≡ o .0 .here .name) × (target-of e (t .here) ≡ o .0 .here .aim) = map-split e (entries (records e b)) (o .0) in
+      let o : (t : Split (book-of e b)) × (t .here .name ≡ f .split .here .name) × (t .here .target ≡ f .split .here .target) = in-other k (book-of e b) (book-sym (book-of e b) k m) (f .split) in
+      let r : (t : Split (entries (records e b))) × (name (t .here) ≡ o .0 .here .name) × (target-of e (t .here) ≡ o .0 .here .target) = map-split e (entries (records e b)) (o .0) in
       let nr : f .split .here .name ≡ name (r .0 .here) = sym (o .1) ∙ sym (r .1) in
       let sr : same-name e (name (s .here)) (name (r .0 .here)) ≡ true =
       same-name-trans e (name (s .here)) n (name (r .0 .here)) (same-name-sym e n (name (s .here)) sn) (subst (λ (m : List ℕ). same-name e n m ≡ true) nr (f .is-named)) in (
@@ -163,9 +165,9 @@ module _ (e : Edition) (b c : List ℕ) (k : Book) (m : SameBook (book-of e b) k
   unfolding SameBook book-of
   book-removed n old new once sn f = λ h.
       let s : Split (entries (records e b)) = record { before = xs; here = x; behind = ys; is = old } in
-      let w : (f .split .here .name ≡ name x) × (f .split .here .aim ≡ target-of e x) = first-is e b n k m once s sn f in
+      let w : (f .split .here .name ≡ name x) × (f .split .here .target ≡ target-of e x) = first-is e b n k m once s sn f in
       let g : same-held h (f .split .here) ≡ same-held h (entry-held e x) =
-      ap₂ (λ (a : List ℕ) (i : Target). same (h .name) a && same-target (h .aim) i) (w .0) (w .1) in
+      ap₂ (λ (a : List ℕ) (i : Target). same (h .name) a && same-target (h .target) i) (w .0) (w .1) in
       let all : tally (same-held h) (map (entry-held e) (entries (records e b))) ≡ cond (same-held h (entry-held e x)) 1 0 + tally (same-held h) (map (entry-held e) (entries (records e c))) =
       ap (λ (l : List Rec). tally (same-held h) (map (entry-held e) l)) old ∙ tally-map e (same-held h) xs x ys
       ∙ ap (λ (l : List Rec). cond (same-held h (entry-held e x)) 1 0 + tally (same-held h) (map (entry-held e) l)) (sym new) in

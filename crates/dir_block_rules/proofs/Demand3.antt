@@ -4,7 +4,8 @@ use mathlib.Core.Path.{refl}
 use Rattle.edition.specs.declared.Edition.{Edition}
 use Rattle.edition.specs.Edition.{v4, Sane}
 use Rattle.edition.proofs.Sizes.{v4-sane}
-use Rattle.dir_block_rules.specs.Book.{book-of, SameBook}
+use Rattle.dir_block_rules.specs.Calls.{book-of}
+use Rattle.dir.specs.Book.{SameBook}
 use Rattle.dir_block_rules.specs.Demand.{Demand-3}
 use Rattle.dir_block_rules.proofs.EveryList.{runs}
 use Rattle.dir_block_rules.proofs.EachCall.{steps}

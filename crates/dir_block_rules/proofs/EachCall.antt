@@ -19,15 +19,17 @@ use Rattle.be.specs.Bytes.{bytes}
 use Rattle.edition.specs.declared.Edition.{Edition}
 use Rattle.edition.specs.Edition.{entry-size, Sane}
 use Rattle.name.specs.Name.{legal-name, legal-number, fixed-name, same-name, dot, dotdot}
-use Rattle.dir_block_rules.specs.declared.Target.{Target}
-use Rattle.dir_block_rules.specs.Record.{target, kept-of, Rec, size, entries, gaps, name}
+use Rattle.dir.specs.declared.Target.{Target}
+use Rattle.dir.specs.Target.{target, kept-of, legal-target}
+use Rattle.dir_block_rules.specs.Record.{Rec, size, entries, gaps, name}
 use Rattle.dir_block_rules.specs.Block.{records, stale-of}
-use Rattle.dir_block_rules.specs.Verdict.{Accepted, legal-target, names-ok, name-ok, entry-at}
-use Rattle.dir_block_rules.specs.Lookup.{lookup, lookup-refusal, sought, number-at, kind-at}
+use Rattle.dir_block_rules.specs.Verdict.{Accepted, names-ok, name-ok, entry-at}
+use Rattle.dir_block_rules.specs.Lookup.{lookup, lookup-refusal, sought, target-at}
 use Rattle.dir_block_rules.specs.Room.{some-stale, room, longest, has-room}
 use Rattle.dir_block_rules.specs.Change.{insert-writes, insert-code, insert-block, remove-writes, remove-code, remove-block}
-use Rattle.dir_block_rules.specs.Calls.{done-or, Call, look-up, insert, remove, found, done, refuse, reply, after, call-name}
-use Rattle.dir_block_rules.specs.Book.{held, Book, book-of, named, holds, aim-of, SameBook, book-reply, book-after, entered, is-done}
+use Rattle.dir.specs.Calls.{done-or, Call, look-up, insert, remove, found, done, refuse, call-name}
+use Rattle.dir_block_rules.specs.Calls.{reply, after, book-of}
+use Rattle.dir.specs.Book.{held, Book, named, holds, target-held, SameBook, book-reply, book-after, entered, is-done}
 use Rattle.dir_block_rules.specs.Demand.{Reuse, Call-right, call-bytes}
 use Rattle.be.proofs.Bools.{and-left, and-right, by-cases, clash}
 use Rattle.dir_block_rules.proofs.RecordPlaces.{Split, some-split, some-at, every-at}
@@ -87,11 +89,11 @@ module _ (e : Edition) (sane : Sane e) (b : List ℕ) (h : bytes b ≡ true) (a 
   hit-holds k m n = hit-of e sane b h a n ∙ sym (holds-entries e n b) ∙ holds-same e n (book-of e b) k m
 
   -- lookup
-  lookup-hit : (k : Book) → SameBook (book-of e b) k → (n : List ℕ) → sought e b n .hit ≡ true → target (number-at b (sought e b n .at)) (kind-at e b (sought e b n .at)) ≡ aim-of e n k
+  lookup-hit : (k : Book) → SameBook (book-of e b) k → (n : List ℕ) → sought e b n .hit ≡ true → target-at e b (sought e b n .at) ≡ target-held e n k
   lookup-hit k m n q =
       let f : First-named e n k = first-named e n k (sym (hit-holds k m n) ∙ q) in
       target-found e sane b h a n q
-      ∙ sym (f .aim-is ∙ first-is e b n k m (good-of e sane b h a .once) (spot e sane b h a n q) (spot-name e sane b h a n q) f .1)
+      ∙ sym (f .target-is ∙ first-is e b n k m (good-of e sane b h a .once) (spot e sane b h a n q) (spot-name e sane b h a n q) f .1)
 
   lookup-reply : (k : Book) → SameBook (book-of e b) k → (n : List ℕ) (r : Bool) → reply e b (look-up n) ≡ book-reply e k r (look-up n)
   unfolding reply lookup lookup-refusal book-reply

@@ -14,10 +14,11 @@ use Rattle.be.specs.Bytes.{be, be-from, to-be, field}
 use Rattle.edition.specs.declared.Edition.{Edition}
 use Rattle.edition.specs.Edition.{entry-size, Sane}
 use Rattle.name.specs.Name.{legal-name, legal-number, hash-of, same-name, fixed-name, dot, dotdot}
-use Rattle.dir_block_rules.specs.declared.Target.{Target}
-use Rattle.dir_block_rules.specs.Record.{target, target-of, kept-of, kind-of, pad, Rec, rec, apart, entries, is-entry, name, number, entry-bytes}
+use Rattle.dir.specs.declared.Target.{Target}
+use Rattle.dir.specs.Target.{target, kept-of, legal-type, legal-target}
+use Rattle.dir_block_rules.specs.Record.{target-of, kind-of, pad, Rec, rec, apart, entries, is-entry, name, number, entry-bytes}
 use Rattle.dir_block_rules.specs.Block.{Slot, slot}
-use Rattle.dir_block_rules.specs.Verdict.{legal-type, legal-target, names-ok, numbers-ok, own-in, number-ok, name-ok, entry-at}
+use Rattle.dir_block_rules.specs.Verdict.{names-ok, numbers-ok, own-in, number-ok, name-ok, entry-at}
 use Rattle.dir_block_rules.specs.Change.{insert-slot}
 use Rattle.be.proofs.Bools.{and-left, and-right, and-both, or-right, neither, by-cases}
 use Rattle.be.proofs.Numbers.{be-to-be, length-to-be}

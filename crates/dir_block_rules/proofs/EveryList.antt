@@ -9,8 +9,9 @@ use Rattle.be.specs.Bytes.{bytes}
 use Rattle.edition.specs.declared.Edition.{Edition}
 use Rattle.dir_block_rules.specs.Verdict.{Accepted}
 use Rattle.dir_block_rules.specs.Room.{has-room}
-use Rattle.dir_block_rules.specs.Calls.{Call, after, call-name}
-use Rattle.dir_block_rules.specs.Book.{Book, book-of, book-after, SameBook}
+use Rattle.dir.specs.Calls.{Call, call-name}
+use Rattle.dir_block_rules.specs.Calls.{after, book-of}
+use Rattle.dir.specs.Book.{Book, book-after, SameBook}
 use Rattle.dir_block_rules.specs.Demand.{Call-right, Run, call-bytes}
 use Rattle.be.proofs.Bools.{and-left, and-right}
 

@@ -13,10 +13,11 @@ use Rattle.be.specs.Bytes.{bytes, to-be, written, Write}
 use Rattle.edition.specs.declared.Edition.{Edition}
 use Rattle.edition.specs.Edition.{entry-size, Sane}
 use Rattle.name.specs.Name.{hash-of, same-name, legal-name, legal-number, fixed-name}
-use Rattle.dir_block_rules.specs.declared.Target.{Target}
+use Rattle.dir.specs.declared.Target.{Target}
 use Rattle.dir_block_rules.specs.Record.{Rec, size, is-gap, is-entry, entries, name}
 use Rattle.dir_block_rules.specs.Block.{Slot, slot, slot-bytes, records, slots, stale-of, is-stale, is-live}
-use Rattle.dir_block_rules.specs.Verdict.{Accepted, legal-target}
+use Rattle.dir.specs.Target.{legal-target}
+use Rattle.dir_block_rules.specs.Verdict.{Accepted}
 use Rattle.dir_block_rules.specs.Change.{changed, entry-writes, index-writes, insert-slot}
 use Rattle.be.proofs.Numbers.{length-to-be}
 use Rattle.edition.proofs.Sizes.{entry-size-eights}

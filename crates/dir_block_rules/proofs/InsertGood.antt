@@ -13,10 +13,10 @@ use Rattle.be.specs.Bytes.{be, be-from}
 use Rattle.edition.specs.declared.Edition.{Edition}
 use Rattle.edition.specs.Edition.{entry-size, Sane}
 use Rattle.name.specs.Name.{hash-of, same-name, legal-name, legal-number, fixed-name}
-use Rattle.dir_block_rules.specs.declared.Target.{Target}
+use Rattle.dir.specs.declared.Target.{Target}
 use Rattle.dir_block_rules.specs.Record.{Rec, rec, is-entry, entries, apart, gap-start, name, number, entry-bytes}
 use Rattle.dir_block_rules.specs.Block.{Slot, slot}
-use Rattle.dir_block_rules.specs.Verdict.{legal-target}
+use Rattle.dir.specs.Target.{legal-target}
 use Rattle.dir_block_rules.specs.Change.{insert-slot}
 use Rattle.dir_block_rules.proofs.CutJoin.{join, Laid, laid-append}
 use Rattle.dir_block_rules.proofs.WritesLeave.{free, Gapful, gap-raw, entry-no-gap}

@@ -8,7 +8,7 @@ use lib.ListN.{length, drop, length-append, length-drop}
 use Rattle.be.specs.Bytes.{written}
 use Rattle.edition.specs.declared.Edition.{Edition}
 use Rattle.edition.specs.Edition.{entry-size}
-use Rattle.dir_block_rules.specs.declared.Target.{Target}
+use Rattle.dir.specs.declared.Target.{Target}
 use Rattle.dir_block_rules.specs.Record.{Rec, rec, entry-bytes}
 use Rattle.dir_block_rules.specs.Block.{Slot, slot-bytes}
 use Rattle.dir_block_rules.specs.Change.{entry-writes, index-writes}

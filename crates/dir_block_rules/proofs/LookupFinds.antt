@@ -15,10 +15,11 @@ use Rattle.be.proofs.Bools.{keep-append}
 use Rattle.edition.specs.declared.Edition.{Edition}
 use Rattle.edition.specs.Edition.{entry-size, Sane}
 use Rattle.name.specs.Name.{hash-of, same-name, fixed-name}
-use Rattle.dir_block_rules.specs.Record.{Rec, rec, target, target-of, size, is-gap, is-entry, entries, gaps, name, number, gap-writes}
+use Rattle.dir.specs.Target.{target}
+use Rattle.dir_block_rules.specs.Record.{Rec, rec, target-of, size, is-gap, is-entry, entries, gaps, name, number, gap-writes}
 use Rattle.dir_block_rules.specs.Block.{records, slots, stale-of, data-end}
 use Rattle.dir_block_rules.specs.Verdict.{Accepted, best-pairs}
-use Rattle.dir_block_rules.specs.Lookup.{sought, number-at, kind-at}
+use Rattle.dir_block_rules.specs.Lookup.{sought, number-at, kind-at, target-at}
 use Rattle.dir_block_rules.specs.Change.{changed, gap-start-before, gap-end-after, remove-writes, best-table}
 use Rattle.dir_block_rules.proofs.CutJoin.{join, Laid, join-append}
 use Rattle.dir_block_rules.proofs.WritesLeave.{free, gap-raw, length-gap-raw}
@@ -179,7 +180,7 @@ module _ (e : Edition) (sane : Sane e) (b : List ℕ) (h : bytes b ≡ true) (a 
     number-found = ap (number-at b) at-spot ∙ number-of e sane b h a spot
 
     -- the number and the file type that stand there
-    pub target-found : target (number-at b (sought e b n .at)) (kind-at e b (sought e b n .at)) ≡ target-of e (spot .here)
+    pub target-found : target-at e b (sought e b n .at) ≡ target-of e (spot .here)
     target-found = ap₂ (λ (i k : ℕ). target i k) number-found (ap (kind-at e b) at-spot ∙ kind-is e sane b h a spot)
 
     pub removed-of : fixed-name n ≡ false → Removed e b n (changed e b (remove-writes e b n))

@@ -8,6 +8,7 @@ use mathlib.Core.Path.{_≡_, refl, sym, _∙_, ap, ap₂, subst}
 use mathlib.Core.List.{List, [], _∷_, _++_}
 use lib.Dec.{eqb}
 use borrow.Author.Tests.{eq-eqb}
+use Rattle.refusal.specs.Refusal.{ABSENT}
 use Rattle.be.specs.Lists.{some-of, tally}
 use Rattle.be.specs.Bytes.{bytes}
 use Rattle.be.proofs.Bools.{and-left, and-right, by-cases}
@@ -16,23 +17,37 @@ use Rattle.edition.specs.Edition.{v4, Sane}
 use Rattle.edition.proofs.Sizes.{v4-sane}
 use Rattle.name.specs.Name.{hash-of, same-name, legal-name}
 use Rattle.name.proofs.Same.{same-name-sym, same-name-trans, same-name-hash}
-use Rattle.dir_block_rules.specs.declared.Looked.the-variants.{Found, Absent}
-use Rattle.dir_block_rules.specs.declared.Target.{Target}
-use Rattle.dir_block_rules.specs.Record.{Rec, entries, name, number}
+use Rattle.dir.specs.declared.Looked.the-variants.{Found, Absent}
+use Rattle.dir.specs.declared.Target.{Target}
+use Rattle.dir_block_rules.specs.Record.{Rec, entries, name, target-of}
 use Rattle.dir_block_rules.specs.Block.{Slot, records, slots, stale-of, is-live}
 use Rattle.dir_block_rules.specs.Verdict.{Accepted}
-use Rattle.dir_block_rules.specs.Lookup.{candidate, match, step-if, seek, sought, name-at, number-at, bears, up-to, names-compared, lookup, lookup-refusal, lookup-code, looked-code}
+use Rattle.dir.specs.Answers.{looked-code, looked-target, looked-compared}
+use Rattle.dir_block_rules.specs.Lookup.{candidate, match, step-if, seek, sought, name-at, target-at, bears, up-to, names-compared, lookup, lookup-refusal, lookup-code, lookup-target, lookup-compared}
 use Rattle.dir_block_rules.specs.Claims.{borne, Lookup-right}
 use Rattle.dir_block_rules.proofs.RecordPlaces.{Split, split-cons, some-at, some-split}
 use Rattle.dir_block_rules.proofs.SearchFinds.{Owner, owner, read-at}
 use Rattle.dir_block_rules.proofs.AcceptedParts.{good-of, apart-of, reads-of}
 use Rattle.dir_block_rules.proofs.BooksAgree.{one-target}
-use Rattle.dir_block_rules.proofs.LookupFinds.{hit-of, spot, spot-name, number-found}
+use Rattle.dir_block_rules.proofs.LookupFinds.{hit-of, spot, spot-name, target-found}
 
 -- a lookup's number
 pub lookup-is : (e : Edition) (b n : List ℕ) → looked-code (lookup e b n) ≡ lookup-code e b n
 unfolding lookup lookup-code
 lookup-is e b n =
+    by-cases (eqb (lookup-refusal e b n) 0)
+    (λ q. by-cases (sought e b n .hit) (λ h. rw (q, h) refl) (λ h. rw (q, h) refl)) (λ q. rw q refl)
+
+-- and its values
+pub target-is : (e : Edition) (b n : List ℕ) → looked-target (lookup e b n) ≡ lookup-target e b n
+unfolding lookup lookup-code lookup-target
+target-is e b n =
+    by-cases (eqb (lookup-refusal e b n) 0)
+    (λ q. by-cases (sought e b n .hit) (λ h. rw (q, h) refl) (λ h. rw (q, h) refl)) (λ q. rw (q, q) refl)
+
+pub compared-is : (e : Edition) (b n : List ℕ) → looked-compared (lookup e b n) ≡ lookup-compared e b n
+unfolding lookup lookup-compared
+compared-is e b n =
     by-cases (eqb (lookup-refusal e b n) 0)
     (λ q. by-cases (sought e b n .hit) (λ h. rw (q, h) refl) (λ h. rw (q, h) refl)) (λ q. rw q refl)
 
@@ -91,7 +106,7 @@ module _ (e : Edition) (sane : Sane e) (b : List ℕ) (h : bytes b ≡ true) (a 
 
   module _ (l : legal-name e n ≡ true) where
     looked-found : (xs : List Rec) (r : Rec) (ys : List Rec) → entries (records e b) ≡ xs ++ r ∷ ys → same-name e n (name r) ≡ true
-        → lookup e b n ≡ Found (number r) (names-compared e b n)
+        → lookup e b n ≡ Found (target-of e r) (names-compared e b n)
     unfolding lookup lookup-refusal
     looked-found xs r ys q sn =
         let t : Split (entries (records e b)) = record { before = xs; here = r; behind = ys; is = q } in
@@ -100,16 +115,16 @@ module _ (e : Edition) (sane : Sane e) (b : List ℕ) (h : bytes b ≡ true) (a 
         let s : Split (entries (records e b)) = spot e sane b h a n ht in
         let rs : same-name e (name r) (name (s .here)) ≡ true =
         same-name-trans e (name r) n (name (s .here)) (same-name-sym e n (name r) sn) (spot-name e sane b h a n ht) in
-        let nr : number-at b (sought e b n .at) ≡ number r =
-        number-found e sane b h a n ht ∙ ap (λ (i : Target). i .inode) (one-target e (entries (records e b)) (good-of e sane b h a .once) t s rs) in
-        rw (a, l, ht, nr, compared-right) refl
+        let tr : target-at e b (sought e b n .at) ≡ target-of e r =
+        target-found e sane b h a n ht ∙ one-target e (entries (records e b)) (good-of e sane b h a .once) t s rs in
+        rw (a, l, ht) (ap (λ (i : Target). Found i (names-compared e b n)) tr)
 
     looked-absent : borne e b n ≡ false → lookup e b n ≡ Absent (names-compared e b n)
     unfolding lookup lookup-refusal
-    looked-absent q = rw (a, l, hit-of e sane b h a n ∙ q, compared-right) refl
+    looked-absent q = rw (a, l, hit-of e sane b h a n ∙ q) refl
 
     -- 0 where some live entry bears the name, else 13
-    looked-exactly : looked-code (lookup e b n) ≡ cond (borne e b n) 0 13
+    looked-exactly : looked-code (lookup e b n) ≡ cond (borne e b n) 0 ABSENT
     looked-exactly =
         by-cases (borne e b n)
         (λ q. let t : (t : Split (entries (records e b))) × (same-name e n (name (t .here)) ≡ true) =

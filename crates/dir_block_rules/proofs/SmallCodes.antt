@@ -6,7 +6,7 @@ use borrow.Author.Tests.{leb-true}
 use Rattle.refusal.specs.Refusal.{HIGHEST}
 use Rattle.be.proofs.Codes.{unless-le}
 use Rattle.edition.specs.declared.Edition.{Edition}
-use Rattle.dir_block_rules.specs.declared.Target.{Target}
+use Rattle.dir.specs.declared.Target.{Target}
 use Rattle.dir_block_rules.specs.Verdict.{verdict}
 use Rattle.dir_block_rules.specs.Lookup.{lookup-refusal, lookup-code}
 use Rattle.dir_block_rules.specs.Change.{insert-code, remove-code}

@@ -12,7 +12,7 @@ use Rattle.be.specs.Lists.{keep, without-first}
 use Rattle.be.specs.Bytes.{bytes, to-be, put, written, Write, write}
 use Rattle.edition.specs.declared.Edition.{Edition}
 use Rattle.edition.specs.Edition.{entry-size, Sane}
-use Rattle.dir_block_rules.specs.declared.Target.{Target}
+use Rattle.dir.specs.declared.Target.{Target}
 use Rattle.dir_block_rules.specs.Record.{pad, Rec, size, entry-bytes, gap-writes, gaps}
 use Rattle.dir_block_rules.specs.Block.{Slot, slot, slots, slot-bytes, records, stale-of, data-end, is-stale, is-live}
 use Rattle.name.specs.Name.{hash-of}

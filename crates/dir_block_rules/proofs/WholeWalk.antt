@@ -16,9 +16,10 @@ use Rattle.edition.specs.declared.Edition.{Edition}
 use Rattle.dir_block_rules.specs.Record.{Rec, size, is-gap, name, namelen, tag}
 use Rattle.dir_block_rules.specs.Block.{records, data-end}
 use Rattle.dir_block_rules.specs.Verdict.{Accepted}
-use Rattle.dir_block_rules.specs.declared.Walked.{Walked}
-use Rattle.dir_block_rules.specs.declared.Walked.the-variants.{Stepped, Refused}
-use Rattle.dir_block_rules.specs.Walk.{record-at, step-over, step-end, is-place, step-code, walk-step, walked-code, walked-next, walk}
+use Rattle.dir.specs.declared.Walked.{Walked}
+use Rattle.dir.specs.declared.Walked.the-variants.{Stepped, Refused}
+use Rattle.dir.specs.Answers.{walked-code, walked-next, walked-seen}
+use Rattle.dir_block_rules.specs.Walk.{record-at, step-over, step-end, is-place, step-code, walk-step, walk, step-next, step-seen}
 use Rattle.dir_block_rules.specs.Claims.{climbs, Walks, Walk-right}
 use Rattle.be.proofs.Bools.{and-both, by-cases}
 use Rattle.dir_block_rules.proofs.CutJoin.{join, Laid, join-append, laid-back}
@@ -31,6 +32,15 @@ use Rattle.dir_block_rules.proofs.AcceptedParts.{fit-of, index-bytes, b
 pub step-is : (e : Edition) (b : List ℕ) (p : ℕ) → walked-code (walk-step e b p) ≡ step-code e b p
 unfolding walk-step
 step-is e b p = by-cases (eqb (step-code e b p) 0) (λ q. rw q (sym (eqb-true _ _ q))) (λ q. rw q refl)
+
+-- and its values
+pub next-is : (e : Edition) (b : List ℕ) (p : ℕ) → walked-next (walk-step e b p) ≡ step-next e b p
+unfolding walk-step step-next
+next-is e b p = by-cases (eqb (step-code e b p) 0) (λ q. rw q refl) (λ q. rw q refl)
+
+pub seen-is : (e : Edition) (b : List ℕ) (p : ℕ) → walked-seen (walk-step e b p) ≡ step-seen e b p
+unfolding walk-step step-seen
+seen-is e b p = by-cases (eqb (step-code e b p) 0) (λ q. rw q refl) (λ q. rw q refl)
 
 at-laid : (e : Edition) (o : ℕ) (xs : List Rec) (y : Rec) (ys : List Rec) → Laid e o (xs ++ y ∷ ys) → record-at (o + length (join xs)) (xs ++ y ∷ ys) ≡ y
 unfolding record-at
@@ -51,7 +61,7 @@ climbs-laid e o (r ∷ s ∷ rs) l =
     (climbs-laid e (o + size r) (s ∷ rs) (l .2))
 
 module _ (e : Edition) (sane : Sane e) (b : List ℕ) (h : bytes b ≡ true) (a : Accepted e b) where
-  pub step-at : (xs : List Rec) (y : Rec) (ys : List Rec) → records e b ≡ xs ++ y ∷ ys → walk-step e b (e .header + length (join xs)) ≡ Stepped (step-over y)
+  pub step-at : (xs : List Rec) (y : Rec) (ys : List Rec) → records e b ≡ xs ++ y ∷ ys → walk-step e b (e .header + length (join xs)) ≡ Stepped (step-over e y)
   unfolding walk-step step-code
   step-at xs y ys q =
       let p : ℕ = e .header + length (join xs) in
@@ -71,13 +81,13 @@ module _ (e : Edition) (sane : Sane e) (b : List ℕ) (h : bytes b ≡ true) (a 
   at-end = rw (a, eq-eqb (data-end b) (data-end b) refl) refl
 
   walk-from : (xs ys : List Rec) → records e b ≡ xs ++ ys
-      → walk e b (suc (length ys)) (e .header + length (join xs)) ≡ map (λ r. Stepped (step-over r)) ys ++ (Stepped (step-end (data-end b)) ∷ [])
+      → walk e b (suc (length ys)) (e .header + length (join xs)) ≡ map (λ r. Stepped (step-over e r)) ys ++ (Stepped (step-end (data-end b)) ∷ [])
   unfolding walk
   walk-from xs [] q =
       let p : e .header + length (join xs) ≡ data-end b = sym (end-of-data e sane b h a ∙ ap (λ (r : List Rec). e .header + length (join r)) (q ∙ append-nil xs)) in
       rw p (ap (λ (s : Walked). s ∷ []) at-end)
   walk-from xs (y ∷ ys) q =
-      let s : walk-step e b (e .header + length (join xs)) ≡ Stepped (step-over y) = step-at xs y ys q in
+      let s : walk-step e b (e .header + length (join xs)) ≡ Stepped (step-over e y) = step-at xs y ys q in
       let w : Laid e (e .header + length (join xs)) (y ∷ ys) = laid-back e (e .header) xs (y ∷ ys) (subst (λ (r : List Rec). Laid e (e .header) r) q (fit-of e sane b h a .laid)) in
       let nx : y .off + size y ≡ e .header + length (join (xs ++ (y ∷ []))) =
       omega (arith, w .0, ap length (join-append xs (y ∷ [])), length-append (join xs) (y .raw ++ []), ap length (append-nil (y .raw))) in
@@ -86,7 +96,7 @@ module _ (e : Edition) (sane : Sane e) (b : List ℕ) (h : bytes b ≡ true) (a 
       ∙ walk-from (xs ++ (y ∷ [])) ys (q ∙ sym (append-assoc xs (y ∷ []) ys)))
 
   -- as many steps as there are records, plus one
-  whole-walk : walk e b (suc (length (records e b))) (e .header) ≡ map (λ r. Stepped (step-over r)) (records e b) ++ (Stepped (step-end (data-end b)) ∷ [])
+  whole-walk : walk e b (suc (length (records e b))) (e .header) ≡ map (λ r. Stepped (step-over e r)) (records e b) ++ (Stepped (step-end (data-end b)) ∷ [])
   whole-walk = ap (walk e b (suc (length (records e b)))) (sym (add-zero (e .header))) ∙ walk-from [] (records e b) refl
 
   -- a name where its step says

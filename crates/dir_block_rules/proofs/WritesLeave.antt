@@ -11,7 +11,7 @@ use borrow.Author.Tests.{ne-eqb}
 use Rattle.be.specs.Bytes.{be, be-from, to-be, part, field, put, written, Write}
 use Rattle.edition.specs.declared.Edition.{Edition}
 use Rattle.edition.specs.Edition.{entry-size}
-use Rattle.dir_block_rules.specs.declared.Target.{Target}
+use Rattle.dir.specs.declared.Target.{Target}
 use Rattle.dir_block_rules.specs.Record.{pad, Rec, rec, says, tag, gap-start, entry-bytes, gap-writes}
 use Rattle.dir_block_rules.specs.Block.{Slot, slot-bytes}
 use Rattle.dir_block_rules.specs.Change.{entry-writes, index-writes}

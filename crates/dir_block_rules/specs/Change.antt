@@ -13,10 +13,11 @@ use Rattle.be.specs.Codes.{_unless_then_, _and-then_}
 use Rattle.edition.specs.declared.Edition.{Edition}
 use Rattle.edition.specs.Edition.{entry-size}
 use Rattle.name.specs.Name.{hash-of, legal-name, fixed-name}
-use Rattle.dir_block_rules.specs.declared.Target.{Target}
+use Rattle.dir.specs.declared.Target.{Target}
 use Rattle.dir_block_rules.specs.Record.{Rec, size, gaps, besides, entry-bytes, gap-writes}
 use Rattle.dir_block_rules.specs.Block.{records, slots, Slot, slot, slot-bytes, is-stale, is-live, stale-of, data-end}
-use Rattle.dir_block_rules.specs.Verdict.{verdict, legal-target, Pair, pair}
+use Rattle.dir.specs.Target.{legal-target}
+use Rattle.dir_block_rules.specs.Verdict.{verdict, Pair, pair}
 use Rattle.dir_block_rules.specs.Lookup.{sought}
 use Rattle.dir_block_rules.specs.Room.{Room, room, longest, other-gaps, case-a, case-b, case-c, has-room}
 

@@ -7,19 +7,21 @@ use mathlib.Core.Path.{_≡_}
 use mathlib.Core.List.{List, [], _∷_, _++_, map}
 use lib.Dec.{leb, ltb}
 use lib.ListN.{length}
-use Rattle.refusal.specs.Refusal.{ASKED}
+use Rattle.refusal.specs.Refusal.{ASKED, ABSENT}
 use Rattle.be.specs.Lists.{some-of, keep}
 use Rattle.be.specs.Bytes.{bytes, part}
 use Rattle.edition.specs.declared.Edition.{Edition}
 use Rattle.name.specs.Name.{legal-name, same-name}
-use Rattle.dir_block_rules.specs.declared.Looked.the-variants.{Found, Absent}
-use Rattle.dir_block_rules.specs.declared.Walked.the-variants.{Stepped, Refused}
-use Rattle.dir_block_rules.specs.Record.{Rec, is-gap, entries, gaps, name, number, tag}
+use Rattle.dir.specs.declared.Looked.the-variants.{Found, Absent}
+use Rattle.dir.specs.declared.Walked.the-variants.{Stepped, Refused}
+use Rattle.dir_block_rules.specs.Record.{Rec, is-gap, entries, gaps, name, target-of, tag}
 use Rattle.dir_block_rules.specs.Block.{records, data-end, Slot}
 use Rattle.dir_block_rules.specs.Verdict.{Accepted, rising, best-pairs}
-use Rattle.dir_block_rules.specs.Lookup.{lookup, looked-code, names-compared}
+use Rattle.dir.specs.Answers.{looked-code}
+use Rattle.dir_block_rules.specs.Lookup.{lookup, names-compared}
 use Rattle.dir_block_rules.specs.Change.{best-table, insert-slot}
-use Rattle.dir_block_rules.specs.Calls.{Call, done, reply, after}
+use Rattle.dir.specs.Calls.{Call, done}
+use Rattle.dir_block_rules.specs.Calls.{reply, after}
 use Rattle.dir_block_rules.specs.Demand.{call-bytes}
 use Rattle.dir_block_rules.specs.Walk.{entry-of, step-over, step-end, is-place, walk-step, walk}
 
@@ -27,13 +29,13 @@ use Rattle.dir_block_rules.specs.Walk.{entry-of, step-over, step-end, is
 abbrev pub borne : Edition → List ℕ → List ℕ → Bool
 borne e b n = some-of (λ r. same-name e n (name r)) (entries (records e b))
 
--- demand 2: a lookup in an accepted block gives the number of whichever live entry bears the name, and is absent exactly when
+-- demand 2: a lookup in an accepted block gives the number and type of whichever live entry bears the name, and is absent exactly when
 -- none does; both tell the names compared
 pub record Looks-up (e : Edition) (b n : List ℕ) : Type 0 where
   pub found : (xs : List Rec) (r : Rec) (ys : List Rec) → entries (records e b) ≡ xs ++ r ∷ ys → same-name e n (name r) ≡ true
-      → lookup e b n ≡ Found (number r) (names-compared e b n)
+      → lookup e b n ≡ Found (target-of e r) (names-compared e b n)
   pub absent : borne e b n ≡ false → lookup e b n ≡ Absent (names-compared e b n)
-  pub exactly : looked-code (lookup e b n) ≡ cond (borne e b n) 0 13
+  pub exactly : looked-code (lookup e b n) ≡ cond (borne e b n) 0 ABSENT
 
 unfoldable pub Lookup-right : Edition → Type 0
 Lookup-right e = (b n : List ℕ) → bytes b ≡ true → Accepted e b → legal-name e n ≡ true → Looks-up e b n
@@ -48,10 +50,10 @@ climbs (m ∷ n ∷ ns) = ltb m n && climbs (n ∷ ns)
 -- records plus one steps; at the end a step says end again; a live entry's name is the part of the block that its step says;
 -- any other place is refused with 11
 pub record Walks (e : Edition) (b : List ℕ) : Type 0 where
-  pub whole : walk e b (suc (length (records e b))) (e .header) ≡ map (λ r. Stepped (step-over r)) (records e b) ++ (Stepped (step-end (data-end b)) ∷ [])
+  pub whole : walk e b (suc (length (records e b))) (e .header) ≡ map (λ r. Stepped (step-over e r)) (records e b) ++ (Stepped (step-end (data-end b)) ∷ [])
   pub rises : climbs (map tag (records e b)) ≡ true
   pub again : walk-step e b (data-end b) ≡ Stepped (step-end (data-end b))
-  pub names : (xs : List Rec) (r : Rec) (ys : List Rec) → records e b ≡ xs ++ r ∷ ys → is-gap r ≡ false → part (entry-of r .start) (entry-of r .len) b ≡ name r
+  pub names : (xs : List Rec) (r : Rec) (ys : List Rec) → records e b ≡ xs ++ r ∷ ys → is-gap r ≡ false → part (entry-of e r .start) (entry-of e r .len) b ≡ name r
   pub elsewhere : (p : ℕ) → is-place p (data-end b) (records e b) ≡ false → walk-step e b p ≡ Refused ASKED
 
 unfoldable pub Walk-right : Edition → Type 0

@@ -11,11 +11,13 @@ use Rattle.be.specs.Bytes.{bytes}
 use Rattle.edition.specs.declared.Edition.{Edition}
 use Rattle.name.specs.Name.{legal-name}
 use Rattle.dir_block_rules.specs.Block.{sum-of-parts}
-use Rattle.dir_block_rules.specs.Verdict.{Accepted, legal-target}
-use Rattle.dir_block_rules.specs.declared.Target.{Target}
+use Rattle.dir.specs.Target.{legal-target}
+use Rattle.dir_block_rules.specs.Verdict.{Accepted}
+use Rattle.dir.specs.declared.Target.{Target}
 use Rattle.dir_block_rules.specs.Room.{has-room}
-use Rattle.dir_block_rules.specs.Calls.{Call, look-up, insert, remove, Reply, done, reply, after, call-name}
-use Rattle.dir_block_rules.specs.Book.{Book, book-of, holds, book-reply, book-after, SameBook}
+use Rattle.dir.specs.Calls.{Call, look-up, insert, remove, Reply, done, call-name}
+use Rattle.dir_block_rules.specs.Calls.{reply, after, book-of}
+use Rattle.dir.specs.Book.{Book, holds, book-reply, book-after, SameBook}
 
 -- right after a removal that is done, any legal absent name that is no longer than the removed one goes in with any legal number
 unfoldable pub Reuse : Edition → List ℕ → Call → Reply → Type 0

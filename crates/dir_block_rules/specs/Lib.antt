@@ -5,7 +5,6 @@ pub mod Lookup
 pub mod Room
 pub mod Change
 pub mod Calls
-pub mod Book
 pub mod Demand
 pub mod Walk
 pub mod Claims

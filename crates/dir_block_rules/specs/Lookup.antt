@@ -10,8 +10,10 @@ use Rattle.be.specs.Bytes.{byte, field, part}
 use Rattle.be.specs.Codes.{_unless_then_, _and-then_}
 use Rattle.edition.specs.declared.Edition.{Edition}
 use Rattle.name.specs.Name.{hash-of, same-name, legal-name}
-use Rattle.dir_block_rules.specs.declared.Looked.{Looked}
-use Rattle.dir_block_rules.specs.declared.Looked.the-variants.{Found, Absent, Refused}
+use Rattle.dir.specs.declared.Looked.{Looked}
+use Rattle.dir.specs.declared.Looked.the-variants.{Found, Absent, Refused}
+use Rattle.dir.specs.declared.Target.{Target}
+use Rattle.dir.specs.Target.{target, no-target}
 use Rattle.dir_block_rules.specs.Block.{Slot, slots, is-live}
 use Rattle.dir_block_rules.specs.Verdict.{verdict}
 
@@ -25,6 +27,9 @@ number-at b o = field o 8 b
 -- and its file type, after the name; 0 where the edition has none
 abbrev pub kind-at : Edition → List ℕ → ℕ → ℕ
 kind-at e b o = field (o + 9 + byte (o + 8) b) (e .ftype) b
+
+abbrev pub target-at : Edition → List ℕ → ℕ → Target
+target-at e b o = target (number-at b o) (kind-at e b o)
 
 -- what a search of the slots finds: the slot's place in the index, the entry's offset, and the names compared
 pub record Sought : Type 0 where
@@ -75,30 +80,22 @@ names-compared e b n = tally (candidate (hash-of e n)) (up-to (bears e b n) (slo
 unfoldable pub lookup-refusal : Edition → List ℕ → List ℕ → ℕ
 lookup-refusal e b n = verdict e b and-then ASKED unless legal-name e n then 0
 
-abbrev pub looked-of : List ℕ → Sought → Looked
-looked-of b s = cond (s .hit) (Found (number-at b (s .at)) (s .compared)) (Absent (s .compared))
-
 -- 13 ABSENT: no such live entry
-unfoldable pub lookup : Edition → List ℕ → List ℕ → Looked
-lookup e b n =
-    cond (eqb (lookup-refusal e b n) 0) (looked-of b (sought e b n)) (Refused (lookup-refusal e b n))
-
--- a lookup's number: 0 when found
 unfoldable pub lookup-code : Edition → List ℕ → List ℕ → ℕ
 lookup-code e b n = lookup-refusal e b n and-then ABSENT unless sought e b n .hit then 0
 
--- the paper's number and values of each case of an answer: 0 when found; a refusal has its number only, 13 also the names compared
-abbrev pub looked-code : Looked → ℕ
-looked-code (Found i c) = 0
-looked-code (Absent c) = 13
-looked-code (Refused k) = k
+-- what the name stands for, when it is found
+unfoldable pub lookup-target : Edition → List ℕ → List ℕ → Target
+lookup-target e b n = cond (eqb (lookup-code e b n) 0) (target-at e b (sought e b n .at)) no-target
 
-abbrev pub looked-inode : Looked → ℕ
-looked-inode (Found i c) = i
-looked-inode (Absent c) = 0
-looked-inode (Refused k) = 0
+-- the names compared, when the search is made
+unfoldable pub lookup-compared : Edition → List ℕ → List ℕ → ℕ
+lookup-compared e b n = cond (eqb (lookup-refusal e b n) 0) (names-compared e b n) 0
 
-abbrev pub looked-compared : Looked → ℕ
-looked-compared (Found i c) = c
-looked-compared (Absent c) = c
-looked-compared (Refused k) = 0
+-- what a search answers
+abbrev pub looked-of : Edition → List ℕ → List ℕ → Looked
+looked-of e b n =
+    cond (sought e b n .hit) (Found (target-at e b (sought e b n .at)) (names-compared e b n)) (Absent (names-compared e b n))
+
+unfoldable pub lookup : Edition → List ℕ → List ℕ → Looked
+lookup e b n = cond (eqb (lookup-refusal e b n) 0) (looked-of e b n) (Refused (lookup-refusal e b n))

@@ -8,8 +8,9 @@ use lib.ListN.{length, take, drop, replicate}
 use Rattle.be.specs.Lists.{keep}
 use Rattle.be.specs.Bytes.{be, to-be, byte, field, part, Write, write}
 use Rattle.edition.specs.declared.Edition.{Edition}
-use Rattle.dir_block_rules.specs.declared.Target.{Target}
+use Rattle.dir.specs.declared.Target.{Target}
 use Rattle.edition.specs.Edition.{entry-size}
+use Rattle.dir.specs.Target.{target}
 
 -- Gap: 0xffff, length (2), tag in its last 2 bytes. What starts with 0xffff is a gap, all else is an entry
 abbrev pub gap-start : List ℕ → Bool
@@ -79,13 +80,6 @@ gaps rs = keep is-gap rs
 abbrev pub besides : ℕ → List Rec → List Rec
 besides o rs = keep (λ r. not (eqb (r .off) o)) rs
 
--- what an entry's name stands for: an inode number and a file type
-abbrev pub target : ℕ → ℕ → Target
-target i k = record { inode = i; kind = k }
-
-abbrev pub same-target : Target → Target → Bool
-same-target s t = eqb (s .inode) (t .inode) && eqb (s .kind) (t .kind)
-
 -- the file type, in the edition's type bytes after the name; without such bytes it reads 0
 abbrev pub kind-of : Edition → Rec → ℕ
 kind-of e r = field (9 + namelen r) (e .ftype) (r .raw)
@@ -93,18 +87,14 @@ kind-of e r = field (9 + namelen r) (e .ftype) (r .raw)
 abbrev pub target-of : Edition → Rec → Target
 target-of e r = target (number r) (kind-of e r)
 
--- what an entry keeps of a target: an edition without a type byte ignores the type
-abbrev pub kept-of : Edition → Target → Target
-kept-of e i = target (i .inode) (cond (eqb (e .ftype) 0) 0 (i .kind))
-
 -- the file type where the edition has one, and zeros up to the tag
 unfoldable pub pad : Edition → ℕ → List ℕ → List ℕ
 pad e k n = to-be (e .ftype) k ++ replicate (entry-size e (length n) - (11 + e .ftype + length n)) 0
 
 -- the bytes of an entry at offset o: number, namelen, name, file type, padding zero, tag
 unfoldable pub entry-bytes : Edition → ℕ → Target → List ℕ → List ℕ
-entry-bytes e o i n =
-    to-be 8 (i .inode) ++ (length n ∷ n) ++ pad e (i .kind) n ++ to-be 2 o
+entry-bytes e o t n =
+    to-be 8 (t .inode) ++ (length n ∷ n) ++ pad e (t .kind) n ++ to-be 2 o
 
 -- the three fields of a gap of n bytes at offset o; every other gap byte keeps what stood there. Nothing if n is 0
 unfoldable pub gap-writes : ℕ → ℕ → List Write

@@ -13,7 +13,6 @@ use Rattle.be.specs.Bytes.{field}
 use Rattle.edition.specs.declared.Edition.{Edition}
 use Rattle.edition.specs.Edition.{block-size}
 use Rattle.name.specs.Name.{legal-name, legal-number, hash-of, same-name, dot, dotdot}
-use Rattle.dir_block_rules.specs.declared.Target.{Target}
 use Rattle.dir_block_rules.specs.Record.{Rec, besides, whole, apart, entries, gaps, size, name, number}
 use Rattle.dir_block_rules.specs.Block.{records, slots, Slot, is-stale, is-live, count-of, stale-of}
 
@@ -45,14 +44,6 @@ name-ok e r =
 
 unfoldable pub names-ok : Edition → List Rec → Bool
 names-ok e rs = every (name-ok e) (entries rs) && entry-at (e .header) rs && entry-at (e .header + 16) rs
-
--- a legal file type: 1 to 8 where the edition has one; else any, which is ignored
-unfoldable pub legal-type : Edition → ℕ → Bool
-legal-type e k = eqb (e .ftype) 0 || (leb 1 k && leb k 8)
-
--- a legal number and type, as an insert asks for them
-unfoldable pub legal-target : Edition → Target → Bool
-legal-target e i = legal-number (i .inode) && legal-type e (i .kind)
 
 -- the number of ".": of the entry at the header's end
 unfoldable pub own-in : Edition → List Rec → ℕ

@@ -8,26 +8,27 @@ use Rattle.refusal.specs.Refusal.{ASKED}
 use Rattle.be.specs.Lists.{some-of}
 use Rattle.be.specs.Codes.{_unless_then_, _and-then_}
 use Rattle.edition.specs.declared.Edition.{Edition}
-use Rattle.dir_block_rules.specs.declared.Entry.{Entry}
-use Rattle.dir_block_rules.specs.declared.Seen.{Seen}
-use Rattle.dir_block_rules.specs.declared.Seen.the-variants.{Live, Gap, End}
-use Rattle.dir_block_rules.specs.declared.Step.{Step}
-use Rattle.dir_block_rules.specs.declared.Walked.{Walked}
-use Rattle.dir_block_rules.specs.declared.Walked.the-variants.{Stepped, Refused}
-use Rattle.dir_block_rules.specs.Record.{Rec, rec, size, is-gap, number, namelen}
+use Rattle.dir.specs.declared.Entry.{Entry}
+use Rattle.dir.specs.declared.Seen.{Seen}
+use Rattle.dir.specs.declared.Seen.the-variants.{Live, Gap, End}
+use Rattle.dir.specs.declared.Step.{Step}
+use Rattle.dir.specs.declared.Walked.{Walked}
+use Rattle.dir.specs.declared.Walked.the-variants.{Stepped, Refused}
+use Rattle.dir.specs.Answers.{walked-next}
+use Rattle.dir_block_rules.specs.Record.{Rec, rec, size, is-gap, namelen, target-of}
 use Rattle.dir_block_rules.specs.Block.{records, data-end}
 use Rattle.dir_block_rules.specs.Verdict.{verdict}
 
--- a live entry: its number, and its name as a part of the block, which starts after number and namelen
-abbrev pub entry-of : Rec → Entry
-entry-of r = record { number = number r; start = r .off + 9; len = namelen r }
+-- a live entry: what its name stands for, and its name as a part of the block, which starts after number and namelen
+abbrev pub entry-of : Edition → Rec → Entry
+entry-of e r = record { target = target-of e r; start = r .off + 9; len = namelen r }
 
-abbrev pub seen-of : Rec → Seen
-seen-of r = cond (is-gap r) Gap (Live (entry-of r))
+abbrev pub seen-of : Edition → Rec → Seen
+seen-of e r = cond (is-gap r) Gap (Live (entry-of e r))
 
 -- the step from a record stands at its end
-abbrev pub step-over : Rec → Step
-step-over r = record { next = r .off + size r; seen = seen-of r }
+abbrev pub step-over : Edition → Rec → Step
+step-over e r = record { next = r .off + size r; seen = seen-of e r }
 
 -- at the data's end a step says end and stands where it stood
 abbrev pub step-end : ℕ → Step
@@ -47,36 +48,20 @@ unfoldable pub step-code : Edition → List ℕ → ℕ → ℕ
 step-code e b p =
     verdict e b and-then ASKED unless is-place p (data-end b) (records e b) then 0
 
+-- the step from a place
+abbrev pub step-from : Edition → List ℕ → ℕ → Step
+step-from e b p = cond (eqb p (data-end b)) (step-end p) (step-over e (record-at p (records e b)))
+
+-- where the walk now stands, and what it met, when the step is done
+unfoldable pub step-next : Edition → List ℕ → ℕ → ℕ
+step-next e b p = cond (eqb (step-code e b p) 0) (step-from e b p .next) 0
+
+unfoldable pub step-seen : Edition → List ℕ → ℕ → Seen
+step-seen e b p = cond (eqb (step-code e b p) 0) (step-from e b p .seen) End
+
 -- one step: live entry, gap or end, together with where the walk now stands
 unfoldable pub walk-step : Edition → List ℕ → ℕ → Walked
-walk-step e b p =
-    cond (eqb (step-code e b p) 0)
-    (Stepped (cond (eqb p (data-end b)) (step-end p) (step-over (record-at p (records e b)))))
-    (Refused (step-code e b p))
-
--- the paper's number and values of each case of an answer; a refusal has its number only
-abbrev pub walked-code : Walked → ℕ
-walked-code (Stepped s) = 0
-walked-code (Refused k) = k
-
-abbrev pub walked-next : Walked → ℕ
-walked-next (Stepped s) = s .next
-walked-next (Refused k) = 0
-
-abbrev pub seen-number : Seen → ℕ
-seen-number (Live l) = l .number
-seen-number Gap = 0
-seen-number End = 0
-
-abbrev pub seen-start : Seen → ℕ
-seen-start (Live l) = l .start
-seen-start Gap = 0
-seen-start End = 0
-
-abbrev pub seen-len : Seen → ℕ
-seen-len (Live l) = l .len
-seen-len Gap = 0
-seen-len End = 0
+walk-step e b p = cond (eqb (step-code e b p) 0) (Stepped (step-from e b p)) (Refused (step-code e b p))
 
 -- k steps, each from where the one before stands
 unfoldable pub walk : Edition → List ℕ → ℕ → ℕ → List Walked

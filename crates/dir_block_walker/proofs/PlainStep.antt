@@ -34,8 +34,8 @@ use denote.Triple.Statement.{Contract}
 use denote.Triple.Entry.{Vals, onEntry}
 use denote.Triple.Spec.{tripleOf}
 use denote.Triple.Clauses.{ensured, lasts}
-use Rattle.dir_block_rules.specs.declared.Walked.{Walked}
-use Rattle.dir_block_rules.specs.Walk.{walked-code}
+use Rattle.dir.specs.declared.Walked.{Walked}
+use Rattle.dir.specs.Answers.{walked-code}
 use Rattle.dir_block_rules.proofs.Walked as S
 use Rattle.dir_block_lookup.proofs.step as plain
 use Rattle.dir_block_walker.specs.declared.Walker.{Walker}

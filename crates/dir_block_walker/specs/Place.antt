@@ -4,8 +4,8 @@ use Prim.Native.Nat.{ℕ, zero, suc}
 use mathlib.Core.List.{List}
 use denote.Ref.{now}
 use Rattle.edition.specs.Edition.{v4}
-use Rattle.dir_block_rules.specs.declared.Walked.{Walked}
-use Rattle.dir_block_rules.specs.declared.Walked.the-variants.{Stepped, Refused}
+use Rattle.dir.specs.declared.Walked.{Walked}
+use Rattle.dir.specs.declared.Walked.the-variants.{Stepped, Refused}
 use Rattle.dir_block_rules.specs.Walk.{walk-step, step-code}
 use Rattle.dir_block_walker.specs.declared.Walker.{Walker}
 

@@ -2,9 +2,10 @@
 // apart and calls the plain walk.
 ghost use mathlib.Core.Path.{_≡_};
 ghost use Rattle.edition.specs.Edition.{v4};
-ghost use Rattle.dir_block_rules.specs.Walk.{walk-step, step-code, walked-code};
+ghost use Rattle.dir.specs.Answers.{walked-code};
+ghost use Rattle.dir_block_rules.specs.Walk.{walk-step, step-code};
 ghost use Rattle.dir_block_walker.specs.Place.{met, refusal, place-after, moved, nth-place};
-use dir_block_rules::Walked;
+use dir::Walked;
 use edition::V4;
 
 // The block that the walker holds, and its place.

@@ -1,9 +1,9 @@
 // Runs the block directory's calls on the block that document 004 dumps (standard input): its lookups, its walk, a walker, the block
 // after the removal that 004 shows, and a block for each refusal.
-use dir_block_rules::Looked;
-use dir_block_rules::Seen;
-use dir_block_rules::Step;
-use dir_block_rules::Walked;
+use dir::Looked;
+use dir::Seen;
+use dir::Step;
+use dir::Walked;
 use libc::STDIN_FILENO;
 use libc::STDOUT_FILENO;
 

@@ -17,7 +17,7 @@ use Rattle.dir_sf.specs.declared.Looked.the-variants.{Found, Refused}
 use Rattle.dir_sf.specs.Entry.{Entry}
 use Rattle.dir_sf.specs.Fork.{parent, entries, holds, once-ok, names-ok, name-ok}
 use Rattle.dir_sf.specs.Change.{number-in, lookup-code, lookup-inode}
-use Rattle.dir_sf.specs.Inode.{used, verdict, as-looked, looked, looked-code, looked-inode, lookup-answer}
+use Rattle.dir_sf.specs.Inode.{used, verdict, as-looked, looked, looked-code, looked-target, lookup-answer}
 use Rattle.dir_sf.specs.Laws.{Looked-says, Lookup-stored, Lookup-absent, Lookup-parent}
 use Rattle.dir_sf.proofs.Names.{fails, once-head, once-tail}
 use Rattle.dir_sf.proofs.Tested.{used-passes, names-known, once-known}

@@ -47,9 +47,9 @@ abbrev pub looked-code : Looked → ℕ
 looked-code (Found i) = 0
 looked-code (Refused n) = n
 
-abbrev pub looked-inode : Looked → ℕ
-looked-inode (Found i) = i
-looked-inode (Refused n) = 0
+abbrev pub looked-target : Looked → ℕ
+looked-target (Found i) = i
+looked-target (Refused n) = 0
 
 unfoldable pub looked : Edition → List ℕ → ℕ → List Entry → Looked
 looked e n p xs = as-looked (lookup-code e n xs) (lookup-inode e n p xs)

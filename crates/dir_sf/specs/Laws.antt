@@ -12,12 +12,12 @@ use Rattle.dir_sf.specs.declared.Looked.the-variants.{Found, Refused}
 use Rattle.dir_sf.specs.Entry.{Entry}
 use Rattle.dir_sf.specs.Fork.{parent, entries, holds, count-of, used-width, list-of}
 use Rattle.dir_sf.specs.Change.{number-in}
-use Rattle.dir_sf.specs.Inode.{used, verdict, as-looked, looked-code, looked-inode, lookup-answer}
+use Rattle.dir_sf.specs.Inode.{used, verdict, as-looked, looked-code, looked-target, lookup-answer}
 use Rattle.dir_sf.specs.Walk.{walk, meets}
 
 -- the case of a lookup's answer has 01's number and, when found, the inode number
 unfoldable pub Looked-says : Type 0
-Looked-says = (code i : ℕ) → (looked-code (as-looked code i) ≡ code) × (looked-inode (as-looked 0 i) ≡ i)
+Looked-says = (code i : ℕ) → (looked-code (as-looked code i) ≡ code) × (looked-target (as-looked 0 i) ≡ i)
 
 -- a lookup gives what is stored: each entry's number, by its name
 unfoldable pub Lookup-stored : Edition → Type 0

@@ -3,7 +3,7 @@
 ghost use mathlib.Core.Path.{_≡_};
 ghost use Prim.Native.Nat.{_+_, _≤_, _<_};
 ghost use lib.ListN.{length};
-use dir_block_rules::Looked;
+use dir::Looked;
 use libc::STDOUT_FILENO;
 
 fn text(s: &[u8]) {

@@ -17,12 +17,12 @@ use Rattle.dir_sf.specs.declared.Seen.{Seen as Sf-seen}
 use Rattle.dir_sf.specs.declared.Seen.the-variants.{Live as Sf-live, End as Sf-end}
 use Rattle.dir_sf.specs.declared.Walked.{Walked as Sf-walked}
 use Rattle.dir_sf.specs.declared.Walked.the-variants.{Stepped as Sf-stepped, Refused as Sf-refused}
-use Rattle.dir_block_rules.specs.declared.Looked.{Looked}
-use Rattle.dir_block_rules.specs.declared.Looked.the-variants.{Found as Block-found, Absent, Refused as Not-found}
-use Rattle.dir_block_rules.specs.declared.Seen.{Seen}
-use Rattle.dir_block_rules.specs.declared.Seen.the-variants.{Live, Gap, End}
-use Rattle.dir_block_rules.specs.declared.Walked.{Walked}
-use Rattle.dir_block_rules.specs.declared.Walked.the-variants.{Stepped, Refused}
+use Rattle.dir.specs.declared.Looked.{Looked}
+use Rattle.dir.specs.declared.Looked.the-variants.{Found as Block-found, Absent, Refused as Not-found}
+use Rattle.dir.specs.declared.Seen.{Seen}
+use Rattle.dir.specs.declared.Seen.the-variants.{Live, Gap, End}
+use Rattle.dir.specs.declared.Walked.{Walked}
+use Rattle.dir.specs.declared.Walked.the-variants.{Stepped, Refused}
 use Rattle.pelunziwa.specs.declared.Core.{Core}
 use Rattle.pelunziwa.specs.declared.Found.{Found}
 use Rattle.pelunziwa.specs.declared.Place.{Place}

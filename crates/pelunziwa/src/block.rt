@@ -2,16 +2,16 @@
 ghost use mathlib.Core.Path.{_≡_};
 ghost use Rattle.edition.specs.Edition.{v4};
 ghost use Rattle.dir_block_rules.specs.Verdict.{verdict};
-ghost use Rattle.dir_block_rules.specs.Record.{target};
+ghost use Rattle.dir.specs.Target.{target};
 ghost use Rattle.dir_block_rules.specs.Lookup.{lookup};
 ghost use Rattle.dir_block_rules.specs.Change.{insert-code, insert-block, remove-code, remove-block};
 ghost use Rattle.dir_block_rules.specs.Walk.{walk-step};
 ghost use Rattle.pelunziwa.specs.Answers.{as-found, as-seen, as-step};
 use crate::Found;
 use crate::Step;
-use dir_block_rules::Looked;
-use dir_block_rules::Seen;
-use dir_block_rules::Walked;
+use dir::Looked;
+use dir::Seen;
+use dir::Walked;
 
 // Tests a block.
 #[no_mangle]

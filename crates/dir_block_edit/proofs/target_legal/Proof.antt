@@ -1,6 +1,6 @@
 use mathlib.Core.Path.{ap₂}
 use mathlib.Core.Bool.{Bool, _&&_}
-use Rattle.dir_block_rules.specs.Verdict.{legal-target}
+use Rattle.dir.specs.Target.{legal-target}
 use borrow.Author.Needs.{needs}
 use Rattle.dir_block_edit.proofs.target_legal.Statement.{statement}
 use Rattle.dir_block_edit.proofs.target_legal.Tie as tie

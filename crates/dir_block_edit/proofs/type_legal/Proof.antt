@@ -1,5 +1,5 @@
 use mathlib.Core.Path.{refl}
-use Rattle.dir_block_rules.specs.Verdict.{legal-type}
+use Rattle.dir.specs.Target.{legal-type}
 use Rattle.dir_block_edit.proofs.type_legal.Statement.{statement}
 use Rattle.dir_block_edit.proofs.type_legal.Tie as tie
 

@@ -4,8 +4,9 @@ use Prim.Native.Nat.{ℕ}
 use borrow.Author.Needs.{needs}
 use Rattle.edition.specs.declared.Edition.{Edition}
 use Rattle.edition.specs.Edition.{v4}
-use Rattle.dir_block_rules.specs.declared.Looked.{Looked}
-use Rattle.dir_block_rules.specs.Lookup.{lookup, lookup-code, looked-code}
+use Rattle.dir.specs.declared.Looked.{Looked}
+use Rattle.dir.specs.Answers.{looked-code}
+use Rattle.dir_block_rules.specs.Lookup.{lookup, lookup-code}
 use Rattle.dir_block_rules.proofs.LookupRight.{lookup-is}
 use Rattle.dir_block_lookup.proofs.lookup.Statement.{statement}
 use Rattle.dir_block_lookup.proofs.lookup.Tie as tie

@@ -3,7 +3,7 @@ use mathlib.Core.Path.{sym, _∙_, ap}
 use borrow.Author.Needs.{needs}
 use borrow.Author.Tests.{not-true, not-false}
 use Rattle.dir_block_laws.proofs.SlotSearch.{ready-of}
-use Rattle.dir_block_rules.specs.declared.Looked.the-variants.{Refused}
+use Rattle.dir.specs.declared.Looked.the-variants.{Refused}
 use Rattle.dir_block_lookup.proofs.CallAnswers.{lookup-block, lookup-asked}
 use Rattle.dir_block_lookup.proofs.lookup_in.Statement.{statement}
 use Rattle.dir_block_lookup.proofs.lookup_in.Tie as tie

@@ -4,8 +4,9 @@ use Prim.Native.Nat.{ℕ}
 use borrow.Author.Needs.{needs}
 use Rattle.edition.specs.declared.Edition.{Edition}
 use Rattle.edition.specs.Edition.{v4}
-use Rattle.dir_block_rules.specs.declared.Walked.{Walked}
-use Rattle.dir_block_rules.specs.Walk.{walk-step, step-code, walked-code}
+use Rattle.dir.specs.declared.Walked.{Walked}
+use Rattle.dir.specs.Answers.{walked-code}
+use Rattle.dir_block_rules.specs.Walk.{walk-step, step-code}
 use Rattle.dir_block_rules.proofs.WholeWalk.{step-is}
 use Rattle.dir_block_lookup.proofs.step.Statement.{statement}
 use Rattle.dir_block_lookup.proofs.step.Tie as tie

@@ -2,7 +2,7 @@ use native.Mathlib.Omega.{arith}
 use mathlib.Core.Path.{sym, _∙_, ap}
 use borrow.Author.Needs.{needs}
 use borrow.Author.Tests.{not-true, not-false}
-use Rattle.dir_block_rules.specs.declared.Walked.the-variants.{Refused}
+use Rattle.dir.specs.declared.Walked.the-variants.{Refused}
 use Rattle.dir_block_laws.proofs.SlotSearch.{ready-of}
 use Rattle.dir_block_lookup.proofs.CallAnswers.{step-block, step-asked}
 use Rattle.dir_block_lookup.proofs.step_in.Statement.{statement}

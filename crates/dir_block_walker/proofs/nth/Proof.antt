@@ -52,7 +52,7 @@ use denote.Triple.Walked.{says, Stays, stay-none, stay-none-slice, walkOf, goes-
 use denote.Exit.{yes}
 use denote.Triple.Clauses.{ensured, lasts}
 use Rattle.edition.specs.Edition.{v4}
-use Rattle.dir_block_rules.specs.declared.Walked.{Walked}
+use Rattle.dir.specs.declared.Walked.{Walked}
 use Rattle.dir_block_rules.proofs.Walked as S
 use Rattle.dir_block_rules.proofs.Walked.Laws as S′
 use Rattle.dir_block_walker.specs.declared.Walker.{Walker}

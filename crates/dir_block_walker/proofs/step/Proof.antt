@@ -33,7 +33,7 @@ use denote.Triple.Spec.{Meets, tripleOf}
 use denote.Triple.Table.{entered, cited}
 use denote.Triple.Walked.{says, Stays, stay-none, walkOf, goes-none, Walks, ends-at, walked, walk-meets}
 use denote.Exit.{yes}
-use Rattle.dir_block_rules.specs.declared.Walked.{Walked}
+use Rattle.dir.specs.declared.Walked.{Walked}
 use Rattle.dir_block_rules.proofs.Walked as S
 use Rattle.dir_block_rules.proofs.Walked.Laws as S′
 use Rattle.dir_block_lookup.proofs.step.Symbol as plain-def

@@ -36,7 +36,7 @@ use denote.Triple.Spec.{Meets, tripleOf}
 use denote.Triple.Table.{entered, cited}
 use denote.Triple.Walked.{says, Stays, stay-none, stay-none-slice, walkOf, goes-none, goes-none-slice, Walks, ends-at, walked, walk-meets}
 use denote.Exit.{yes}
-use Rattle.dir_block_rules.specs.declared.Walked.{Walked}
+use Rattle.dir.specs.declared.Walked.{Walked}
 use Rattle.dir_block_rules.proofs.Walked as S
 use Rattle.dir_block_rules.proofs.Walked.Laws as S′
 use Rattle.dir_block_walker.specs.declared.Walker.{Walker}

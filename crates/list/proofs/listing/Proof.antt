@@ -4,8 +4,8 @@ use mathlib.Core.Path.{subst}
 use denote.Ref.{now}
 use borrow.Author.Needs.{needs}
 use lib.ListN.{length}
-use Rattle.dir_block_rules.specs.declared.Seen.{Seen}
-use Rattle.dir_block_rules.specs.Walk.{seen-start, seen-len}
+use Rattle.dir.specs.declared.Seen.{Seen}
+use Rattle.dir.specs.Answers.{seen-start, seen-len}
 use Rattle.dir_block_laws.specs.Pass.{Place}
 use Rattle.dir_block_laws.proofs.WalkSteps.{place-start}
 use Rattle.list.proofs.listing.Statement.{statement}

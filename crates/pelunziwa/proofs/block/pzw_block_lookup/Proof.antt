@@ -1,6 +1,6 @@
 use mathlib.Core.Path.{sym, _∙_, ap}
 use borrow.Author.Needs.{needs}
-use Rattle.dir_block_rules.specs.Lookup.{looked-code}
+use Rattle.dir.specs.Answers.{looked-code}
 use Rattle.dir_block_rules.proofs.SmallCodes.{lookup-small}
 use Rattle.pelunziwa.specs.Answers.{as-found}
 use Rattle.pelunziwa.proofs.block.pzw_block_lookup.Statement.{statement}

@@ -1,6 +1,6 @@
 use mathlib.Core.Path.{sym, _∙_, ap}
 use borrow.Author.Needs.{needs}
-use Rattle.dir_block_rules.specs.Walk.{walked-code}
+use Rattle.dir.specs.Answers.{walked-code}
 use Rattle.dir_block_rules.proofs.SmallCodes.{step-small}
 use Rattle.pelunziwa.specs.Answers.{as-step}
 use Rattle.pelunziwa.proofs.block.pzw_block_step.Statement.{statement}

@@ -1,34 +1,28 @@
--- Demand 3's book: names with numbers, fed each call, and what it answers. It sees no answers of the block's.
+-- Demand 3's book: names with numbers and file types, fed each call, and what it answers. It sees no answers of the directory's.
 -- Assumes nothing.
 use Prim.Native.Nat.{ℕ}
 use mathlib.Core.Bool.{Bool, true, false, not, cond, _&&_}
 use mathlib.Core.Path.{_≡_}
-use mathlib.Core.List.{List, [], _∷_, map}
+use mathlib.Core.List.{List, [], _∷_}
 use Rattle.refusal.specs.Refusal.{ASKED, FIXED, ABSENT, EXISTS, NOROOM}
 use Rattle.be.specs.Codes.{_unless_then_}
 use Rattle.be.specs.Lists.{some-of, tally, without-first, same}
 use Rattle.edition.specs.declared.Edition.{Edition}
 use Rattle.name.specs.Name.{legal-name, same-name, fixed-name}
-use Rattle.dir_block_rules.specs.declared.Target.{Target}
-use Rattle.dir_block_rules.specs.Record.{target, same-target, target-of, kept-of, entries, name as entry-name}
-use Rattle.dir_block_rules.specs.Verdict.{legal-target}
-use Rattle.dir_block_rules.specs.Block.{records}
-use Rattle.dir_block_rules.specs.Calls.{Call, look-up, insert, remove, Reply, found, done, refuse}
+use Rattle.dir.specs.declared.Target.{Target}
+use Rattle.dir.specs.Target.{no-target, same-target, legal-target, kept-of}
+use Rattle.dir.specs.Calls.{Call, look-up, insert, remove, Reply, found, done, refuse}
 
 -- a name with its number and file type
 pub record Held : Type 0 where
   pub name : List ℕ
-  pub aim : Target
+  pub target : Target
 
 abbrev pub held : List ℕ → Target → Held
-held n i = record { name = n; aim = i }
+held n t = record { name = n; target = t }
 
 abbrev pub Book : Type 0
 Book = List Held
-
--- a block's names and numbers are its live entries', each name with its number and file type
-unfoldable pub book-of : Edition → List ℕ → Book
-book-of e b = map (λ r. held (entry-name r) (target-of e r)) (entries (records e b))
 
 abbrev pub named : Edition → List ℕ → Held → Bool
 named e n h = same-name e n (h .name)
@@ -37,20 +31,20 @@ abbrev pub holds : Edition → List ℕ → Book → Bool
 holds e n k = some-of (named e n) k
 
 -- the number and file type of the first that has the name
-unfoldable pub aim-of : Edition → List ℕ → Book → Target
-aim-of e n [] = target 0 0
-aim-of e n (h ∷ hs) = let r = aim-of e n hs in cond (named e n h) (h .aim) r
+unfoldable pub target-held : Edition → List ℕ → Book → Target
+target-held e n [] = no-target
+target-held e n (h ∷ hs) = let r = target-held e n hs in cond (named e n h) (h .target) r
 
--- the book's answer; room is whether the room rule finds room in the block that the call gets. The first that applies counts.
+-- the book's answer; room is whether the room rule finds room in the directory that the call gets. The first that applies counts.
 -- Lookup: name not legal, 11; held, its number and type; else 13.
 -- Insert: name, number or type not legal, 11; "." or "..", 12; held, 14; no room, 15; else done.
 -- Removal: name not legal, 11; "." or "..", 12; not held, 13; else done.
 unfoldable pub book-reply : Edition → Book → Bool → Call → Reply
 book-reply e k room (look-up n) =
     refuse ASKED unless legal-name e n then
-    refuse ABSENT unless holds e n k then found (aim-of e n k)
-book-reply e k room (insert n i) =
-    refuse ASKED unless legal-name e n && legal-target e i then
+    refuse ABSENT unless holds e n k then found (target-held e n k)
+book-reply e k room (insert n t) =
+    refuse ASKED unless legal-name e n && legal-target e t then
     refuse FIXED unless not (fixed-name n) then
     refuse EXISTS unless not (holds e n k) then
     refuse NOROOM unless room then done
@@ -60,14 +54,14 @@ book-reply e k room (remove n) =
     refuse ABSENT unless holds e n k then done
 
 abbrev pub is-done : Reply → Bool
-is-done (found i) = false
+is-done (found t) = false
 is-done done = true
 is-done (refuse k) = false
 
 -- an insert that is done is held from now on; a removal that is done is gone
 abbrev pub entered : Edition → Book → Call → Book
 entered e k (look-up n) = k
-entered e k (insert n i) = held n (kept-of e i) ∷ k
+entered e k (insert n t) = held n (kept-of e t) ∷ k
 entered e k (remove n) = without-first (named e n) k
 
 -- a refusal changes nothing
@@ -76,7 +70,7 @@ book-after e k room c = cond (is-done (book-reply e k room c)) (entered e k c) k
 
 -- two books hold the same names with the same numbers and types, order left out
 abbrev pub same-held : Held → Held → Bool
-same-held g h = same (g .name) (h .name) && same-target (g .aim) (h .aim)
+same-held g h = same (g .name) (h .name) && same-target (g .target) (h .target)
 
 unfoldable pub SameBook : Book → Book → Type 0
 SameBook k l = (h : Held) → tally (same-held h) k ≡ tally (same-held h) l

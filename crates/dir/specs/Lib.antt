@@ -1,0 +1,4 @@
+pub mod Target
+pub mod Answers
+pub mod Calls
+pub mod Book
