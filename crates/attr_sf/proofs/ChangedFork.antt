@@ -1,4 +1,4 @@
--- The writes of a removal and of a set leave the fork that the definitions name, and the code's tests for room are theirs.
+-- The writes of a removal and of a set leave the fork that the definitions name, and the code's tests for has-room are theirs.
 -- Assumes nothing.
 use Prim.Native.Nat.{ℕ, _+_, _-_, _≤_, _<_}
 use native.Mathlib.Omega.{arith}
@@ -14,7 +14,7 @@ use Rattle.attr_sf.specs.declared.Plan.{Plan}
 use Rattle.attr_sf.specs.Plan.{plan-of}
 use Rattle.attr_sf.specs.Entry.{entry, others, entry-bytes, run}
 use Rattle.attr_sf.specs.Fork.{header, totsize, count, stored, size-at, place-of, fork-code, fork-with, fits}
-use Rattle.attr_sf.specs.Calls.{held, held-code, set-entries, room, room-code, fork-changed}
+use Rattle.attr_sf.specs.Calls.{held, held-code, set-entries, has-room, room-code, fork-changed}
 use Rattle.attr_sf.proofs.ForkTests.{long, end-inside}
 use Rattle.attr_sf.proofs.ReadBack.{bytes-length}
 use Rattle.attr_sf.proofs.ForkWrites.{zeros, close-writes, append-writes, head-writes}
@@ -97,21 +97,21 @@ module _ (f name : List ℕ) (flags : ℕ) (z : fork-code f ≡ 0) (P : Plan) (q
     unfolding set-entries
     set-number = length-append (others name flags (stored f)) (entry flags name value ∷ []) ∙ omega (arith, kept-is)
 
-    room-value : 255 < length value → room f name flags value ≡ false
-    unfolding room
+    room-value : 255 < length value → has-room f name flags value ≡ false
+    unfolding has-room
     room-value h = rw (lt-leb (length value) 255 h)
 
-    room-count : length value ≤ 255 → 254 < P .kept → room f name flags value ≡ false
-    unfolding room fits
+    room-count : length value ≤ 255 → 254 < P .kept → has-room f name flags value ≡ false
+    unfolding has-room fits
     room-count h k = rw (le-leb (length value) 255 h, lt-leb (length (set-entries name flags value (stored f))) 255 (omega (arith, set-number)))
 
-    room-total : length value ≤ 255 → P .kept ≤ 254 → length f < P .end - P .size + 3 + length name + length value → room f name flags value ≡ false
-    unfolding room fits
+    room-total : length value ≤ 255 → P .kept ≤ 254 → length f < P .end - P .size + 3 + length name + length value → has-room f name flags value ≡ false
+    unfolding has-room fits
     room-total h k t =
         rw (le-leb (length value) 255 h, le-leb (length (set-entries name flags value (stored f))) 255 (omega (arith, set-number)), lt-leb (header + length (run (set-entries name flags value (stored f)))) (length f) (omega (arith, set-total)))
 
-    room-is : length value ≤ 255 → P .kept ≤ 254 → P .end - P .size + 3 + length name + length value ≤ length f → room f name flags value ≡ true
-    unfolding room fits
+    room-is : length value ≤ 255 → P .kept ≤ 254 → P .end - P .size + 3 + length name + length value ≤ length f → has-room f name flags value ≡ true
+    unfolding has-room fits
     room-is h k t =
         rw (le-leb (length value) 255 h, le-leb (length (set-entries name flags value (stored f))) 255 (omega (arith, set-number)), le-leb (header + length (run (set-entries name flags value (stored f)))) (length f) (omega (arith, set-total)))
 
@@ -149,7 +149,7 @@ module _ (f name : List ℕ) (flags : ℕ) (z : fork-code f ≡ 0) {P : Plan} (q
       (rw k, rw k (b ∙ ap (λ (x : List ℕ). put (put x 0 (to-be 2 (P .end - P .size))) 2 (to-be 1 (P .kept))) a ∙ remove-writes f name flags z P q))
 
   module _ (value : List ℕ) where
-    refused-by : room f name flags value ≡ false
+    refused-by : has-room f name flags value ≡ false
         → (15 ≡ room-code f name flags value) × (f ≡ fork-changed f (room-code f name flags value) (set-entries name flags value (stored f)))
     unfolding room-code fork-changed
     refused-by h = (rw h, rw h)

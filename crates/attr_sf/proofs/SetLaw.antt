@@ -13,7 +13,7 @@ use Rattle.be.proofs.Codes.{both}
 use Rattle.dinode.specs.Core.{attr-fork}
 use Rattle.attr_sf.specs.Entry.{Entry, entry, is-key, others}
 use Rattle.attr_sf.specs.Fork.{stored, fork-code, fits, name-legal-of, flags-legal-of}
-use Rattle.attr_sf.specs.Calls.{attr-code, asked-code, room, room-code, set-entries, set-code, after-set}
+use Rattle.attr_sf.specs.Calls.{attr-code, asked-code, has-room, room-code, set-entries, set-code, after-set}
 use Rattle.attr_sf.specs.Laws.{Set-law}
 use Rattle.attr_sf.proofs.ForkTests.{all-named, all-flagged, all-once}
 use Rattle.attr_sf.proofs.InodeTests.{holds, fork-passed, tests-passed, asked-legal, still-asked}
@@ -29,10 +29,10 @@ kept-new name flags value xs =
     ∙ rw (keep-none (is-key name flags) (others name flags xs) (others-none name flags xs), key-own flags name value)
 
 pub set-law : Set-law
-unfolding set-code room-code room after-set set-entries value-among code-among
+unfolding set-code room-code has-room after-set set-entries value-among code-among
 set-law e sane b name flags value q =
     let p = both (asked-code e b name flags) (room-code (attr-fork e b) name flags value) q in
-    let r : room (attr-fork e b) name flags value ≡ true = holds (room (attr-fork e b) name flags value) 15 (omega arith) (p .1) in
+    let r : has-room (attr-fork e b) name flags value ≡ true = holds (has-room (attr-fork e b) name flags value) 15 (omega arith) (p .1) in
     let t : attr-code e b ≡ 0 = tests-passed e b name flags (p .0) in
     let z : fork-code (attr-fork e b) ≡ 0 = fork-passed e b t in
     let k = asked-legal e b name flags (p .0) in

@@ -90,11 +90,11 @@ unfoldable pub set-entries : List ℕ → ℕ → List ℕ → List Entry → Li
 set-entries name flags value xs = others name flags xs ++ (entry flags name value ∷ [])
 
 -- 15 NOROOM: value over 255, count over 255, or totsize over the fork, all judged with the old one gone
-unfoldable pub room : List ℕ → List ℕ → ℕ → List ℕ → Bool
-room f name flags value = leb (length value) 255 && fits f (set-entries name flags value (stored f))
+unfoldable pub has-room : List ℕ → List ℕ → ℕ → List ℕ → Bool
+has-room f name flags value = leb (length value) 255 && fits f (set-entries name flags value (stored f))
 
 unfoldable pub room-code : List ℕ → List ℕ → ℕ → List ℕ → ℕ
-room-code f name flags value = NOROOM unless room f name flags value then 0
+room-code f name flags value = NOROOM unless has-room f name flags value then 0
 
 unfoldable pub set-code : Edition → List ℕ → List ℕ → ℕ → List ℕ → ℕ
 set-code e b name flags value = asked-code e b name flags and-then room-code (attr-fork e b) name flags value

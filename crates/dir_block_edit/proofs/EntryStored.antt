@@ -19,14 +19,6 @@ use Rattle.dir_block_rules.specs.Change.{entry-writes}
 behind : (b c d : List ℕ) (o p k : ℕ) (xs ys : List ℕ) → c ≡ put b o xs → length xs ≡ k → o + k ≡ p → d ≡ put c p ys → d ≡ put b o (xs ++ ys)
 behind b c d o p k xs ys q l r h = h ∙ ap (λ (m : List ℕ). put m p ys) q ∙ put-next b p o xs ys (ap (λ (m : ℕ). o + m) l ∙ r)
 
--- the file type, which an edition without one leaves out
-pub kind-none : (e : Edition) (b : List ℕ) (o k : ℕ) → e .ftype ≡ 0 → b ≡ put b o (to-be (e .ftype) k)
-unfolding to-be
-kind-none e b o k q = sym (ap (λ (m : ℕ). put b o (to-be m k)) q ∙ put-nothing b o)
-
-pub kind-one : (e : Edition) (b c : List ℕ) (o k : ℕ) → e .ftype ≤ 1 → (e .ftype ≡ 0 → ⊥) → c ≡ put b o (to-be 1 k) → c ≡ put b o (to-be (e .ftype) k)
-kind-one e b c o k m n q = let one : 1 ≡ e .ftype = omega arith in q ∙ ap (λ (m : ℕ). put b o (to-be m k)) one
-
 pub pad-stored : (e : Edition) (b c d : List ℕ) (o k n : ℕ) → c ≡ put b o (to-be (e .ftype) k) → d ≡ put c (o + e .ftype) (replicate n 0) → d ≡ put b o (to-be (e .ftype) k ++ replicate n 0)
 pad-stored e b c d o k n p q = behind b c d o (o + e .ftype) (e .ftype) (to-be (e .ftype) k) (replicate n 0) p (length-to-be (e .ftype) k) refl q
 

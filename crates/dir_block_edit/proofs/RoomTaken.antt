@@ -18,7 +18,7 @@ use Rattle.dir.specs.declared.Target.{Target}
 use Rattle.dir_block_rules.specs.Lookup.{sought}
 use Rattle.dir.specs.Target.{legal-target}
 use Rattle.dir_block_rules.specs.Verdict.{pair}
-use Rattle.dir_block_rules.specs.Room.{has-room, room, other-gaps, longest}
+use Rattle.dir_block_rules.specs.Room.{has-room, room-of, other-gaps, longest}
 use Rattle.dir_block_rules.specs.Change.{index-writes, insert-slot, entry-writes, insert-writes, changed, insert-code, insert-block}
 use Rattle.dir_block_rules.proofs.EachCall.{insert-code-is}
 use Rattle.dir_block_laws.specs.Tiled.{Ready, Tiled}
@@ -50,7 +50,7 @@ module _ (e : Edition) (b n : List ℕ) (i : Target) (o₁ l₁ o₂ l₂ o₃ l
       let f = first-best 2 (gaps (records e b)) o₁ l₁ (pair o₂ l₂ ∷ pair o₃ l₃ ∷ []) (sc .best) in
       longest-inside e b t o₁ l₁ p (f .0) (f .1)
 
-  module _ (o l : ℕ) (oo : longest (other-gaps (room e b n)) .off ≡ o) (ol : size (longest (other-gaps (room e b n))) ≡ l) (z : s ≡ 0) where
+  module _ (o l : ℕ) (oo : longest (other-gaps (room-of e b n)) .off ≡ o) (ol : size (longest (other-gaps (room-of e b n))) ≡ l) (z : s ≡ 0) where
     pub room-c : (d : List ℕ) → 8 ≤ k → E ≤ l
         → d ≡ written b (entry-writes e i n o (o + l) ++ (gap-writes u (k - 8) ++ index-writes (length b) (insert-slot (slot h (o / 8)) (slots b)) 0))
         → (true ≡ has-room e b n) × (d ≡ chosen e true b n i)

@@ -12,7 +12,7 @@ ghost use Rattle.dir.specs.Target.{target, legal-type, legal-target};
 ghost use Rattle.dir_block_rules.specs.Record.{entry-bytes, gap-writes, gaps, size};
 ghost use Rattle.dir_block_rules.specs.Block.{records, data-end, count-of, stale-of, slots, slot, is-stale, is-live};
 ghost use Rattle.dir_block_rules.specs.Lookup.{sought};
-ghost use Rattle.dir_block_rules.specs.Room.{has-room, room, other-gaps, longest};
+ghost use Rattle.dir_block_rules.specs.Room.{has-room, room-of, other-gaps, longest};
 ghost use Rattle.dir_block_rules.specs.Change.{gap-start-before, gap-end-after, changed, remove-writes, remove-code, remove-block, index-writes, insert-slot, entry-writes, insert-code, insert-block};
 ghost use Rattle.dir_block_laws.specs.Tiled.{Ready, Tiled};
 ghost use Rattle.dir_block_laws.specs.SlotPlaces.{Spot};
@@ -71,10 +71,10 @@ fn joined_end(e: Edition, b: &[u8], end: usize, o: usize, u: usize) -> usize
 }
 
 // The entry at `at`, whose slot has the place given, and the gaps beside it become one gap; the slot goes stale.
-fn free_entry(e: Edition, b: &mut [u8], end: usize, place: usize, at: usize, name: &[u8])
+fn free_entry(e: Edition, b: &mut [u8], end: usize, slot: usize, at: usize, name: &[u8])
     requires { ⌜ Sane e × Ready e (now b) ⌝ }
     requires { ⌜ end ≡ data-end (now b) ⌝ }
-    requires { ⌜ (sought e (now b) (now name) .hit ≡ true) × ((sought e (now b) (now name) .place ≡ place) × (sought e (now b) (now name) .at ≡ at)) ⌝ }
+    requires { ⌜ (sought e (now b) (now name) .hit ≡ true) × ((sought e (now b) (now name) .index ≡ slot) × (sought e (now b) (now name) .at ≡ at)) ⌝ }
     ensures { λ _. ⌜ now (b .exit) ≡ written (now (b .entry)) (remove-writes e (now (b .entry)) (now (name .entry))) ⌝ }
 {
     let n = b.len();
@@ -84,19 +84,19 @@ fn free_entry(e: Edition, b: &mut [u8], end: usize, place: usize, at: usize, nam
     let u = joined_end(e, &b[..], end, at, m);
     let s = be::be32(&b[..], n - 4);
     put_gap(b, o, u - o);
-    be::put32(b, end + 8 * place + 4, 0);
+    be::put32(b, end + 8 * slot + 4, 0);
     be::put32(b, n - 4, s + 1);
 }
 
 // The removal of a name that was found.
-fn remove_found(e: Edition, b: &mut [u8], end: usize, place: usize, at: usize, name: &[u8])
+fn remove_found(e: Edition, b: &mut [u8], end: usize, slot: usize, at: usize, name: &[u8])
     requires { ⌜ Sane e × Ready e (now b) ⌝ }
     requires { ⌜ end ≡ data-end (now b) ⌝ }
-    requires { ⌜ (sought e (now b) (now name) .hit ≡ true) × ((sought e (now b) (now name) .place ≡ place) × (sought e (now b) (now name) .at ≡ at)) ⌝ }
+    requires { ⌜ (sought e (now b) (now name) .hit ≡ true) × ((sought e (now b) (now name) .index ≡ slot) × (sought e (now b) (now name) .at ≡ at)) ⌝ }
     requires { ⌜ fixed-name (now name) ≡ false ⌝ }
     ensures { λ _. ⌜ now (b .exit) ≡ changed e (now (b .entry)) (remove-writes e (now (b .entry)) (now (name .entry))) ⌝ }
 {
-    free_entry(e, b, end, place, at, name);
+    free_entry(e, b, end, slot, at, name);
     dir_block_scan::best_table(e, b);
 }
 
@@ -112,21 +112,10 @@ pub fn remove_ready(e: Edition, b: &mut [u8], name: &[u8]) -> usize
     let f = dir_block_lookup::seek(e, &b[..], end, c, name);
     let hit = f.hit;
     if hit {
-        remove_found(e, b, end, f.place, f.at, name);
+        remove_found(e, b, end, f.index, f.at, name);
         return 0;
     }
     refusal::ABSENT
-}
-
-// The file type, where the edition has one.
-fn put_kind(e: Edition, b: &mut [u8], o: usize, kind: usize)
-    requires { ⌜ Sane e × (o + e .ftype ≤ length (now b)) ⌝ }
-    ensures { λ _. ⌜ now (b .exit) ≡ put (now (b .entry)) o (to-be (e .ftype) kind) ⌝ }
-{
-    if e.ftype == 0 {
-        return;
-    }
-    be::put8(b, o, kind);
 }
 
 // What stands between an entry's name and its tag: the file type, and k zeros.
@@ -134,7 +123,7 @@ fn put_pad(e: Edition, b: &mut [u8], o: usize, kind: usize, k: usize)
     requires { ⌜ Sane e × (o + e .ftype + k ≤ length (now b)) ⌝ }
     ensures { λ _. ⌜ now (b .exit) ≡ put (now (b .entry)) o (to-be (e .ftype) kind ++ replicate k 0) ⌝ }
 {
-    put_kind(e, b, o, kind);
+    dir::put_kind(e, b, o, kind);
     be::zero(b, o + e.ftype, k);
 }
 
@@ -154,7 +143,7 @@ fn put_entry(e: Edition, b: &mut [u8], o: usize, to: Target, name: &[u8])
 }
 
 // The entry at the start of the free bytes from o up to u, and a gap of what is left of them.
-fn place(e: Edition, b: &mut [u8], o: usize, u: usize, to: Target, name: &[u8])
+fn put_first(e: Edition, b: &mut [u8], o: usize, u: usize, to: Target, name: &[u8])
     requires { ⌜ Sane e ⌝ }
     requires { ⌜ (length (now name) < 256) × ((o + entry-size e (length (now name)) ≤ u) × (u + 4 ≤ length (now b))) ⌝ }
     ensures { λ _. ⌜ now (b .exit) ≡ written (now (b .entry)) (entry-writes e to (now (name .entry)) o u) ⌝ }
@@ -185,7 +174,7 @@ fn insert_a(
     ensures { λ _. ⌜ now (b .exit) ≡ written (now (b .entry)) (entry-writes e to (now (name .entry)) o (o + l) ++ index-writes (length (now (b .entry))) (insert-slot (slot h (o / 8)) (without-first is-stale (slots (now (b .entry))))) (stale - 1)) ⌝ }
 {
     dir_block_index::reuse(e, b, end, count, stale, p, h, o / 8);
-    place(e, b, o, o + l, to, name);
+    put_first(e, b, o, o + l, to, name);
 }
 
 // (c): the longest gap other than T, l bytes at o; T, k bytes at u, gives 8 bytes off its end to the index.
@@ -211,7 +200,7 @@ fn insert_c(
     ensures { λ _. ⌜ now (b .exit) ≡ written (now (b .entry)) (entry-writes e to (now (name .entry)) o (o + l) ++ (gap-writes u (k - 8) ++ index-writes (length (now (b .entry))) (insert-slot (slot h (o / 8)) (slots (now (b .entry)))) 0)) ⌝ }
 {
     dir_block_index::grow(e, b, end, count, p, h, o / 8);
-    place(e, b, o, o + l, to, name);
+    put_first(e, b, o, o + l, to, name);
     put_gap(b, u, k - 8);
 }
 
@@ -236,7 +225,7 @@ fn insert_d(
     ensures { λ _. ⌜ now (b .exit) ≡ written (now (b .entry)) (entry-writes e to (now (name .entry)) u (u + k - 8) ++ index-writes (length (now (b .entry))) (insert-slot (slot h (u / 8)) (slots (now (b .entry)))) 0) ⌝ }
 {
     dir_block_index::grow(e, b, end, count, p, h, u / 8);
-    place(e, b, u, u + k - 8, to, name);
+    put_first(e, b, u, u + k - 8, to, name);
 }
 
 // (b): T, k bytes at u, grown over the stale slots that are not needed; all stale slots are dropped.
@@ -261,7 +250,7 @@ fn insert_b(
     ensures { λ _. ⌜ now (b .exit) ≡ written (now (b .entry)) (entry-writes e to (now (name .entry)) u (u + k + 8 * (stale - 1)) ++ index-writes (length (now (b .entry))) (insert-slot (slot h (u / 8)) (keep is-live (slots (now (b .entry))))) 0) ⌝ }
 {
     dir_block_index::squeeze(e, b, end, count, stale, p, h, u / 8);
-    place(e, b, u, u + k + 8 * (stale - 1), to, name);
+    put_first(e, b, u, u + k + 8 * (stale - 1), to, name);
 }
 
 // (c) or (d), without stale slots: l bytes at o are the longest gap other than T.
@@ -283,7 +272,7 @@ fn choose_cd(
     requires { ⌜ (end ≡ data-end (now b)) × ((count ≡ count-of (now b)) × (0 ≡ stale-of (now b))) ⌝ }
     requires { ⌜ Spot (now b) h p ⌝ }
     requires { ⌜ Scanned e (now b) (table g) (g .tat) (g .tlen) ⌝ }
-    requires { ⌜ (longest (other-gaps (room e (now b) (now name))) .off ≡ o) × (size (longest (other-gaps (room e (now b) (now name)))) ≡ l) ⌝ }
+    requires { ⌜ (longest (other-gaps (room-of e (now b) (now name))) .off ≡ o) × (size (longest (other-gaps (room-of e (now b) (now name)))) ≡ l) ⌝ }
     requires { ⌜ (h ≡ hash-of e (now name)) × ((need ≡ entry-size e (length (now name))) × (length (now name) < 256)) ⌝ }
     ensures { λ r. ⌜ (r ≡ has-room e (now (b .entry)) (now (name .entry))) × (now (b .exit) ≡ chosen e r (now (b .entry)) (now (name .entry)) to) ⌝ }
 {
@@ -382,8 +371,8 @@ pub fn insert_ready(e: Edition, b: &mut [u8], to: Target, name: &[u8]) -> usize
     if hit {
         return refusal::EXISTS;
     }
-    let room = choose(e, b, end, c, s, to, name);
-    if room {
+    let done = choose(e, b, end, c, s, to, name);
+    if done {
         dir_block_scan::best_table(e, b);
         return 0;
     }
@@ -407,20 +396,6 @@ fn request(e: Edition, name: &[u8], number: bool) -> usize
     0
 }
 
-// Whether a file type is legal: 1 to 8 where the edition has one, else any.
-fn type_legal(e: Edition, kind: usize) -> bool
-    ensures { λ r. ⌜ r ≡ legal-type e kind ⌝ }
-{
-    (e.ftype == 0) | ((1 <= kind) & (kind <= 8))
-}
-
-// Whether an asked number and file type are legal.
-fn target_legal(e: Edition, to: Target) -> bool
-    ensures { λ r. ⌜ r ≡ legal-target e to ⌝ }
-{
-    name::number_legal(to.inode) & type_legal(e, to.kind)
-}
-
 // Insert in a block of an edition: 0, or the number of the refusal. The block is tested first, then the request is judged.
 pub fn insert_in(e: Edition, b: &mut [u8], name: &[u8], to: Target) -> usize
     requires { ⌜ Sane e ⌝ }
@@ -430,7 +405,7 @@ pub fn insert_in(e: Edition, b: &mut [u8], name: &[u8], to: Target) -> usize
     if t != 0 {
         return t;
     }
-    let legal = target_legal(e, to);
+    let legal = dir::target_legal(e, to);
     let refused = request(e, name, legal);
     if refused != 0 {
         return refused;

@@ -196,13 +196,13 @@ found-entry e sane b n r h =
       no-gap = not-true (is-gap (t .here)) (k .passes);
     }
 
-pub found-place : (e : Edition) (b n : List ℕ) → sought e b n .hit ≡ true → sought e b n .place < length (slots b)
+pub found-index : (e : Edition) (b n : List ℕ) → sought e b n .hit ≡ true → sought e b n .index < length (slots b)
 unfolding sought
-found-place e b n h =
+found-index e b n h =
     let f : First e b n (hash-of e n) 0 (slots b) (seek e b n (hash-of e n) 0 0 (slots b)) =
     seek-first e b n (hash-of e n) 0 0 (slots b) (sym (seek-hit e b n (hash-of e n) 0 0 (slots b)) ∙ h) in
     let l : length (slots b) ≡ length (f .split .before) + suc (length (f .split .behind)) = ap length (f .split .is) ∙ length-append (f .split .before) (f .split .here ∷ f .split .behind) in
-    omega (arith, f .place-is, l)
+    omega (arith, f .index-is, l)
 
 -- the entry found has the name
 pub found-long : (e : Edition) (sane : Sane e) (b n : List ℕ) (r : Ready e b) → sought e b n .hit ≡ true → getD b (sought e b n .at + 8) 0 ≡ length n
@@ -226,7 +226,7 @@ pub long-found : (e : Edition) (sane : Sane e) (b n : List ℕ) (at : ℕ) (r : 
 long-found e sane b n at r h q = subst (λ (o : ℕ). getD b (o + 8) 0 ≡ length n) q (found-long e sane b n r h)
 
 -- the entry and the slot lie in the block
-pub found-room : (e : Edition) (sane : Sane e) (b n : List ℕ) (end place at : ℕ) (r : Ready e b) → sought e b n .hit ≡ true → sought e b n .place ≡ place → sought e b n .at ≡ at → end ≡ data-end b
+pub found-room : (e : Edition) (sane : Sane e) (b n : List ℕ) (end place at : ℕ) (r : Ready e b) → sought e b n .hit ≡ true → sought e b n .index ≡ place → sought e b n .at ≡ at → end ≡ data-end b
     → (e .header ≤ at) × ((at + 11 ≤ end) × ((at + entry-size e (getD b (at + 8) 0) ≤ end) × ((end + 8 * place + 16 ≤ length b) × (length b ≤ 65536))))
 found-room e sane b n end place at r h p q x =
     let t : Tiled e b = tiled e b r in
@@ -237,7 +237,7 @@ found-room e sane b n end place at r h p q x =
         omega (arith, entry-long e b (tiled e b r) at w, entry-inside e b (tiled e b r) at w, entry-size-least e (getD b (at + 8) 0)),
         (
           omega (arith, entry-long e b (tiled e b r) at w, entry-inside e b (tiled e b r) at w),
-          (omega (arith, found-place e b n h, l, end-fits e b (tiled e b r), p), tiled e b r .short),
+          (omega (arith, found-index e b n h, l, end-fits e b (tiled e b r), p), tiled e b r .short),
         ),
       ),
     )

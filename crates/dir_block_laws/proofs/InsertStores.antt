@@ -17,7 +17,7 @@ use Rattle.dir_block_rules.specs.Block.{Slot, slot, slots, records, data-end, s
 use Rattle.name.specs.Name.{hash-of, legal-name, fixed-name}
 use Rattle.dir.specs.Target.{legal-target}
 use Rattle.dir_block_rules.specs.Verdict.{Pair, pair}
-use Rattle.dir_block_rules.specs.Room.{room, longest, touching, other-gaps, has-room, case-a, case-b, case-c, case-d, last-of}
+use Rattle.dir_block_rules.specs.Room.{room-of, longest, touching, other-gaps, has-room, case-a, case-b, case-c, case-d, last-of}
 use Rattle.dir_block_rules.specs.Change.{best-of, index-writes, insert-slot, entry-writes, insert-writes, writes-a, writes-b, writes-c, writes-d}
 use Rattle.be.proofs.Bools.{by-cases}
 use Rattle.be.proofs.Numbers.{length-to-be}
@@ -166,41 +166,41 @@ module _ (e : Edition) (b n : List ℕ) (i : Target) (o₁ l₁ o₂ l₂ o₃ l
   two = second-best 1 (gaps (records e b)) (pair o₁ l₁) o₂ l₂ (pair o₃ l₃ ∷ []) (sc .best)
 
   -- the longest gap other than T
-  pub other-same : (o₁ ≡ u → ⊥) → (longest (other-gaps (room e b n)) .off ≡ o₁) × (size (longest (other-gaps (room e b n))) ≡ l₁)
-  unfolding room
+  pub other-same : (o₁ ≡ u → ⊥) → (longest (other-gaps (room-of e b n)) .off ≡ o₁) × (size (longest (other-gaps (room-of e b n))) ≡ l₁)
+  unfolding room-of
   other-same h =
       let z : longest (besides (touching (data-end b) (records e b) .off) (gaps (records e b))) ≡ longest (gaps (records e b)) =
       longest-besides (touching (data-end b) (records e b) .off) (gaps (records e b)) (λ w. h (sym (one .0) ∙ w ∙ sc .touch-off)) in
       (ap (λ (r : Rec). r .off) z ∙ one .0, ap (λ (r : Rec). size r) z ∙ one .1)
 
-  pub other-next : o₁ ≡ u → (longest (other-gaps (room e b n)) .off ≡ o₂) × (size (longest (other-gaps (room e b n))) ≡ l₂)
-  unfolding room
+  pub other-next : o₁ ≡ u → (longest (other-gaps (room-of e b n)) .off ≡ o₂) × (size (longest (other-gaps (room-of e b n))) ≡ l₂)
+  unfolding room-of
   other-next h =
       let z : touching (data-end b) (records e b) .off ≡ longest (gaps (records e b)) .off = sc .touch-off ∙ sym h ∙ sym (one .0) in
       (ap (λ (x : ℕ). longest (besides x (gaps (records e b))) .off) z ∙ two .0, ap (λ (x : ℕ). size (longest (besides x (gaps (records e b))))) z ∙ two .1)
 
-  need-a : case-a (room e b n) ≡ (leb 1 s && leb E l₁)
-  unfolding room
+  need-a : case-a (room-of e b n) ≡ (leb 1 s && leb E l₁)
+  unfolding room-of
   need-a = ap₂ (λ (x y : ℕ). leb 1 x && leb y (size (longest (gaps (records e b))))) (sym se) (sym ee) ∙ ap (λ (y : ℕ). leb 1 s && leb E y) (one .1)
 
-  need-b : case-b (room e b n) ≡ (leb 1 s && leb E (k + 8 * (s - 1)))
-  unfolding room
+  need-b : case-b (room-of e b n) ≡ (leb 1 s && leb E (k + 8 * (s - 1)))
+  unfolding room-of
   need-b = ap₂ (λ (x y : ℕ). leb 1 x && leb y (size (touching (data-end b) (records e b)) + 8 * (x - 1))) (sym se) (sym ee) ∙ ap (λ (y : ℕ). leb 1 s && leb E (y + 8 * (s - 1))) (sc .touch-size)
 
-  need-c : (l : ℕ) → size (longest (other-gaps (room e b n))) ≡ l → case-c (room e b n) ≡ (eqb s 0 && leb 8 k && leb E l)
-  unfolding room
-  need-c l q = ap₂ (λ (x y : ℕ). eqb x 0 && leb 8 (size (touching (data-end b) (records e b))) && leb y (size (longest (other-gaps (room e b n))))) (sym se) (sym ee) ∙ ap₂ (λ (x y : ℕ). eqb s 0 && leb 8 x && leb E y) (sc .touch-size) q
+  need-c : (l : ℕ) → size (longest (other-gaps (room-of e b n))) ≡ l → case-c (room-of e b n) ≡ (eqb s 0 && leb 8 k && leb E l)
+  unfolding room-of
+  need-c l q = ap₂ (λ (x y : ℕ). eqb x 0 && leb 8 (size (touching (data-end b) (records e b))) && leb y (size (longest (other-gaps (room-of e b n))))) (sym se) (sym ee) ∙ ap₂ (λ (x y : ℕ). eqb s 0 && leb 8 x && leb E y) (sc .touch-size) q
 
-  need-d : case-d (room e b n) ≡ (eqb s 0 && leb (E + 8) k)
-  unfolding room
+  need-d : case-d (room-of e b n) ≡ (eqb s 0 && leb (E + 8) k)
+  unfolding room-of
   need-d = ap₂ (λ (x y : ℕ). eqb x 0 && leb (y + 8) (size (touching (data-end b) (records e b)))) (sym se) (sym ee) ∙ ap (λ (y : ℕ). eqb s 0 && leb (E + 8) y) (sc .touch-size)
 
   -- (a)
   pub is-a : 1 ≤ s → E ≤ l₁ → (has-room e b n ≡ true)
       × (insert-writes e b n i ≡ entry-writes e i n o₁ (o₁ + l₁) ++ index-writes (length b) (insert-slot (slot (hash-of e n) (o₁ / 8)) (without-first is-stale (slots b))) (s - 1))
-  unfolding has-room insert-writes writes-a room
+  unfolding has-room insert-writes writes-a room-of
   is-a h k =
-      let t : case-a (room e b n) ≡ true = need-a ∙ rw (le-leb 1 s h, le-leb E l₁ k) in (
+      let t : case-a (room-of e b n) ≡ true = need-a ∙ rw (le-leb 1 s h, le-leb E l₁ k) in (
         rw t refl,
         rw t (ap₂ (λ (x y : ℕ). entry-writes e i n x (x + y) ++ index-writes (length b) (insert-slot (slot (hash-of e n) (x / 8)) (without-first is-stale (slots b))) (stale-of b - 1)) (one .0) (one .1)
             ∙ ap (λ (x : ℕ). entry-writes e i n o₁ (o₁ + l₁) ++ index-writes (length b) (insert-slot (slot (hash-of e n) (o₁ / 8)) (without-first is-stale (slots b))) (x - 1)) (sym se)),
@@ -209,10 +209,10 @@ module _ (e : Edition) (b n : List ℕ) (i : Target) (o₁ l₁ o₂ l₂ o₃ l
   -- (b)
   pub is-b : 1 ≤ s → l₁ < E → E ≤ k + 8 * (s - 1) → (has-room e b n ≡ true)
       × (insert-writes e b n i ≡ entry-writes e i n u (u + k + 8 * (s - 1)) ++ index-writes (length b) (insert-slot (slot (hash-of e n) (u / 8)) (keep is-live (slots b))) 0)
-  unfolding has-room insert-writes writes-b room
+  unfolding has-room insert-writes writes-b room-of
   is-b h l m =
-      let t : case-a (room e b n) ≡ false = need-a ∙ rw (le-leb 1 s h, lt-leb E l₁ l) in
-      let v : case-b (room e b n) ≡ true = need-b ∙ rw (le-leb 1 s h, le-leb E (k + 8 * (s - 1)) m) in (
+      let t : case-a (room-of e b n) ≡ false = need-a ∙ rw (le-leb 1 s h, lt-leb E l₁ l) in
+      let v : case-b (room-of e b n) ≡ true = need-b ∙ rw (le-leb 1 s h, le-leb E (k + 8 * (s - 1)) m) in (
         rw (t, v) refl,
         rw (t, v) (ap₂ (λ (x y : ℕ). entry-writes e i n x (x + y + 8 * (stale-of b - 1)) ++ index-writes (length b) (insert-slot (slot (hash-of e n) (x / 8)) (keep is-live (slots b))) 0) (sc .touch-off) (sc .touch-size)
             ∙ ap (λ (x : ℕ). entry-writes e i n u (u + k + 8 * (x - 1)) ++ index-writes (length b) (insert-slot (slot (hash-of e n) (u / 8)) (keep is-live (slots b))) 0) (sym se)),
@@ -221,26 +221,26 @@ module _ (e : Edition) (b n : List ℕ) (i : Target) (o₁ l₁ o₂ l₂ o₃ l
   pub no-ab : 1 ≤ s → l₁ < E → k + 8 * (s - 1) < E → has-room e b n ≡ false
   unfolding has-room
   no-ab h l m =
-      let t : case-a (room e b n) ≡ false = need-a ∙ rw (le-leb 1 s h, lt-leb E l₁ l) in
-      let v : case-b (room e b n) ≡ false = need-b ∙ rw (le-leb 1 s h, lt-leb E (k + 8 * (s - 1)) m) in
+      let t : case-a (room-of e b n) ≡ false = need-a ∙ rw (le-leb 1 s h, lt-leb E l₁ l) in
+      let v : case-b (room-of e b n) ≡ false = need-b ∙ rw (le-leb 1 s h, lt-leb E (k + 8 * (s - 1)) m) in
       let z : eqb s 0 ≡ false = ne-eqb s 0 (λ (w : s ≡ 0). omega arith) in
-      let w : case-c (room e b n) ≡ false = need-c (size (longest (other-gaps (room e b n)))) refl ∙ rw z in
-      let x : case-d (room e b n) ≡ false = need-d ∙ rw z in
-      ap₂ (λ (p q : Bool). p || q || case-c (room e b n) || case-d (room e b n)) t v ∙ ap₂ (λ (p q : Bool). p || q) w x
+      let w : case-c (room-of e b n) ≡ false = need-c (size (longest (other-gaps (room-of e b n)))) refl ∙ rw z in
+      let x : case-d (room-of e b n) ≡ false = need-d ∙ rw z in
+      ap₂ (λ (p q : Bool). p || q || case-c (room-of e b n) || case-d (room-of e b n)) t v ∙ ap₂ (λ (p q : Bool). p || q) w x
 
-  module _ (o l : ℕ) (oo : longest (other-gaps (room e b n)) .off ≡ o) (ol : size (longest (other-gaps (room e b n))) ≡ l) (z : s ≡ 0) where
-    not-a : case-a (room e b n) ≡ false
+  module _ (o l : ℕ) (oo : longest (other-gaps (room-of e b n)) .off ≡ o) (ol : size (longest (other-gaps (room-of e b n))) ≡ l) (z : s ≡ 0) where
+    not-a : case-a (room-of e b n) ≡ false
     not-a = need-a ∙ rw (lt-leb 1 s (omega arith))
 
-    not-b : case-b (room e b n) ≡ false
+    not-b : case-b (room-of e b n) ≡ false
     not-b = need-b ∙ rw (lt-leb 1 s (omega arith))
 
-    t-off : room e b n .last-gap .off ≡ u
-    unfolding room
+    t-off : room-of e b n .last-gap .off ≡ u
+    unfolding room-of
     t-off = sc .touch-off
 
-    t-size : size (room e b n .last-gap) ≡ k
-    unfolding room
+    t-size : size (room-of e b n .last-gap) ≡ k
+    unfolding room-of
     t-size = sc .touch-size
 
     -- (c)
@@ -248,11 +248,11 @@ module _ (e : Edition) (b n : List ℕ) (i : Target) (o₁ l₁ o₂ l₂ o₃ l
         × (insert-writes e b n i ≡ entry-writes e i n o (o + l) ++ (gap-writes u (k - 8) ++ index-writes (length b) (insert-slot (slot (hash-of e n) (o / 8)) (slots b)) 0))
     unfolding has-room insert-writes writes-c
     is-c h m =
-        let v : case-c (room e b n) ≡ true = need-c l ol ∙ rw (eq-eqb s 0 z, le-leb 8 k h, le-leb E l m) in (
-          ap₂ (λ (p q : Bool). p || q || case-c (room e b n) || case-d (room e b n)) not-a not-b ∙ ap (λ (p : Bool). p || case-d (room e b n)) v,
-          ap₂ (λ (p q : Bool). cond p (writes-a e b n i (room e b n)) (cond q (writes-b e b n i (room e b n)) (cond (case-c (room e b n)) (writes-c e b n i (room e b n)) (writes-d e b n i (room e b n))))) not-a not-b
-              ∙ ap (λ (p : Bool). cond p (writes-c e b n i (room e b n)) (writes-d e b n i (room e b n))) v
-              ∙ ap₂ (λ (x y : ℕ). entry-writes e i n x (x + y) ++ (gap-writes (room e b n .last-gap .off) (size (room e b n .last-gap) - 8) ++ index-writes (length b) (insert-slot (slot (hash-of e n) (x / 8)) (slots b)) 0)) oo ol
+        let v : case-c (room-of e b n) ≡ true = need-c l ol ∙ rw (eq-eqb s 0 z, le-leb 8 k h, le-leb E l m) in (
+          ap₂ (λ (p q : Bool). p || q || case-c (room-of e b n) || case-d (room-of e b n)) not-a not-b ∙ ap (λ (p : Bool). p || case-d (room-of e b n)) v,
+          ap₂ (λ (p q : Bool). cond p (writes-a e b n i (room-of e b n)) (cond q (writes-b e b n i (room-of e b n)) (cond (case-c (room-of e b n)) (writes-c e b n i (room-of e b n)) (writes-d e b n i (room-of e b n))))) not-a not-b
+              ∙ ap (λ (p : Bool). cond p (writes-c e b n i (room-of e b n)) (writes-d e b n i (room-of e b n))) v
+              ∙ ap₂ (λ (x y : ℕ). entry-writes e i n x (x + y) ++ (gap-writes (room-of e b n .last-gap .off) (size (room-of e b n .last-gap) - 8) ++ index-writes (length b) (insert-slot (slot (hash-of e n) (x / 8)) (slots b)) 0)) oo ol
               ∙ ap₂ (λ (x y : ℕ). entry-writes e i n o (o + l) ++ (gap-writes x (y - 8) ++ index-writes (length b) (insert-slot (slot (hash-of e n) (o / 8)) (slots b)) 0)) t-off t-size,
         )
 
@@ -261,27 +261,27 @@ module _ (e : Edition) (b n : List ℕ) (i : Target) (o₁ l₁ o₂ l₂ o₃ l
         × (insert-writes e b n i ≡ entry-writes e i n u (u + k - 8) ++ index-writes (length b) (insert-slot (slot (hash-of e n) (u / 8)) (slots b)) 0)
     unfolding has-room insert-writes writes-d
     is-d h m =
-        let v : case-c (room e b n) ≡ false = need-c l ol ∙ rw (eq-eqb s 0 z, le-leb 8 k (omega arith), lt-leb E l h) in
-        let w : case-d (room e b n) ≡ true = need-d ∙ rw (eq-eqb s 0 z, le-leb (E + 8) k m) in (
-          ap₂ (λ (p q : Bool). p || q || case-c (room e b n) || case-d (room e b n)) not-a not-b ∙ ap₂ (λ (p q : Bool). p || q) v w,
-          ap₂ (λ (p q : Bool). cond p (writes-a e b n i (room e b n)) (cond q (writes-b e b n i (room e b n)) (cond (case-c (room e b n)) (writes-c e b n i (room e b n)) (writes-d e b n i (room e b n))))) not-a not-b
-              ∙ ap (λ (p : Bool). cond p (writes-c e b n i (room e b n)) (writes-d e b n i (room e b n))) v
+        let v : case-c (room-of e b n) ≡ false = need-c l ol ∙ rw (eq-eqb s 0 z, le-leb 8 k (omega arith), lt-leb E l h) in
+        let w : case-d (room-of e b n) ≡ true = need-d ∙ rw (eq-eqb s 0 z, le-leb (E + 8) k m) in (
+          ap₂ (λ (p q : Bool). p || q || case-c (room-of e b n) || case-d (room-of e b n)) not-a not-b ∙ ap₂ (λ (p q : Bool). p || q) v w,
+          ap₂ (λ (p q : Bool). cond p (writes-a e b n i (room-of e b n)) (cond q (writes-b e b n i (room-of e b n)) (cond (case-c (room-of e b n)) (writes-c e b n i (room-of e b n)) (writes-d e b n i (room-of e b n))))) not-a not-b
+              ∙ ap (λ (p : Bool). cond p (writes-c e b n i (room-of e b n)) (writes-d e b n i (room-of e b n))) v
               ∙ ap₂ (λ (x y : ℕ). entry-writes e i n x (x + y - 8) ++ index-writes (length b) (insert-slot (slot (hash-of e n) (x / 8)) (slots b)) 0) t-off t-size,
         )
 
     pub no-t : k < 8 → has-room e b n ≡ false
     unfolding has-room
     no-t h =
-        let v : case-c (room e b n) ≡ false = need-c l ol ∙ rw (eq-eqb s 0 z, lt-leb 8 k h) in
-        let w : case-d (room e b n) ≡ false = need-d ∙ rw (eq-eqb s 0 z, lt-leb (E + 8) k (omega arith)) in
-        ap₂ (λ (p q : Bool). p || q || case-c (room e b n) || case-d (room e b n)) not-a not-b ∙ ap₂ (λ (p q : Bool). p || q) v w
+        let v : case-c (room-of e b n) ≡ false = need-c l ol ∙ rw (eq-eqb s 0 z, lt-leb 8 k h) in
+        let w : case-d (room-of e b n) ≡ false = need-d ∙ rw (eq-eqb s 0 z, lt-leb (E + 8) k (omega arith)) in
+        ap₂ (λ (p q : Bool). p || q || case-c (room-of e b n) || case-d (room-of e b n)) not-a not-b ∙ ap₂ (λ (p q : Bool). p || q) v w
 
     pub no-cd : l < E → k < E + 8 → has-room e b n ≡ false
     unfolding has-room
     no-cd h m =
-        let v : case-c (room e b n) ≡ false = need-c l ol ∙ by-cases (leb 8 k) (λ q. rw (eq-eqb s 0 z, q, lt-leb E l h)) (λ q. rw (eq-eqb s 0 z, q)) in
-        let w : case-d (room e b n) ≡ false = need-d ∙ rw (eq-eqb s 0 z, lt-leb (E + 8) k m) in
-        ap₂ (λ (p q : Bool). p || q || case-c (room e b n) || case-d (room e b n)) not-a not-b ∙ ap₂ (λ (p q : Bool). p || q) v w
+        let v : case-c (room-of e b n) ≡ false = need-c l ol ∙ by-cases (leb 8 k) (λ q. rw (eq-eqb s 0 z, q, lt-leb E l h)) (λ q. rw (eq-eqb s 0 z, q)) in
+        let w : case-d (room-of e b n) ≡ false = need-d ∙ rw (eq-eqb s 0 z, lt-leb (E + 8) k m) in
+        ap₂ (λ (p q : Bool). p || q || case-c (room-of e b n) || case-d (room-of e b n)) not-a not-b ∙ ap₂ (λ (p q : Bool). p || q) v w
 
 -- ---- where a gap lies
 
@@ -296,15 +296,15 @@ longest-inside e b t o l h p q =
     let w = longest-in (gaps (records e b)) (omega (arith, q)) in
     subst (λ (x : ℕ). Inside e b o x) q (subst (λ (x : ℕ). Inside e b x (size (longest (gaps (records e b))))) p (subst (λ (r : Rec). Inside e b (r .off) (size r)) (w .1) (gap-inside e b t (w .0))))
 
-pub other-inside : (e : Edition) (b n : List ℕ) → Tiled e b → (o l : ℕ) → 0 < l → longest (other-gaps (room e b n)) .off ≡ o → size (longest (other-gaps (room e b n))) ≡ l → Inside e b o l
-unfolding room
+pub other-inside : (e : Edition) (b n : List ℕ) → Tiled e b → (o l : ℕ) → 0 < l → longest (other-gaps (room-of e b n)) .off ≡ o → size (longest (other-gaps (room-of e b n))) ≡ l → Inside e b o l
+unfolding room-of
 other-inside e b n t o l h p q =
     let u : ℕ = touching (data-end b) (records e b) .off in
     let w = longest-in (besides (touching (data-end b) (records e b) .off) (gaps (records e b))) (omega (arith, q)) in
     let f : Found-in (elsewhere (touching (data-end b) (records e b) .off)) (gaps (records e b)) (w .0 .before) (w .0 .here) (w .0 .behind) =
     keep-find (elsewhere (touching (data-end b) (records e b) .off)) (gaps (records e b)) (w .0 .before) (w .0 .here) (w .0 .behind) (w .0 .is) in
     let g : Inside e b (w .0 .here .off) (size (w .0 .here)) = gap-inside e b t (record { before = f .before; here = w .0 .here; behind = f .behind; is = f .is }) in
-    subst (λ (x : ℕ). Inside e b o x) q (subst (λ (x : ℕ). Inside e b x (size (longest (other-gaps (room e b n))))) p (subst (λ (r : Rec). Inside e b (r .off) (size r)) (w .1) g))
+    subst (λ (x : ℕ). Inside e b o x) q (subst (λ (x : ℕ). Inside e b x (size (longest (other-gaps (room-of e b n))))) p (subst (λ (r : Rec). Inside e b (r .off) (size r)) (w .1) g))
 
 -- ---- what an insert leaves before its table is written is tiled
 
@@ -352,9 +352,9 @@ before-last e b t w k ne =
         let m : last-of (data-end b) (g ∷ z ∷ zs) ≡ last-of (data-end b) (z ∷ zs) = last-append (data-end b) (g ∷ []) z zs in
         omega (arith, l .0, last-laid e (o + size g) (data-end b) z zs (l .2), ap (λ (r : Rec). r .off) (q ∙ m))
 
-pub other-before : (e : Edition) (b n : List ℕ) → Tiled e b → (o l u k : ℕ) → 0 < l → 8 ≤ k → longest (other-gaps (room e b n)) .off ≡ o → size (longest (other-gaps (room e b n))) ≡ l
+pub other-before : (e : Edition) (b n : List ℕ) → Tiled e b → (o l u k : ℕ) → 0 < l → 8 ≤ k → longest (other-gaps (room-of e b n)) .off ≡ o → size (longest (other-gaps (room-of e b n))) ≡ l
     → touching (data-end b) (records e b) .off ≡ u → size (touching (data-end b) (records e b)) ≡ k → o + l ≤ u
-unfolding room
+unfolding room-of
 other-before e b n t o l u k h kk p q tu tk =
     let w = longest-in (besides (touching (data-end b) (records e b) .off) (gaps (records e b))) (omega (arith, q)) in
     let f : Found-in (elsewhere (touching (data-end b) (records e b) .off)) (gaps (records e b)) (w .0 .before) (w .0 .here) (w .0 .behind) =

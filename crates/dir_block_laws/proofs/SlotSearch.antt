@@ -128,7 +128,7 @@ seek-from e b n i h p =
     ∙ seek-below e b n (hash-of e n) 0 0 (take i (slots b)) (drop i (slots b)) p ∙ ap (λ (k : ℕ). seek e b n (hash-of e n) k 0 (drop i (slots b))) l)
 
 -- the search ends where the hashes are above
-seek-above : (e : Edition) (b n : List ℕ) (h k c : ℕ) (vs : List Slot) → all-from (suc h) vs ≡ true → seek e b n h k c vs ≡ record { hit = false; place = k + length vs; at = 0; compared = c }
+seek-above : (e : Edition) (b n : List ℕ) (h k c : ℕ) (vs : List Slot) → all-from (suc h) vs ≡ true → seek e b n h k c vs ≡ record { hit = false; index = k + length vs; at = 0; compared = c }
 unfolding seek all-from
 seek-above e b n h k c [] p = rw add-zero
 seek-above e b n h k c (s ∷ vs) p =
@@ -205,7 +205,7 @@ pub record Run (e : Edition) (b n : List ℕ) (i c : ℕ) : Type 0 where
   pub few : c ≤ i
 
 seek-step : (e : Edition) (b n : List ℕ) (h k c : ℕ) (s : Slot) (ss : List Slot)
-    → seek e b n h k c (s ∷ ss) ≡ cond (candidate h s && same-name e n (name-at b (8 * s .addr))) (record { hit = true; place = k; at = 8 * s .addr; compared = suc c }) (seek e b n h (suc k) (step-if (candidate h s) c) ss)
+    → seek e b n h k c (s ∷ ss) ≡ cond (candidate h s && same-name e n (name-at b (8 * s .addr))) (record { hit = true; index = k; at = 8 * s .addr; compared = suc c }) (seek e b n h (suc k) (step-if (candidate h s) c) ss)
 unfolding seek
 seek-step e b n h k c s ss = refl
 
@@ -218,7 +218,7 @@ unfolding all-from
 all-head h s ss p = leb-true h (s .hash) (every-head (λ s. leb h (s .hash)) s ss p)
 
 module _ (e : Edition) (b n : List ℕ) (i c : ℕ) (w : Run e b n i c) where
-  pub run-end : (k : ℕ) → length (slots b) ≡ k → k ≤ i → i ≤ k → sought e b n ≡ record { hit = false; place = k; at = 0; compared = c }
+  pub run-end : (k : ℕ) → length (slots b) ≡ k → k ≤ i → i ≤ k → sought e b n ≡ record { hit = false; index = k; at = 0; compared = c }
   unfolding seek
   run-end k l p q =
       let none : drop i (slots b) ≡ [] = drop-of-length-le (slots b) {i = i} (omega arith) in
@@ -233,12 +233,12 @@ module _ (e : Edition) (b n : List ℕ) (i c : ℕ) (w : Run e b n i c) where
     from-here = ap (all-from (hash-of e n)) (sym q) ∙ w .not-below
 
     -- another hash: it is above, and so are those behind it
-    pub run-other : (k : ℕ) → From 0 (slots b) → length (slots b) ≡ k → i < k → (s .hash ≡ hash-of e n → ⊥) → sought e b n ≡ record { hit = false; place = k; at = 0; compared = c }
+    pub run-other : (k : ℕ) → From 0 (slots b) → length (slots b) ≡ k → i < k → (s .hash ≡ hash-of e n → ⊥) → sought e b n ≡ record { hit = false; index = k; at = 0; compared = c }
     run-other k f l lt d =
         let g : hash-of e n < s .hash = above (hash-of e n) (s .hash) (all-head (hash-of e n) s (drop (i + 1) (slots b)) from-here) d in
         let a : all-from (suc (hash-of e n)) (drop i (slots b)) ≡ true = go-left (suc (hash-of e n)) i (slots b) s (drop (i + 1) (slots b)) f q g in
         let p : i + length (drop i (slots b)) ≡ k = simp length-drop (omega arith) in
-        sym (w .same) ∙ seek-above e b n (hash-of e n) i c (drop i (slots b)) a ∙ ap (λ (m : ℕ). record { hit = false; place = m; at = 0; compared = c }) p
+        sym (w .same) ∙ seek-above e b n (hash-of e n) i c (drop i (slots b)) a ∙ ap (λ (m : ℕ). record { hit = false; index = m; at = 0; compared = c }) p
       where
         above : (x y : ℕ) → x ≤ y → (y ≡ x → ⊥) → x < y
         above x y h f = by-cases (ltb x y) (λ z. ltb-true x y z) (λ z. absurd (f (omega (arith, ltb-false x y z))))
@@ -268,9 +268,9 @@ module _ (e : Edition) (b n : List ℕ) (i c : ℕ) (w : Run e b n i c) where
             few = omega (arith, w .few);
           }
 
-      pub run-hit : same-name e n (name-at b (8 * s .addr)) ≡ true → sought e b n ≡ record { hit = true; place = i; at = 8 * s .addr; compared = c + 1 }
+      pub run-hit : same-name e n (name-at b (8 * s .addr)) ≡ true → sought e b n ≡ record { hit = true; index = i; at = 8 * s .addr; compared = c + 1 }
       run-hit d =
-          sym on ∙ seek-step e b n (hash-of e n) i c s (drop (i + 1) (slots b)) ∙ rw (is-candidate, d) (ap (λ (m : ℕ). record { hit = true; place = i; at = 8 * s .addr; compared = m }) (sym (add-one c)))
+          sym on ∙ seek-step e b n (hash-of e n) i c s (drop (i + 1) (slots b)) ∙ rw (is-candidate, d) (ap (λ (m : ℕ). record { hit = true; index = i; at = 8 * s .addr; compared = m }) (sym (add-one c)))
 
 -- ---- as the code reads slots
 

@@ -39,21 +39,21 @@ module _ (e : Edition) (w v : List ℕ) (long-same : length v ≡ length w) (sam
       ∙ drop-drop (k - e .header) (e .header) w ∙ ap (λ (n : ℕ). drop n w) m
 
   module _ (by : bytes w ≡ true) (sz : size-ok v ≡ true) (sp : span-ok e v ≡ true) (tl : tile-ok e (records e v) ≡ true) where
-    room : e .header + 8 * count-of v + 8 ≤ length w
+    span-least : e .header + 8 * count-of v + 8 ≤ length w
     unfolding span-ok
-    room = rw long-same at (leb-true (e .header + 8 * count-of v + 8) (length v) (and-left _ _ sp))
+    span-least = rw long-same at (leb-true (e .header + 8 * count-of v + 8) (length v) (and-left _ _ sp))
 
     count-same : count-of v ≡ count-of w
     unfolding count-of
     count-same =
         ap (λ (n : ℕ). field (n - 8) 4 v) long-same
-        ∙ ap (λ (l : List ℕ). be (take 4 l)) (behind-header (length w - 8) (omega (arith, room)))
+        ∙ ap (λ (l : List ℕ). be (take 4 l)) (behind-header (length w - 8) (omega (arith, span-least)))
 
     stale-same : stale-of v ≡ stale-of w
     unfolding stale-of
     stale-same =
         ap (λ (n : ℕ). field (n - 4) 4 v) long-same
-        ∙ ap (λ (l : List ℕ). be (take 4 l)) (behind-header (length w - 4) (omega (arith, room)))
+        ∙ ap (λ (l : List ℕ). be (take 4 l)) (behind-header (length w - 4) (omega (arith, span-least)))
 
     end-same : data-end v ≡ data-end w
     unfolding data-end
@@ -124,23 +124,23 @@ no-gap-stores o (suc n) b h = absurd (omega arith)
 
 -- the stores of a removal
 module _ (e : Edition) (b n : List ℕ) where
-  pub remove-stores : (end place at o u m k st : ℕ) (b₁ b₂ b₃ : List ℕ)
-      → sought e b n .place ≡ place → sought e b n .at ≡ at → end ≡ data-end b → st ≡ stale-of b → k ≡ length b - 4
+  pub remove-stores : (end index at o u m k st : ℕ) (b₁ b₂ b₃ : List ℕ)
+      → sought e b n .index ≡ index → sought e b n .at ≡ at → end ≡ data-end b → st ≡ stale-of b → k ≡ length b - 4
       → m ≡ at + entry-size e (length n)
       → o ≡ gap-start-before at (gaps (records e b)) → u ≡ gap-end-after m (gaps (records e b))
-      → b₁ ≡ written b (gap-writes o (u - o)) → b₂ ≡ put b₁ (end + 8 * place + 4) (to-be 4 0) → b₃ ≡ put b₂ k (to-be 4 (st + 1))
+      → b₁ ≡ written b (gap-writes o (u - o)) → b₂ ≡ put b₁ (end + 8 * index + 4) (to-be 4 0) → b₃ ≡ put b₂ k (to-be 4 (st + 1))
       → b₃ ≡ written b (remove-writes e b n)
   unfolding remove-writes written
-  remove-stores end place at o u m k st b₁ b₂ b₃ p q r s t w x y e₁ e₂ e₃ =
+  remove-stores end index at o u m k st b₁ b₂ b₃ p q r s t w x y e₁ e₂ e₃ =
       let f = sought e b n in
       let ws : List Write = gap-writes (gap-start-before (f .at) (gaps (records e b))) (gap-end-after (f .at + entry-size e (length n)) (gaps (records e b)) - gap-start-before (f .at) (gaps (records e b))) in
       let oo : o ≡ gap-start-before (f .at) (gaps (records e b)) = x ∙ ap (λ (z : ℕ). gap-start-before z (gaps (records e b))) (sym q) in
       let uu : u ≡ gap-end-after (f .at + entry-size e (length n)) (gaps (records e b)) = y ∙ ap (λ (z : ℕ). gap-end-after z (gaps (records e b))) (w ∙ ap (λ (z : ℕ). z + entry-size e (length n)) (sym q)) in
-      e₃ ∙ ap (λ (l : List ℕ). put l k (to-be 4 (st + 1))) (e₂ ∙ ap (λ (l : List ℕ). put l (end + 8 * place + 4) (to-be 4 0)) e₁)
-      ∙ ap₂ (λ (i j : ℕ). put (put (written b (gap-writes i (j - i))) (end + 8 * place + 4) (to-be 4 0)) k (to-be 4 (st + 1))) oo uu
+      e₃ ∙ ap (λ (l : List ℕ). put l k (to-be 4 (st + 1))) (e₂ ∙ ap (λ (l : List ℕ). put l (end + 8 * index + 4) (to-be 4 0)) e₁)
+      ∙ ap₂ (λ (i j : ℕ). put (put (written b (gap-writes i (j - i))) (end + 8 * index + 4) (to-be 4 0)) k (to-be 4 (st + 1))) oo uu
       ∙ ap₂ (λ (i j : ℕ). put (put (written b ws) (i + 8 * j + 4) (to-be 4 0)) k (to-be 4 (st + 1))) r (sym p)
-      ∙ ap₂ (λ (i j : ℕ). put (put (written b ws) (data-end b + 8 * f .place + 4) (to-be 4 0)) i (to-be 4 (j + 1))) t s
-      ∙ sym (written-append b ws (write (data-end b + 8 * f .place + 4) (to-be 4 0) ∷ write (length b - 4) (to-be 4 (stale-of b + 1)) ∷ []))
+      ∙ ap₂ (λ (i j : ℕ). put (put (written b ws) (data-end b + 8 * f .index + 4) (to-be 4 0)) i (to-be 4 (j + 1))) t s
+      ∙ sym (written-append b ws (write (data-end b + 8 * f .index + 4) (to-be 4 0) ∷ write (length b - 4) (to-be 4 (stale-of b + 1)) ∷ []))
 
   pub remove-tiled : (sane : Sane e) → Ready e b → sought e b n .hit ≡ true → fixed-name n ≡ false → Tiled e (written b (remove-writes e b n))
   remove-tiled sane r h x =

@@ -7,7 +7,7 @@ use mathlib.Core.Bool.{true, false}
 use mathlib.Core.Path.{_≡_, refl, sym, _∙_, ap, ap₂, subst}
 use mathlib.Core.List.{List, [], _∷_, _++_, append-assoc}
 use lib.Dec.{eqb}
-use lib.ListN.{length, take, drop, getD, length-append, List·getD-append}
+use lib.ListN.{length, take, drop, getD, length-append, length-take, take-append-drop, List·getD-append}
 use lib.Seq.{getD-drop, take-append-le}
 use borrow.Author.Tests.{eq-eqb, ne-eqb}
 use Rattle.be.specs.Lists.{every, some-of, keep}
@@ -20,12 +20,14 @@ use Rattle.dir.specs.declared.Seen.{Seen}
 use Rattle.dir.specs.declared.Seen.the-variants.{Live, Gap}
 use Rattle.dir.specs.declared.Step.{Step}
 use Rattle.dir.specs.declared.Walked.the-variants.{Stepped}
-use Rattle.dir_block_rules.specs.Record.{Rec, size, gap-start, number, namelen}
+use Rattle.dir_block_rules.specs.Record.{Rec, size, gap-start, namelen, target-of}
 use Rattle.dir_block_rules.specs.Block.{records, data-end}
 use Rattle.dir.specs.Answers.{seen-start, seen-len}
+use Rattle.dir.specs.declared.Target.{Target}
+use Rattle.dir_block_rules.specs.Lookup.{target-at}
 use Rattle.dir_block_rules.specs.Walk.{step-over, step-end, is-place, walk-step}
 use Rattle.dir_block_rules.proofs.CutJoin.{Laid, join, laid-back, laid-front, join-append}
-use Rattle.dir_block_rules.proofs.RecordPlaces.{some-at, off-above, none-at}
+use Rattle.dir_block_rules.proofs.RecordPlaces.{some-at, off-above, none-at, target-there}
 use Rattle.dir_block_rules.proofs.WholeWalk.{step-at, at-end}
 use Rattle.dir_block_laws.specs.Tiled.{Tiled, Ready}
 use Rattle.dir_block_laws.specs.Pass.{Place, Steps}
@@ -99,7 +101,7 @@ module _ (e : Edition) (sane : Sane e) (b : List ℕ) (r : Ready e b) where
   pub place-room : (p : ℕ) → Place e b p → p < data-end b → p + 8 ≤ data-end b
   place-room p s h = let w : Next p s = next p s h in omega (arith, w .stands .fits, w .stands .is-whole .least)
 
-  pub entry-room : (p : ℕ) → Place e b p → p < data-end b → (field p 2 b ≡ 0xffff → ⊥) → p + 11 + byte (p + 8) b ≤ data-end b
+  pub entry-room : (p : ℕ) → Place e b p → p < data-end b → (field p 2 b ≡ 0xffff → ⊥) → p + 11 + byte (p + 8) b + e .ftype ≤ data-end b
   entry-room p s h g =
       let w : Next p s = next p s h in
       omega (arith, w .stands .fits, w .stands .says-is, says-entry e b p (ne-eqb (field p 2 b) 0xffff g), entry-size-least e (byte (p + 8) b))
@@ -121,7 +123,7 @@ module _ (e : Edition) (sane : Sane e) (b : List ℕ) (r : Ready e b) where
       every-append (elsewhere q) (s .before) (y ∷ w .later) ∙ and-both (every (elsewhere q) (s .before)) _ xs (every-cons (elsewhere q) y (w .later) here′ ys) in
       not-place q (λ (z : q ≡ data-end b). omega (arith, v .fits)) (subst (λ (rs : List Rec). every (elsewhere q) rs ≡ true) (sym (w .is)) al)
 
-  goes : (p n : ℕ) (seen : Seen) (s : Place e b p) (w : Next p s) → size (w .this) ≡ n → step-over (w .this) .seen ≡ seen
+  goes : (p n : ℕ) (seen : Seen) (s : Place e b p) (w : Next p s) → size (w .this) ≡ n → step-over e (w .this) .seen ≡ seen
       → seen-start seen + seen-len seen ≤ length b → seen-len seen < 256 → Steps e b p (step-to (p + n) seen)
   goes p n seen s w q k nf ns =
       let y : Rec = w .this in
@@ -144,8 +146,8 @@ module _ (e : Edition) (sane : Sane e) (b : List ℕ) (r : Ready e b) where
       let gs : gap-start (drop p b) ≡ true = eq-eqb (field p 2 b) 0xffff g in
       goes p n Gap s w (w .stands .says-is ∙ says-gap e b p gs ∙ sym f) (rw (w .stands .gap-is ∙ gs)) (omega arith) (omega arith)
 
-  pub step-entry : (p n k i : ℕ) → Place e b p → p < data-end b → (field p 2 b ≡ 0xffff → ⊥) → k ≡ byte (p + 8) b → k < 256 → n ≡ entry-size e k → i ≡ field p 8 b
-      → Steps e b p (step-to (p + n) (Live (record { number = i; start = p + 9; len = k })))
+  pub step-entry : (p n k : ℕ) (i : Target) → Place e b p → p < data-end b → (field p 2 b ≡ 0xffff → ⊥) → k ≡ byte (p + 8) b → k < 256 → n ≡ entry-size e k → i ≡ target-at e b p
+      → Steps e b p (step-to (p + n) (Live (record { target = i; start = p + 9; len = k })))
   step-entry p n k i s h g ks kb ns is =
       let w : Next p s = next p s h in
       let y : Rec = w .this in
@@ -153,11 +155,14 @@ module _ (e : Edition) (sane : Sane e) (b : List ℕ) (r : Ready e b) where
       let gs : gap-start (drop p b) ≡ false = ne-eqb (field p 2 b) 0xffff g in
       let sz : size y ≡ n = v .says-is ∙ says-entry e b p gs ∙ ap (entry-size e) (sym ks) ∙ sym ns in
       let long : 8 < length (y .raw) = omega (arith, sz, ns, entry-size-least e k) in
-      let nm : number y ≡ i = ap be (sym (take-append-le 8 (y .raw) (v .rest) (omega arith)) ∙ ap (take 8) (sym (v .raw-is))) ∙ sym is in
+      let off : length (take p b) ≡ y .off = length-take p b ∙ omega (arith, v .off-is, end-fits e b t) in
+      let around : b ≡ take p b ++ (y .raw ++ v .rest) = sym (take-append-drop p b) ∙ ap (λ (l : List ℕ). take p b ++ l) (v .raw-is) in
+      let tm : target-of e y ≡ i =
+      sym (is ∙ ap₂ (λ (l : List ℕ) (o : ℕ). target-at e l o) around (sym (v .off-is)) ∙ target-there e (take p b) (v .rest) y (v .is-whole) (v .gap-is ∙ gs) off) in
       let ln : namelen y ≡ k =
       sym (List·getD-append (y .raw) (v .rest) 0 8 long) ∙ ap (λ (l : List ℕ). getD l 8 0) (sym (v .raw-is)) ∙ getD-drop p b 8 0 ∙ sym ks in
-      goes p n (Live (record { number = i; start = p + 9; len = k })) s w sz
-      (rw (v .gap-is ∙ gs) (ap₂ (λ (x : ℕ) (z : ℕ × ℕ). Live (record { number = x; start = z .0; len = z .1 })) nm (ap₂ (λ (x z : ℕ). (x, z)) (ap (λ (m : ℕ). m + 9) (v .off-is)) ln)))
+      goes p n (Live (record { target = i; start = p + 9; len = k })) s w sz
+      (rw (v .gap-is ∙ gs) (ap₂ (λ (x : Target) (z : ℕ × ℕ). Live (record { target = x; start = z .0; len = z .1 })) tm (ap₂ (λ (x z : ℕ). (x, z)) (ap (λ (m : ℕ). m + 9) (v .off-is)) ln)))
       (omega (arith, entry-room p s h g, end-fits e b t)) kb
 
   pub step-last : (p : ℕ) → Place e b p → data-end b ≤ p → Steps e b p (step-end p)

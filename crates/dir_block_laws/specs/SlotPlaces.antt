@@ -16,13 +16,13 @@ all-below h ss = every (λ s. ltb (s .hash) h) ss
 unfoldable pub all-from : ℕ → List Slot → Bool
 all-from h ss = every (λ s. leb h (s .hash)) ss
 
--- a slot of hash h goes in at place p: the slots before it have an equal or lower hash, and those from it on a higher one
+-- a slot of hash h goes in at index p: the slots before it have an equal or lower hash, and those from it on a higher one
 pub record Spot (b : List ℕ) (h p : ℕ) : Type 0 where
   pub fits : p ≤ count-of b
   pub below : all-below (suc h) (take p (slots b)) ≡ true
   pub above : all-from (suc h) (drop p (slots b)) ≡ true
 
--- the first stale slot stands at place j
+-- the first stale slot stands at index j
 pub record First-stale (b : List ℕ) (j : ℕ) : Type 0 where
   pub fits : j < count-of b
   pub before : every is-live (take j (slots b)) ≡ true

@@ -7,9 +7,9 @@ ghost use Rattle.be.specs.Bytes.{byte};
 ghost use Rattle.edition.specs.Edition.{v4, Sane};
 ghost use Rattle.name.specs.Name.{legal-name, same-name};
 ghost use Rattle.dir_block_rules.specs.Block.{records, data-end, count-of, slots};
-ghost use Rattle.dir.specs.Answers.{looked-code, walked-code};
-ghost use Rattle.dir_block_rules.specs.Lookup.{sought, name-at, lookup, lookup-code};
-ghost use Rattle.dir_block_rules.specs.Walk.{is-place, walk-step, step-code};
+ghost use Rattle.dir.specs.Answers.{looked-code, looked-target, looked-compared, walked-code, walked-next, walked-seen};
+ghost use Rattle.dir_block_rules.specs.Lookup.{sought, name-at, target-at, lookup, lookup-code, lookup-target, lookup-compared};
+ghost use Rattle.dir_block_rules.specs.Walk.{is-place, walk-step, step-code, step-next, step-seen};
 ghost use Rattle.dir_block_laws.specs.Pass.{Place, Steps};
 ghost use Rattle.dir_block_laws.specs.Tiled.{Ready};
 ghost use Rattle.dir_block_laws.specs.SlotPlaces.{all-below, all-from};
@@ -18,6 +18,7 @@ use dir::Entry;
 use dir::Looked;
 use dir::Seen;
 use dir::Step;
+use dir::Target;
 use dir::Walked;
 use edition::Edition;
 use edition::V4;
@@ -31,6 +32,17 @@ fn named(e: Edition, b: &[u8], o: usize, name: &[u8]) -> bool
     let from = o + 9;
     let end = from + n;
     name::matches(e, name, &b[from..end])
+}
+
+// What the name of the entry at offset o stands for.
+fn target_at(e: Edition, b: &[u8], o: usize) -> Target
+    requires { ⌜ Sane e × (o + 9 + byte (o + 8) (now b) + e .ftype ≤ length (now b)) ⌝ }
+    ensures { λ r. ⌜ r ≡ target-at e (now (b .entry)) o ⌝ }
+{
+    let inode = be::be64(b, o);
+    let n = be::be8(b, o + 8);
+    let kind = dir::kind(e, b, o + 9 + n);
+    Target { inode, kind }
 }
 
 // The first slot whose hash is not below h: by halves.
@@ -52,10 +64,10 @@ pub fn first_slot(e: Edition, b: &[u8], end: usize, count: usize, h: usize) -> u
     lo
 }
 
-// What a search finds: the slot's place and the entry's offset if there is one, and how many names were compared.
+// What a search finds: the slot's index and the entry's offset if there is one, and how many names were compared.
 pub struct Hit {
     pub hit: bool,
-    pub place: usize,
+    pub index: usize,
     pub at: usize,
     pub compared: usize,
 }
@@ -73,7 +85,7 @@ pub fn seek(e: Edition, b: &[u8], end: usize, count: usize, name: &[u8]) -> Hit
         if be::be32(b, end + 8 * i) != h {
             return Hit {
                 hit: false,
-                place: count,
+                index: count,
                 at: 0,
                 compared: c,
             };
@@ -84,7 +96,7 @@ pub fn seek(e: Edition, b: &[u8], end: usize, count: usize, name: &[u8]) -> Hit
             if named(e, b, 8 * a, name) {
                 return Hit {
                     hit: true,
-                    place: i,
+                    index: i,
                     at: 8 * a,
                     compared: c,
                 };
@@ -94,7 +106,7 @@ pub fn seek(e: Edition, b: &[u8], end: usize, count: usize, name: &[u8]) -> Hit
     }
     Hit {
         hit: false,
-        place: count,
+        index: count,
         at: 0,
         compared: c,
     }
@@ -121,9 +133,9 @@ fn lookup_ready(e: Edition, b: &[u8], name: &[u8]) -> Looked
     let hit = s.hit;
     if hit {
         let at = s.at;
-        let number = be::be64(b, at);
+        let target = target_at(e, b, at);
         return Looked::Found {
-            number,
+            target,
             compared: s.compared,
         };
     }
@@ -148,7 +160,10 @@ fn lookup_in(e: Edition, b: &[u8], name: &[u8]) -> Looked
 
 // The lookup of a name in a block of the V4 edition.
 pub fn lookup(b: &[u8], name: &[u8]) -> Looked
-    ensures { λ r. ⌜ (r ≡ lookup v4 (now (b .entry)) (now (name .entry))) × (looked-code r ≡ lookup-code v4 (now (b .entry)) (now (name .entry))) ⌝ }
+    ensures { λ r. ⌜ (r ≡ lookup v4 (now (b .entry)) (now (name .entry)))
+        × (looked-code r ≡ lookup-code v4 (now (b .entry)) (now (name .entry)))
+        × (looked-target r ≡ lookup-target v4 (now (b .entry)) (now (name .entry)))
+        × (looked-compared r ≡ lookup-compared v4 (now (b .entry)) (now (name .entry))) ⌝ }
 {
     lookup_in(V4::edition(), b, name)
 }
@@ -172,11 +187,11 @@ pub fn step_ready(e: Edition, b: &[u8], end: usize, p: usize) -> Step
             seen: Seen::Gap,
         };
     }
-    let number = be::be64(b, p);
+    let target = target_at(e, b, p);
     let len = be::be8(b, p + 8);
     let size = edition::entry_size(e, len);
     let entry = Entry {
-        number,
+        target,
         start: p + 9,
         len,
     };
@@ -219,7 +234,10 @@ fn step_in(e: Edition, b: &[u8], p: usize) -> Walked
 
 // One step of the walk over a block of the V4 edition.
 pub fn step(b: &[u8], p: usize) -> Walked
-    ensures { λ r. ⌜ (r ≡ walk-step v4 (now (b .entry)) p) × (walked-code r ≡ step-code v4 (now (b .entry)) p) ⌝ }
+    ensures { λ r. ⌜ (r ≡ walk-step v4 (now (b .entry)) p)
+        × (walked-code r ≡ step-code v4 (now (b .entry)) p)
+        × (walked-next r ≡ step-next v4 (now (b .entry)) p)
+        × (walked-seen r ≡ step-seen v4 (now (b .entry)) p) ⌝ }
 {
     step_in(V4::edition(), b, p)
 }

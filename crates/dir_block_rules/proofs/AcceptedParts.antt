@@ -13,10 +13,10 @@ use Rattle.be.specs.Lists.{every, keep, without-first}
 use Rattle.be.specs.Bytes.{bytes, be, field}
 use Rattle.edition.specs.declared.Edition.{Edition}
 use Rattle.edition.specs.Edition.{Sane}
-use Rattle.dir_block_rules.specs.Record.{Rec, whole, entries, is-gap, is-entry, name, number, kind-of}
+use Rattle.dir_block_rules.specs.Record.{Rec, whole, entries, is-gap, is-entry, name, target-of}
 use Rattle.dir_block_rules.specs.Block.{Slot, slot-bytes, records, slots, stale-of, data-end}
 use Rattle.dir_block_rules.specs.Verdict.{Accepted, magic-ok}
-use Rattle.dir_block_rules.specs.Lookup.{name-at, number-at, kind-at}
+use Rattle.dir_block_rules.specs.Lookup.{name-at, target-at}
 use Rattle.dir_block_rules.specs.Change.{insert-slot, in-front}
 use Rattle.be.proofs.Bools.{by-cases}
 use Rattle.dir_block_rules.proofs.CutJoin.{join, Laid, join-append, laid-back}
@@ -24,7 +24,7 @@ use Rattle.dir_block_rules.proofs.BlockParts.{build, build-end, Fit, Sl
 use Rattle.dir_block_rules.proofs.Acceptance.{Passed, passed, tile-whole, tile-apart}
 use Rattle.dir_block_rules.proofs.SlotCounts.{Apart}
 use Rattle.dir_block_rules.proofs.IndexedEntries.{indexed, addr-of}
-use Rattle.dir_block_rules.proofs.RecordPlaces.{Split, apart-keep, laid-eights, name-there, number-there, kind-there}
+use Rattle.dir_block_rules.proofs.RecordPlaces.{Split, apart-keep, laid-eights, name-there, target-there}
 use Rattle.dir_block_rules.proofs.SearchFinds.{Reads}
 use Rattle.dir_block_rules.proofs.GoodParts.{Good}
 
@@ -155,15 +155,10 @@ module _ (e : Edition) (sane : Sane e) (b : List ℕ) (h : bytes b ≡ true) (a 
         ap (λ (l : List ℕ). name-at l (t .here .off)) around
         ∙ name-there e (take (e .header) b ++ join (spot .before)) (join (spot .behind) ++ index-bytes) (t .here) (laid-here .1) no-gap off-here
 
-    pub number-of : number-at b (t .here .off) ≡ number (t .here)
-    number-of =
-        ap (λ (l : List ℕ). number-at l (t .here .off)) around
-        ∙ number-there e (take (e .header) b ++ join (spot .before)) (join (spot .behind) ++ index-bytes) (t .here) (laid-here .1) no-gap off-here
-
-    pub kind-is : kind-at e b (t .here .off) ≡ kind-of e (t .here)
-    kind-is =
-        ap (λ (l : List ℕ). kind-at e l (t .here .off)) around
-        ∙ kind-there e (take (e .header) b ++ join (spot .before)) (join (spot .behind) ++ index-bytes) (t .here) (laid-here .1) no-gap off-here
+    pub target-is : target-at e b (t .here .off) ≡ target-of e (t .here)
+    target-is =
+        ap (λ (l : List ℕ). target-at e l (t .here .off)) around
+        ∙ target-there e (take (e .header) b ++ join (spot .before)) (join (spot .behind) ++ index-bytes) (t .here) (laid-here .1) no-gap off-here
 
   pub reads-of : Reads e b (entries (records e b))
   reads-of = record { eights = laid-eights e is-entry (e .header) (records e b) (sane .header-eights) (fit-of .laid); named = λ t. name-of t }

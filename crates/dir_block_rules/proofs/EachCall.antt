@@ -25,7 +25,7 @@ use Rattle.dir_block_rules.specs.Record.{Rec, size, entries, gaps, name}
 use Rattle.dir_block_rules.specs.Block.{records, stale-of}
 use Rattle.dir_block_rules.specs.Verdict.{Accepted, names-ok, name-ok, entry-at}
 use Rattle.dir_block_rules.specs.Lookup.{lookup, lookup-refusal, sought, target-at}
-use Rattle.dir_block_rules.specs.Room.{some-stale, room, longest, has-room}
+use Rattle.dir_block_rules.specs.Room.{some-stale, room-of, longest, has-room}
 use Rattle.dir_block_rules.specs.Change.{insert-writes, insert-code, insert-block, remove-writes, remove-code, remove-block}
 use Rattle.dir.specs.Calls.{done-or, Call, look-up, insert, remove, found, done, refuse, call-name}
 use Rattle.dir_block_rules.specs.Calls.{reply, after, book-of}
@@ -208,9 +208,9 @@ module _ (e : Edition) (sane : Sane e) (b : List ℕ) (h : bytes b ≡ true) (a 
 
   -- room by (a) is room
   room-by-a : (m : List ℕ) → 1 ≤ stale-of b → entry-size e (length m) ≤ size (longest (gaps (records e b))) → has-room e b m ≡ true
-  unfolding has-room room
+  unfolding has-room room-of
   room-by-a m s l =
-      let t : some-stale (room e b m) ≡ true = by-cases (some-stale (room e b m)) (λ q. q) (λ q. absurd (omega (arith, leb-false))) in
+      let t : some-stale (room-of e b m) ≡ true = by-cases (some-stale (room-of e b m)) (λ q. q) (λ q. absurd (omega (arith, leb-false))) in
       rw (t, le-leb (entry-size e (length m)) (size (longest (gaps (records e b)))) l) refl
 
   -- a legal absent name with a legal number goes in where (a) finds room

@@ -18,7 +18,7 @@ use Rattle.dir.specs.Target.{kept-of}
 use Rattle.dir_block_rules.specs.Record.{target-of, gap-writes, Rec, rec, size, is-gap, entries, gaps, name, number, besides}
 use Rattle.dir_block_rules.specs.Block.{Slot, slot, slot-bytes, records, slots, stale-of, data-end, is-stale, is-live}
 use Rattle.dir_block_rules.specs.Verdict.{Accepted, best-pairs}
-use Rattle.dir_block_rules.specs.Room.{some-stale, Room, room, longest, last-of, touching, case-a, case-b, case-c, case-d, has-room}
+use Rattle.dir_block_rules.specs.Room.{some-stale, Room, room-of, longest, last-of, touching, case-a, case-b, case-c, case-d, has-room}
 use Rattle.dir_block_rules.specs.Change.{changed, entry-writes, index-writes, insert-slot, writes-a, writes-b, writes-c, writes-d, insert-writes, best-table}
 use Rattle.be.proofs.Bools.{and-left, and-right, by-cases}
 use Rattle.edition.proofs.Sizes.{entry-size-least}
@@ -110,12 +110,12 @@ module _ (e : Edition) (sane : Sane e) (b : List ℕ) (h : bytes b ≡ true) (a 
   need : ℕ
   need = entry-size e (length n)
 
-  by-a : case-a (room e b n) ≡ true → Inserted e b n i (changed e b (writes-a e b n i (room e b n)))
-  unfolding room writes-a
+  by-a : case-a (room-of e b n) ≡ true → Inserted e b n i (changed e b (writes-a e b n i (room-of e b n)))
+  unfolding room-of writes-a
   by-a q =
       let G : List Rec = gaps (records e b) in
-      let s : 1 ≤ stale-of b = stale-least (room e b n) (and-left (some-stale (room e b n)) (leb (entry-size e (length n)) (size (longest G))) q) in
-      let f : entry-size e (length n) ≤ size (longest G) = leb-true (entry-size e (length n)) (size (longest G)) (and-right (some-stale (room e b n)) (leb (entry-size e (length n)) (size (longest G))) q) in
+      let s : 1 ≤ stale-of b = stale-least (room-of e b n) (and-left (some-stale (room-of e b n)) (leb (entry-size e (length n)) (size (longest G))) q) in
+      let f : entry-size e (length n) ≤ size (longest G) = leb-true (entry-size e (length n)) (size (longest G)) (and-right (some-stale (room-of e b n)) (leb (entry-size e (length n)) (size (longest G))) q) in
       let t : (t : Split G) × (t .here ≡ longest G) = longest-in G (omega (arith, entry-size-least e (length n))) in
       let g : Rec = t .0 .here in
       let k : Found-in is-gap (records e b) (t .0 .before) g (t .0 .behind) = keep-find is-gap (records e b) (t .0 .before) g (t .0 .behind) (t .0 .is) in
@@ -143,8 +143,8 @@ module _ (e : Edition) (sane : Sane e) (b : List ℕ) (h : bytes b ≡ true) (a 
       (subst (λ (u : ℕ). Inserted e b n i (changed e b (wd t u))) l
       (from-free xs (take (size t - 8) (t .raw)) [] _ (t .off) (slots b) 0 (free-d e sane b h a i n ask xs t q gp f′ z)))
 
-  by-d : case-d (room e b n) ≡ true → Inserted e b n i (changed e b (writes-d e b n i (room e b n)))
-  unfolding room writes-d
+  by-d : case-d (room-of e b n) ≡ true → Inserted e b n i (changed e b (writes-d e b n i (room-of e b n)))
+  unfolding room-of writes-d
   by-d q =
       go-d (touch (data-end b) (records e b))
       (eqb-true (stale-of b) 0 (and-left (eqb (stale-of b) 0) (leb (entry-size e (length n) + 8) (size T)) q))
@@ -178,12 +178,12 @@ module _ (e : Edition) (sane : Sane e) (b : List ℕ) (h : bytes b ≡ true) (a 
       (from-free xs c [] _ (e .header + length (join xs)) (keep is-live (slots b)) 0
       (free-b e sane b h a i n ask xs (t ∷ []) q (rw gp) f′ z)))
 
-  by-b : case-b (room e b n) ≡ true → Inserted e b n i (changed e b (writes-b e b n i (room e b n)))
-  unfolding room writes-b
+  by-b : case-b (room-of e b n) ≡ true → Inserted e b n i (changed e b (writes-b e b n i (room-of e b n)))
+  unfolding room-of writes-b
   by-b q =
-      let s : Bool = some-stale (room e b n) in
+      let s : Bool = some-stale (room-of e b n) in
       let f : Bool = leb (entry-size e (length n)) (size T + 8 * (stale-of b - 1)) in
-      go-b (touch (data-end b) (records e b)) (stale-least (room e b n) (and-left s f q))
+      go-b (touch (data-end b) (records e b)) (stale-least (room-of e b n) (and-left s f q))
       (leb-true (entry-size e (length n)) (size T + 8 * (stale-of b - 1)) (and-right s f q))
 
   abbrev wc : Rec → Rec → List Write
@@ -226,8 +226,8 @@ module _ (e : Edition) (sane : Sane e) (b : List ℕ) (h : bytes b ≡ true) (a 
       (subst (λ (x : Rec). Inserted e b n i (changed e b (wc g x))) (sym tq)
       (from-c (k2 .before) g (p .0) t is (k2 .passes) tp (subst (λ (x : Rec). entry-size e (length n) ≤ size x) (sym (s .1)) f) (subst (λ (x : Rec). 8 ≤ size x) tq k) z))
 
-  by-c : case-c (room e b n) ≡ true → Inserted e b n i (changed e b (writes-c e b n i (room e b n)))
-  unfolding room writes-c
+  by-c : case-c (room-of e b n) ≡ true → Inserted e b n i (changed e b (writes-c e b n i (room-of e b n)))
+  unfolding room-of writes-c
   by-c q =
       let s : Bool = eqb (stale-of b) 0 in
       let k : Bool = leb 8 (size T) in
@@ -239,7 +239,7 @@ module _ (e : Edition) (sane : Sane e) (b : List ℕ) (h : bytes b ≡ true) (a 
   pub insert-any : has-room e b n ≡ true → Inserted e b n i (changed e b (insert-writes e b n i))
   unfolding has-room insert-writes
   insert-any q =
-      let m : Room = room e b n in
+      let m : Room = room-of e b n in
       by-cases (case-a m) (λ y. rw y (by-a y))
       (λ y. by-cases (case-b m) (λ x. rw (y, x) (by-b x))
       (λ x. by-cases (case-c m) (λ w. rw (y, x, w) (by-c w))

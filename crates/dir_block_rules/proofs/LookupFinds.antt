@@ -15,11 +15,10 @@ use Rattle.be.proofs.Bools.{keep-append}
 use Rattle.edition.specs.declared.Edition.{Edition}
 use Rattle.edition.specs.Edition.{entry-size, Sane}
 use Rattle.name.specs.Name.{hash-of, same-name, fixed-name}
-use Rattle.dir.specs.Target.{target}
-use Rattle.dir_block_rules.specs.Record.{Rec, rec, target-of, size, is-gap, is-entry, entries, gaps, name, number, gap-writes}
+use Rattle.dir_block_rules.specs.Record.{Rec, rec, target-of, size, is-gap, is-entry, entries, gaps, name, gap-writes}
 use Rattle.dir_block_rules.specs.Block.{records, slots, stale-of, data-end}
 use Rattle.dir_block_rules.specs.Verdict.{Accepted, best-pairs}
-use Rattle.dir_block_rules.specs.Lookup.{sought, number-at, kind-at, target-at}
+use Rattle.dir_block_rules.specs.Lookup.{sought, target-at}
 use Rattle.dir_block_rules.specs.Change.{changed, gap-start-before, gap-end-after, remove-writes, best-table}
 use Rattle.dir_block_rules.proofs.CutJoin.{join, Laid, join-append}
 use Rattle.dir_block_rules.proofs.WritesLeave.{free, gap-raw, length-gap-raw}
@@ -29,7 +28,7 @@ use Rattle.dir_block_rules.proofs.RecordPlaces.{Split, every-at}
 use Rattle.dir_block_rules.proofs.SearchFinds.{First, seek-hit, seek-first, Owner, match-owner, hit-is}
 use Rattle.dir_block_rules.proofs.PartsAddUp.{entry-long}
 use Rattle.name.proofs.Same.{same-name-length, same-name-fixed}
-use Rattle.dir_block_rules.proofs.AcceptedParts.{Found-in, keep-find, good-of, apart-of, reads-of, place-of, number-of, kind-is}
+use Rattle.dir_block_rules.proofs.AcceptedParts.{Found-in, keep-find, good-of, apart-of, reads-of, place-of, target-is}
 use Rattle.dir_block_rules.proofs.ChangeAccepted.{After}
 use Rattle.dir_block_rules.proofs.RemoveAccepted.{Removable, Front, Back, fr, bk, from, freed, left, stale-slots, free-writes, remove-entry, freed-long, entries-before, entries-left}
 
@@ -62,7 +61,7 @@ pub record Removed (e : Edition) (b n c : List ℕ) : Type 0 where
   pub gap-long : entry-size e (length n) ≤ size (gap-split .here)
 
 module _ (e : Edition) (sane : Sane e) (b : List ℕ) (h : bytes b ≡ true) (a : Accepted e b) (p : Removable e b)
-    (n : List ℕ) (sn : same-name e n (name (p .entry)) ≡ true) (fa : sought e b n .at ≡ p .entry .off) (fp : sought e b n .place ≡ length (p .slots-before)) where
+    (n : List ℕ) (sn : same-name e n (name (p .entry)) ≡ true) (fa : sought e b n .at ≡ p .entry .off) (fp : sought e b n .index ≡ length (p .slots-before)) where
   abbrev xs : List Rec
   xs = p .before
 
@@ -110,7 +109,7 @@ module _ (e : Edition) (sane : Sane e) (b : List ℕ) (h : bytes b ≡ true) (a 
   same-writes : free-writes e sane b h a p ≡ remove-writes e b n
   unfolding remove-writes o c
   same-writes =
-      sym (ap₂ (λ (x y : ℕ). gap-writes x (y - x) ++ (write (data-end b + 8 * sought e b n .place + 4) (to-be 4 0) ∷ write (length b - 4) (to-be 4 (stale-of b + 1)) ∷ [])) o-is u-is
+      sym (ap₂ (λ (x y : ℕ). gap-writes x (y - x) ++ (write (data-end b + 8 * sought e b n .index + 4) (to-be 4 0) ∷ write (length b - 4) (to-be 4 (stale-of b + 1)) ∷ [])) o-is u-is
       ∙ ap₂ (λ (z p : ℕ). gap-writes o z ++ (write (data-end b + 8 * p + 4) (to-be 4 0) ∷ write (length b - 4) (to-be 4 (stale-of b + 1)) ∷ [])) (minus o (length c)) fp)
     where
       minus : (x y : ℕ) → x + y - x ≡ y
@@ -176,12 +175,9 @@ module _ (e : Edition) (sane : Sane e) (b : List ℕ) (h : bytes b ≡ true) (a 
         ∙ eqb-true (8 * addr-of (owned .0 .split .here)) (owned .0 .split .here .off)
         (every-at (λ r. eqb (8 * addr-of r) (r .off)) (owned .0 .split .before) (owned .0 .split .here) (owned .0 .split .behind) (subst (λ (l : List Rec). every (λ r. eqb (8 * addr-of r) (r .off)) l ≡ true) (owned .0 .split .is) (reads-of e sane b h a .eights)))
 
-    pub number-found : number-at b (sought e b n .at) ≡ number (spot .here)
-    number-found = ap (number-at b) at-spot ∙ number-of e sane b h a spot
-
     -- the number and the file type that stand there
     pub target-found : target-at e b (sought e b n .at) ≡ target-of e (spot .here)
-    target-found = ap₂ (λ (i k : ℕ). target i k) number-found (ap (kind-at e b) at-spot ∙ kind-is e sane b h a spot)
+    target-found = ap (target-at e b) at-spot ∙ target-is e sane b h a spot
 
     pub removed-of : fixed-name n ≡ false → Removed e b n (changed e b (remove-writes e b n))
     unfolding spot
@@ -201,4 +197,4 @@ module _ (e : Edition) (sane : Sane e) (b : List ℕ) (h : bytes b ≡ true) (a 
           slot-is = first .split .is;
           addr-is = sym (owned .0 .addr-is);
         } in
-        removed-at e sane b h a p n (owned .1) at-spot (first .place-is ∙ zero-add (length (first .split .before)))
+        removed-at e sane b h a p n (owned .1) at-spot (first .index-is ∙ zero-add (length (first .split .before)))

@@ -13,8 +13,9 @@ use borrow.Author.Tests.{eqb-false, eq-eqb, ne-eqb, not-true}
 use Rattle.be.specs.Lists.{every, some-of, tally, keep}
 use Rattle.be.specs.Bytes.{be, part}
 use Rattle.edition.specs.declared.Edition.{Edition}
-use Rattle.dir_block_rules.specs.Record.{Rec, says, size, name, number, kind-of, is-gap}
-use Rattle.dir_block_rules.specs.Lookup.{name-at, number-at, kind-at}
+use Rattle.dir.specs.Target.{target}
+use Rattle.dir_block_rules.specs.Record.{Rec, says, size, name, number, kind-of, target-of, is-gap}
+use Rattle.dir_block_rules.specs.Lookup.{name-at, number-at, kind-at, target-at}
 use Rattle.be.proofs.Bools.{and-left, and-right, by-cases, every-cons, every-head, every-tail}
 use Rattle.edition.proofs.Sizes.{entry-size-least}
 use Rattle.dir_block_rules.proofs.CutJoin.{Laid, Whole}
@@ -134,6 +135,9 @@ module _ (e : Edition) (p q : List ℕ) (r : Rec) (w : Whole e r) (i : is-gap r 
       ∙ ap (λ (o : ℕ). be (take (e .ftype) (drop o (p ++ (r .raw ++ q))))) (add-assoc (length p) 9 k)
       ∙ ap (λ (l : List ℕ). be (take (e .ftype) l)) (drop-append-add p (r .raw ++ q) (9 + k) ∙ drop-append-le (9 + k) (r .raw) q (omega (arith, entry-long)))
       ∙ ap be (take-append-le (e .ftype) (drop (9 + k) (r .raw)) q (simp length-drop (omega (arith, entry-long))))
+
+  pub target-there : target-at e (p ++ (r .raw ++ q)) (r .off) ≡ target-of e r
+  target-there = ap₂ (λ (i k : ℕ). target i k) number-there kind-there
 
 pub apart-pos : (es : List Rec) → Apart (map addr-of es) → every (λ r. not (eqb (addr-of r) 0)) es ≡ true
 apart-pos [] a = refl

@@ -46,7 +46,7 @@ seek-hit e b n h k c (s ∷ ss) =
 pub record First (e : Edition) (b n : List ℕ) (h k : ℕ) (ss : List Slot) (f : Sought) : Type 0 where
   pub split : Split ss
   pub matches : match e b n h (split .here) ≡ true
-  pub place-is : f .place ≡ k + length (split .before)
+  pub index-is : f .index ≡ k + length (split .before)
   pub at-is : f .at ≡ 8 * split .here .addr
 
 pub seek-first : (e : Edition) (b n : List ℕ) (h k c : ℕ) (ss : List Slot) → some-of (match e b n h) ss ≡ true
@@ -55,13 +55,13 @@ unfolding seek
 seek-first e b n h k c [] p = absurd (false≢true p)
 seek-first e b n h k c (s ∷ ss) p =
     by-cases (match e b n h s)
-    (λ q. rw q (record { split = record { before = []; here = s; behind = ss; is = refl }; matches = q; place-is = sym (add-zero k); at-is = refl }))
+    (λ q. rw q (record { split = record { before = []; here = s; behind = ss; is = refl }; matches = q; index-is = sym (add-zero k); at-is = refl }))
     (λ q. let r : First e b n h (suc k) ss (seek e b n h (suc k) (step-if (candidate h s) c) ss) =
     seek-first e b n h (suc k) (step-if (candidate h s) c) ss (rw q at p) in
     rw q (record {
       split = record { before = s ∷ r .split .before; here = r .split .here; behind = r .split .behind; is = ap (λ (l : List Slot). s ∷ l) (r .split .is) };
       matches = r .matches;
-      place-is = omega (arith, r .place-is);
+      index-is = omega (arith, r .index-is);
       at-is = r .at-is;
     }))
 

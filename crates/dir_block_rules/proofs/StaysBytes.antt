@@ -19,7 +19,7 @@ use Rattle.name.specs.Name.{hash-of}
 use Rattle.dir_block_rules.proofs.Sealing.{seals}
 use Rattle.dir_block_rules.specs.Lookup.{sought}
 use Rattle.dir_block_rules.specs.Verdict.{Pair}
-use Rattle.dir_block_rules.specs.Room.{Room, room, longest, other-gaps, case-a, case-b, case-c}
+use Rattle.dir_block_rules.specs.Room.{Room, room-of, longest, other-gaps, case-a, case-b, case-c}
 use Rattle.dir_block_rules.specs.Change.{insert-slot, gap-start-before, gap-end-after, best-table, pair-bytes, with-best, changed, index-writes, entry-writes, writes-a, writes-b, writes-c, writes-d, insert-writes, remove-writes}
 use Rattle.be.proofs.Bools.{and-both, by-cases, every-append, every-head, every-tail, every-cons}
 
@@ -117,7 +117,7 @@ all-three e i n o u p q len ss s h l =
 pub all-insert : (e : Edition) (b n : List ℕ) (i : Target) → bytes n ≡ true → length n < 256 → All (insert-writes e b n i)
 unfolding insert-writes writes-a writes-b writes-c writes-d
 all-insert e b n i h l =
-    let m : Room = room e b n in
+    let m : Room = room-of e b n in
     let L : ℕ = length b in
     let sl : Rec → Slot = λ g. slot (hash-of e n) (g .off / 8) in
     let g : Rec = longest (m .all-gaps) in
@@ -135,4 +135,4 @@ all-remove e b n =
     let gs : List Rec = gaps (records e b) in
     let o : ℕ = gap-start-before (sought e b n .at) gs in
     let u : ℕ = gap-end-after (sought e b n .at + entry-size e (length n)) gs in
-    all-append (gap-writes o (u - o)) (write (data-end b + 8 * sought e b n .place + 4) (to-be 4 0) ∷ write (length b - 4) (to-be 4 (stale-of b + 1)) ∷ []) (all-gap o (u - o)) (bytes-to-be 4 0, (bytes-to-be 4 (stale-of b + 1), tt))
+    all-append (gap-writes o (u - o)) (write (data-end b + 8 * sought e b n .index + 4) (to-be 4 0) ∷ write (length b - 4) (to-be 4 (stale-of b + 1)) ∷ []) (all-gap o (u - o)) (bytes-to-be 4 0, (bytes-to-be 4 (stale-of b + 1), tt))

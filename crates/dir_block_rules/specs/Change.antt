@@ -19,7 +19,7 @@ use Rattle.dir_block_rules.specs.Block.{records, slots, Slot, slot, slot
 use Rattle.dir.specs.Target.{legal-target}
 use Rattle.dir_block_rules.specs.Verdict.{verdict, Pair, pair}
 use Rattle.dir_block_rules.specs.Lookup.{sought}
-use Rattle.dir_block_rules.specs.Room.{Room, room, longest, other-gaps, case-a, case-b, case-c, has-room}
+use Rattle.dir_block_rules.specs.Room.{Room, room-of, longest, other-gaps, case-a, case-b, case-c, has-room}
 
 -- BEST, as a change writes it: the k longest gaps, longest first, lower offset first among equals, then zeros
 unfoldable pub best-of : ℕ → List Rec → List Pair
@@ -108,12 +108,12 @@ module _ (e : Edition) (b n : List ℕ) (i : Target) where
   -- the first of these that holds is used
   unfoldable pub insert-writes : List Write
   insert-writes =
-      let m = room e b n in
-      let a = writes-a m in
-      let b′ = writes-b m in
-      let c = writes-c m in
-      let d = writes-d m in
-      cond (case-a m) a (cond (case-b m) b′ (cond (case-c m) c d))
+      let m = room-of e b n in
+      let in-a = writes-a m in
+      let in-b = writes-b m in
+      let in-c = writes-c m in
+      let in-d = writes-d m in
+      cond (case-a m) in-a (cond (case-b m) in-b (cond (case-c m) in-c in-d))
 
   -- the block's refusal; 11 ASKED: name or number not legal; 12 FIXED; 14 EXISTS; 15 NOROOM
   unfoldable pub insert-code : ℕ
@@ -126,7 +126,7 @@ module _ (e : Edition) (b n : List ℕ) (i : Target) where
 
   -- a refusal leaves every byte
   unfoldable pub insert-block : List ℕ
-  insert-block = let b′ = changed e b insert-writes in cond (eqb insert-code 0) b′ b
+  insert-block = let new = changed e b insert-writes in cond (eqb insert-code 0) new b
 
 -- Removal joins the entry to the gaps on both sides: where the joined gap starts and ends, for freed bytes from o, and up to u
 unfoldable pub gap-start-before : ℕ → List Rec → ℕ
@@ -146,7 +146,7 @@ module _ (e : Edition) (b n : List ℕ) where
       let o = gap-start-before (f .at) gs in
       let u = gap-end-after (f .at + entry-size e (length n)) gs in
       gap-writes o (u - o)
-      ++ (write (data-end b + 8 * f .place + 4) (to-be 4 0) ∷ write (length b - 4) (to-be 4 (stale-of b + 1)) ∷ [])
+      ++ (write (data-end b + 8 * f .index + 4) (to-be 4 0) ∷ write (length b - 4) (to-be 4 (stale-of b + 1)) ∷ [])
 
   -- the block's refusal; 11 ASKED: name not legal; 12 FIXED; 13 ABSENT
   unfoldable pub remove-code : ℕ
@@ -158,4 +158,4 @@ module _ (e : Edition) (b n : List ℕ) where
 
   -- a refusal leaves every byte
   unfoldable pub remove-block : List ℕ
-  remove-block = let b′ = changed e b remove-writes in cond (eqb remove-code 0) b′ b
+  remove-block = let new = changed e b remove-writes in cond (eqb remove-code 0) new b

@@ -31,10 +31,10 @@ kind-at e b o = field (o + 9 + byte (o + 8) b) (e .ftype) b
 abbrev pub target-at : Edition → List ℕ → ℕ → Target
 target-at e b o = target (number-at b o) (kind-at e b o)
 
--- what a search of the slots finds: the slot's place in the index, the entry's offset, and the names compared
+-- what a search of the slots finds: the slot's index, the entry's offset, and the names compared
 pub record Sought : Type 0 where
   pub hit : Bool
-  pub place : ℕ
+  pub index : ℕ
   pub at : ℕ
   pub compared : ℕ
 
@@ -50,13 +50,13 @@ step-if false c = c
 abbrev pub match : Edition → List ℕ → List ℕ → ℕ → Slot → Bool
 match e b n h s = candidate h s && same-name e n (name-at b (8 * s .addr))
 
--- the slots ss stand at place k and on; c names were compared before
+-- the slots ss stand at index k and on; c names were compared before
 unfoldable pub seek : Edition → List ℕ → List ℕ → ℕ → ℕ → ℕ → List Slot → Sought
-seek e b n h k c [] = record { hit = false; place = k; at = 0; compared = c }
+seek e b n h k c [] = record { hit = false; index = k; at = 0; compared = c }
 seek e b n h k c (s ∷ ss) =
     let more = seek e b n h (suc k) (step-if (candidate h s) c) ss in
     cond (match e b n h s)
-    (record { hit = true; place = k; at = 8 * s .addr; compared = suc c })
+    (record { hit = true; index = k; at = 8 * s .addr; compared = suc c })
     more
 
 unfoldable pub sought : Edition → List ℕ → List ℕ → Sought

@@ -32,8 +32,8 @@ pub record Room : Type 0 where
   pub last-gap : Rec
   pub all-gaps : List Rec
 
-unfoldable pub room : Edition → List ℕ → List ℕ → Room
-room e b n =
+unfoldable pub room-of : Edition → List ℕ → List ℕ → Room
+room-of e b n =
     record {
       needed = entry-size e (length n);
       stale = stale-of b;
@@ -67,4 +67,4 @@ case-d m = eqb (m .stale) 0 && leb (m .needed + 8) (size (m .last-gap))
 
 -- there is room exactly if one of these holds
 unfoldable pub has-room : Edition → List ℕ → List ℕ → Bool
-has-room e b n = case-a (room e b n) || case-b (room e b n) || case-c (room e b n) || case-d (room e b n)
+has-room e b n = case-a (room-of e b n) || case-b (room-of e b n) || case-c (room-of e b n) || case-d (room-of e b n)

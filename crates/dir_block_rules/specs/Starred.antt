@@ -18,7 +18,7 @@ use Rattle.dir_block_rules.specs.Block.{records, slots, slots-in, slot, 
 use Rattle.dir_block_rules.specs.Verdict.{best-pairs, pairs-in, verdict, size-ok, magic-ok, span-ok, tile-ok, names-ok, numbers-ok, number-fits, own-in, index-ok, rising, best-ok, once-ok}
 use Rattle.dir.specs.Answers.{looked-code, looked-target, looked-compared}
 use Rattle.dir_block_rules.specs.Lookup.{seek, sought, up-to, names-compared, lookup, lookup-refusal}
-use Rattle.dir_block_rules.specs.Room.{longest, last-of, touching, room, has-room, case-a, case-b}
+use Rattle.dir_block_rules.specs.Room.{longest, last-of, touching, room-of, has-room, case-a, case-b}
 use Rattle.dir_block_rules.specs.Change.{pair-bytes, best-of, with-best, sealed, changed, index-writes, insert-slot, writes-a, writes-b, writes-c, writes-d, insert-writes, insert-code, insert-block, gap-start-before, gap-end-after, remove-writes, remove-code, remove-block}
 
 -- a block of n bytes that holds only "." and "..", both with target i
@@ -53,11 +53,11 @@ inserted b n = insert-code v4 b n (target 150 0) ∷ shape (insert-block v4 b n 
 abbrev pub a₁ : List ℕ
 a₁ = 97 ∷ []
 
-abbrev pub b′s : ℕ → List ℕ
-b′s k = replicate k 98
+abbrev pub bs : ℕ → List ℕ
+bs k = replicate k 98
 
-abbrev pub c′s : ℕ → List ℕ
-c′s k = replicate k 99
+abbrev pub cs : ℕ → List ℕ
+cs k = replicate k 99
 
 -- C1: 512 bytes, only "." and ".." (both 128)
 unfoldable pub c1 : List ℕ
@@ -73,18 +73,18 @@ c3 = remove-block v4 c2 a₁
 
 -- C4: C1 plus a 255-byte name
 unfoldable pub c4 : List ℕ
-c4 = insert-block v4 c1 (b′s 255) (target 140 0)
+c4 = insert-block v4 c1 (bs 255) (target 140 0)
 
 -- C5: C1 plus names of 255, 1 and 117 bytes; then the last two removed
 unfoldable pub full : List ℕ
-full = insert-block v4 (insert-block v4 c4 a₁ (target 141 0)) (c′s 117) (target 142 0)
+full = insert-block v4 (insert-block v4 c4 a₁ (target 141 0)) (cs 117) (target 142 0)
 
 unfoldable pub c5 : List ℕ
-c5 = remove-block v4 (remove-block v4 full a₁) (c′s 117)
+c5 = remove-block v4 (remove-block v4 full a₁) (cs 117)
 
 -- the first case of the room rule that holds, (a) or (b): 1 or 2, else 0
 unfoldable pub by-case : List ℕ → List ℕ → ℕ
-by-case b n = cond (case-a (room v4 b n)) 1 (cond (case-b (room v4 b n)) 2 0)
+by-case b n = cond (case-a (room-of v4 b n)) 1 (cond (case-b (room-of v4 b n)) 2 0)
 
 -- C1 to C5: what the definitions give, and what the paper states; a refused insert leaves the block as it was
 unfoldable pub block-rows : List Row
@@ -99,13 +99,13 @@ block-rows =
     ∷ row (answer c3 a₁) (13 ∷ 0 ∷ 0 ∷ 0 ∷ [])
     -- C4: a gap of 160; then 141 bytes goes in, 142 is refused
     ∷ row (shape c4) (0 ∷ 3 ∷ 0 ∷ 320 ∷ 160 ∷ [])
-    ∷ row (inserted c4 (c′s 141)) (0 ∷ 0 ∷ 4 ∷ 0 ∷ [])
-    ∷ row (inserted c4 (c′s 142)) (15 ∷ 0 ∷ 3 ∷ 0 ∷ 320 ∷ 160 ∷ [])
+    ∷ row (inserted c4 (cs 141)) (0 ∷ 0 ∷ 4 ∷ 0 ∷ [])
+    ∷ row (inserted c4 (cs 142)) (15 ∷ 0 ∷ 3 ∷ 0 ∷ 320 ∷ 160 ∷ [])
     -- C5: full; then gap 144, stale 2; 141 bytes goes in by (b), 142 is refused
     ∷ row (shape full) (0 ∷ 5 ∷ 0 ∷ [])
     ∷ row (shape c5) (0 ∷ 5 ∷ 2 ∷ 320 ∷ 144 ∷ [])
-    ∷ row (by-case c5 (c′s 141) ∷ inserted c5 (c′s 141)) (2 ∷ 0 ∷ 0 ∷ 4 ∷ 0 ∷ [])
-    ∷ row (inserted c5 (c′s 142)) (15 ∷ 0 ∷ 5 ∷ 2 ∷ 320 ∷ 144 ∷ [])
+    ∷ row (by-case c5 (cs 141) ∷ inserted c5 (cs 141)) (2 ∷ 0 ∷ 0 ∷ 4 ∷ 0 ∷ [])
+    ∷ row (inserted c5 (cs 142)) (15 ∷ 0 ∷ 5 ∷ 2 ∷ 320 ∷ 144 ∷ [])
     ∷ []
 
 -- H1 to H5, and C1 to C5
@@ -113,5 +113,5 @@ unfoldable pub rows : List Row
 rows = hash-rows ++ block-rows
 
 pub starred : every right rows ≡ true
-unfolding rows hash-rows block-rows block-size rol hash-byte hash-from places shape answer inserted c1 c2 c3 c4 c5 full by-case fresh best-pairs be be-from to-be slots-in slot-bytes pairs-in pair-bytes put written entry-size legal-name legal-number hash-of same-name fixed-name says cut whole apart entry-bytes pad gap-writes records slots count-of stale-of data-end verdict size-ok magic-ok span-ok tile-ok names-ok numbers-ok number-fits own-in legal-target legal-type index-ok rising best-ok once-ok seek sought names-compared up-to lookup lookup-refusal longest last-of touching room has-room best-of with-best sealed changed insert-slot writes-a writes-b writes-c writes-d insert-writes insert-code insert-block gap-start-before gap-end-after remove-writes remove-code remove-block
+unfolding rows hash-rows block-rows block-size rol hash-byte hash-from places shape answer inserted c1 c2 c3 c4 c5 full by-case fresh best-pairs be be-from to-be slots-in slot-bytes pairs-in pair-bytes put written entry-size legal-name legal-number hash-of same-name fixed-name says cut whole apart entry-bytes pad gap-writes records slots count-of stale-of data-end verdict size-ok magic-ok span-ok tile-ok names-ok numbers-ok number-fits own-in legal-target legal-type index-ok rising best-ok once-ok seek sought names-compared up-to lookup lookup-refusal longest last-of touching room-of has-room best-of with-best sealed changed insert-slot writes-a writes-b writes-c writes-d insert-writes insert-code insert-block gap-start-before gap-end-after remove-writes remove-code remove-block
 starred = refl

@@ -15,7 +15,7 @@ use Rattle.edition.specs.Edition.{Sane, block-size, largest-block}
 use Rattle.dir_block_rules.specs.Record.{Rec, entries}
 use Rattle.dir_block_rules.specs.Block.{Slot, records, slots, slots-in, count-of, stale-of, data-end}
 use Rattle.dir_block_rules.specs.Verdict.{verdict, size-ok, magic-ok, span-ok, tile-ok}
-use Rattle.dir_block_test.specs.Passes.{rest, slots-from, Parts, Tiled, after-span, after-tile, after-index, tiled}
+use Rattle.dir_block_test.specs.Passes.{rest, slots-from, Parts, Data-tiled, after-span, after-tile, after-index, tiled}
 use Rattle.dir_block_test.proofs.FaultsAnswer.{tiled-not, tiled-done}
 -- TILE
 use Rattle.edition.proofs.Sizes.{block-size-bounds}
@@ -29,7 +29,7 @@ module _ (e : Edition) (b : List ℕ) (t n m k : ℕ) (ks : k ≡ tiled e false 
     done : (tile-ok e (rest e b t (length b) (e .header)) ≡ true) × (k ≡ 1 + length (entries (rest e b t (length b) (e .header))))
     done = tiled-done e (rest e b t (length b) (e .header)) k ks z
 
-    pub tiled-parts : Parts e b t n → Tiled e b t n
+    pub tiled-parts : Parts e b t n → Data-tiled e b t n
     tiled-parts p = record { parts = p; tiles = done .0 }
 
     pub tiled-count : k - 1 ≡ length (entries (rest e b t (length b) (e .header)))
@@ -88,7 +88,7 @@ module _ (e : Edition) (sane : Sane e) (b : List ℕ) (z : Bool) (zs : z ≡ blo
               sym (rw (size, magic, q4, q))
 
           pub block-parts : Parts e b (length b - 8 - 8 * n) n
-          block-parts = record { room = omega (arith, sizes); eights = omega (arith, sizes); least = omega arith; short = omega (arith, sizes); top = sizes .1 }
+          block-parts = record { slots-fit = omega (arith, sizes); eights = omega (arith, sizes); least = omega arith; short = omega (arith, sizes); top = sizes .1 }
 
           ends : length b - 8 - 8 * n ≡ data-end b
           unfolding data-end

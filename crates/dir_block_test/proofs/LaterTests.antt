@@ -27,7 +27,7 @@ use Rattle.dir_block_rules.proofs.RecordPlaces.{Split, apart-keep, laid-eights,
 use Rattle.dir_block_rules.proofs.SearchFinds.{Reads, Owner, owner}
 use Rattle.name.proofs.Same.{same-eq}
 use Rattle.dir_block_rules.proofs.GoodParts.{laid-small}
-use Rattle.dir_block_test.specs.Passes.{filled, hint, rest, name-of, Tiled, slots-from, Reach, addr-at, once-in, best-left, in-order, own-at, worst, after-tile, after-index}
+use Rattle.dir_block_test.specs.Passes.{filled, hint, rest, name-of, Data-tiled, slots-from, Reach, addr-at, once-in, best-left, in-order, own-at, worst, after-tile, after-index}
 use Rattle.be.proofs.Parts.{part-length}
 use Rattle.dir_block_test.proofs.TileWalk.{Head, rest-head, head-gap}
 use Rattle.dir_block_test.proofs.WholeRecord.{says-entry}
@@ -54,7 +54,7 @@ module _ (e : Edition) (sane : Sane e) (b : List ℕ) (t n : ℕ) where
   unfolding slots-from
   count-is = live-stale (slots-from b t n 0) ∙ length-slots-in (n - 0) (drop (t + 8 * 0) b) ∙ sub-zero n
 
-  module _ (T : Tiled e b t n) where
+  module _ (T : Data-tiled e b t n) where
     abbrev pub RS : List Rec
     RS = rest e b t (length b) (e .header)
 
@@ -62,7 +62,7 @@ module _ (e : Edition) (sane : Sane e) (b : List ℕ) (t n : ℕ) where
     SS = slots-from b t n 0
 
     hi : t ≤ length b
-    hi = omega (arith, T .parts .room)
+    hi = omega (arith, T .parts .slots-fit)
 
     enough : t - (e .header) ≤ length b
     enough = omega (arith, hi)
@@ -266,7 +266,7 @@ module _ (e : Edition) (sane : Sane e) (b : List ℕ) (t n : ℕ) where
         pub few : t + 8 * k ≤ length b
         few =
             by-cases fit
-            (λ q. let z : k ≡ n = ks ∙ rw q in omega (arith, T .parts .room))
+            (λ q. let z : k ≡ n = ks ∙ rw q in omega (arith, T .parts .slots-fit))
             (λ q. let z : k ≡ 0 = ks ∙ rw q in omega (arith, hi))
 
         pub table-is : (P : List ℕ) → P ≡ filled b t M n → (w : ℕ) → w ≡ worst e (own-at e b) (hint P b t k) RS → w ≡ worst e (own-at e b) (hint (filled b t M n) b t k) RS

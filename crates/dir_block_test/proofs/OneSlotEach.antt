@@ -18,22 +18,22 @@ use Rattle.dir_block_rules.specs.Verdict.{has-slot, rising}
 use Rattle.be.proofs.Bools.{by-cases, and-left, every-head, every-tail, every-cons, clash}
 use Rattle.dir_block_rules.proofs.SlotCounts.{Apart, pigeon, at-addr}
 use Rattle.dir_block_rules.proofs.IndexedEntries.{addr-of, at-both, tally-le, Slotted, slotted, →slotted}
-use Rattle.dir_block_test.specs.Passes.{climbs, in-order, slot-is}
+use Rattle.dir_block_test.specs.Passes.{rising-from, in-order, slot-is}
 
 -- the order, as the pass tests it
-climbs-rising : (s : Slot) (ss : List Slot) → climbs (s .hash) ss ≡ rising (s ∷ ss)
-unfolding climbs rising
-climbs-rising s [] = refl
-climbs-rising s (u ∷ ss) = ap (λ (t : Bool). leb (s .hash) (u .hash) && t) (climbs-rising u ss)
+from-rising : (s : Slot) (ss : List Slot) → rising-from (s .hash) ss ≡ rising (s ∷ ss)
+unfolding rising-from rising
+from-rising s [] = refl
+from-rising s (u ∷ ss) = ap (λ (t : Bool). leb (s .hash) (u .hash) && t) (from-rising u ss)
 
-pub climbs-is : (ss : List Slot) → climbs 0 ss ≡ rising ss
-unfolding climbs rising
-climbs-is [] = refl
-climbs-is (s ∷ ss) = rw (le-leb 0 (s .hash) (omega arith)) (climbs-rising s ss)
+pub rising-from-is : (ss : List Slot) → rising-from 0 ss ≡ rising ss
+unfolding rising-from rising
+rising-from-is [] = refl
+rising-from-is (s ∷ ss) = rw (le-leb 0 (s .hash) (omega arith)) (from-rising s ss)
 
 pub in-order-is : (m : ℕ) (ss : List Slot) → in-order 0 0 m ss ≡ (rising ss && eqb (tally is-stale ss) m)
 unfolding in-order
-in-order-is m ss = ap₂ (λ (t : Bool) (k : ℕ). t && eqb k m) (climbs-is ss) (zero-add (tally is-stale ss))
+in-order-is m ss = ap₂ (λ (t : Bool) (k : ℕ). t && eqb k m) (rising-from-is ss) (zero-add (tally is-stale ss))
 
 -- some slot, or at least one
 some-tally : (p : Slot → Bool) (ss : List Slot) → some-of p ss ≡ true → 1 ≤ tally p ss

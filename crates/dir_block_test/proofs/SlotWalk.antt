@@ -13,7 +13,7 @@ use borrow.Author.Tests.{eq-eqb, ne-eqb, le-leb, lt-leb}
 use Rattle.be.specs.Lists.{tally}
 use Rattle.be.specs.Bytes.{be}
 use Rattle.dir_block_rules.specs.Block.{Slot, slot, slots-in, is-stale}
-use Rattle.dir_block_test.specs.Passes.{slots-from, climbs, in-order, hash-at, addr-at, hint}
+use Rattle.dir_block_test.specs.Passes.{slots-from, rising-from, in-order, hash-at, addr-at, hint}
 
 abbrev pub slot-at : List ℕ → ℕ → ℕ → Slot
 slot-at b t i = slot (hash-at b t i) (addr-at b t i)
@@ -45,12 +45,12 @@ module _ (b : List ℕ) (t n : ℕ) where
 
     module _ (i last stale : ℕ) (o : Ordering m i last stale) where
       pub ordering-end : n ≤ i → eqb stale m ≡ in-order 0 0 m (slots-from b t n 0)
-      unfolding in-order climbs
+      unfolding in-order rising-from
       ordering-end h = sym (o .so-far ∙ rw (slots-end i h) (ap (λ (k : ℕ). eqb k m) (add-zero stale)))
 
       module _ (lo : i < n) (h : ℕ) (hi : h ≡ hash-at b t i) where
         pub ordering-falls : h < last → false ≡ in-order 0 0 m (slots-from b t n 0)
-        unfolding in-order climbs
+        unfolding in-order rising-from
         ordering-falls f =
             let q : leb last (hash-at b t i) ≡ false = lt-leb last (hash-at b t i) (omega arith) in
             sym (o .so-far ∙ rw (slots-next i lo, q))
@@ -60,7 +60,7 @@ module _ (b : List ℕ) (t n : ℕ) where
           rises = le-leb last (hash-at b t i) (omega arith)
 
           pub ordering-stale : a ≡ 0 → Ordering m (i + 1) h (stale + 1)
-          unfolding in-order climbs
+          unfolding in-order rising-from
           ordering-stale z =
               let q : eqb (addr-at b t i) 0 ≡ true = eq-eqb (addr-at b t i) 0 (sym ai ∙ z) in
               let x : ℕ = tally is-stale (slots-from b t n (i + 1)) in
@@ -72,7 +72,7 @@ module _ (b : List ℕ) (t n : ℕ) where
               }
 
           pub ordering-live : (a ≡ 0 → ⊥) → Ordering m (i + 1) h stale
-          unfolding in-order climbs
+          unfolding in-order rising-from
           ordering-live z =
               let q : eqb (addr-at b t i) 0 ≡ false = ne-eqb (addr-at b t i) 0 (λ (y : addr-at b t i ≡ 0). z (ai ∙ y)) in
               let x : ℕ = tally is-stale (slots-from b t n (i + 1)) in

@@ -129,8 +129,8 @@ module _ (e : Edition) (b : List ℕ) (t a : ℕ) (hi : t ≤ length b) (te : t 
       now-is : tiled e false 1 (rest e b t (length b) a) ≡ tiled e g n (rest e b t (suc (i .fuel - 1)) o)
       now-is = i .so-far ∙ ap (λ (k : ℕ). tiled e g n (rest e b t k o)) more
 
-      pub room : o + 8 ≤ t
-      room = omega (arith, i .eights)
+      pub eight-left : o + 8 ≤ t
+      eight-left = omega (arith, i .eights)
 
       pub tiling-broken : (m : ℕ) → m ≡ whole-len e (part o (t - o) b) o → m ≡ 0 → 0 ≡ tiled e false 1 (rest e b t (length b) a)
       tiling-broken m h z = sym (now-is ∙ tile-broken e b t o lo hi g n (i .fuel - 1) (sym z ∙ h))

@@ -59,13 +59,13 @@ worst e own f [] = no-fault
 worst e own f (r ∷ rs) = min (fault e own f r) (worst e own f rs)
 
 -- hashes never fall, from h on
-unfoldable pub climbs : ℕ → List Slot → Bool
-climbs h [] = true
-climbs h (s ∷ ss) = leb h (s .hash) && climbs (s .hash) ss
+unfoldable pub rising-from : ℕ → List Slot → Bool
+rising-from h [] = true
+rising-from h (s ∷ ss) = leb h (s .hash) && rising-from (s .hash) ss
 
 -- the slots never fall, and n and their stale ones make m
 unfoldable pub in-order : ℕ → ℕ → ℕ → List Slot → Bool
-in-order h n m ss = climbs h ss && eqb (n + tally is-stale ss) m
+in-order h n m ss = rising-from h ss && eqb (n + tally is-stale ss) m
 
 -- slot i's hash and address, of those at t
 abbrev pub hash-at : List ℕ → ℕ → ℕ → ℕ
@@ -153,14 +153,14 @@ after-span e b rs ss m = TILE unless tile-ok e rs then after-tile e b rs ss m
 
 -- a block whose data ends at t and has n slots there, all counted
 pub record Parts (e : Edition) (b : List ℕ) (t n : ℕ) : Type 0 where
-  pub room : t + 8 * n ≤ length b
+  pub slots-fit : t + 8 * n ≤ length b
   pub eights : t % 8 ≡ 0
   pub least : e .header ≤ t
   pub short : t < 65536
   pub top : length b ≤ largest-block
 
 -- and whose data is tiled
-pub record Tiled (e : Edition) (b : List ℕ) (t n : ℕ) : Type 0 where
+pub record Data-tiled (e : Edition) (b : List ℕ) (t n : ℕ) : Type 0 where
   pub parts : Parts e b t n
   pub tiles : tile-ok e (rest e b t (length b) (e .header)) ≡ true
 

@@ -10,7 +10,7 @@ ghost use Rattle.edition.specs.Edition.{v4, Sane, largest-block, record-places}
 ghost use Rattle.name.specs.Name.{legal-name, same-name};
 ghost use Rattle.dir_block_rules.specs.Record.{says, whole, gaps, entries};
 ghost use Rattle.dir_block_rules.specs.Verdict.{pair, best-pairs, best-ok, index-ok, verdict};
-ghost use Rattle.dir_block_test.specs.Passes.{no-fault, rest, whole-len, tiled, slots-from, in-order, hash-at, addr-at, filled, hint, name-fits, name-of, fault-at, own-at, worst, best-left, which, clash-from, runs-on, once-in, Reach, after-index, after-tile, after-span, Parts, Tiled};
+ghost use Rattle.dir_block_test.specs.Passes.{no-fault, rest, whole-len, tiled, slots-from, in-order, hash-at, addr-at, filled, hint, name-fits, name-of, fault-at, own-at, worst, best-left, which, clash-from, runs-on, once-in, Reach, after-index, after-tile, after-span, Parts, Data-tiled};
 use edition::Edition;
 use edition::V4;
 
@@ -420,7 +420,7 @@ fn is_zero(p: Best) -> bool
 // 9: whether the best-gap table is right.
 fn best_fits(e: Edition, b: &[u8], t: usize, n: usize) -> bool
     requires { ⌜ Sane e ⌝ }
-    requires { ⌜ Tiled e (now b) t n ⌝ }
+    requires { ⌜ Data-tiled e (now b) t n ⌝ }
     ensures { λ r. ⌜ r ≡ best-ok (best-pairs e (now (b .entry))) (gaps (rest e (now (b .entry)) t (length (now (b .entry))) (e .header))) ⌝ }
 {
     let p = pair_at(b, e.best);
@@ -438,7 +438,7 @@ fn best_fits(e: Edition, b: &[u8], t: usize, n: usize) -> bool
 // The tests from BEST on.
 fn test_best(e: Edition, b: &[u8], t: usize, n: usize, m: usize) -> usize
     requires { ⌜ Sane e ⌝ }
-    requires { ⌜ Tiled e (now b) t n × (index-ok e (rest e (now b) t (length (now b)) (e .header)) (slots-from (now b) t n 0) m ≡ true) ⌝ }
+    requires { ⌜ Data-tiled e (now b) t n × (index-ok e (rest e (now b) t (length (now b)) (e .header)) (slots-from (now b) t n 0) m ≡ true) ⌝ }
     ensures { λ r. ⌜ r ≡ after-index e (now (b .entry)) (rest e (now (b .entry)) t (length (now (b .entry))) (e .header)) ⌝ }
 {
     if !best_fits(e, b, t, n) {
@@ -481,7 +481,7 @@ fn searched(fit: bool, n: usize) -> usize
 // The tests from NAME on.
 fn test_entries(e: Edition, b: &[u8], t: usize, n: usize, m: usize, live: usize) -> usize
     requires { ⌜ Sane e ⌝ }
-    requires { ⌜ Tiled e (now b) t n × (m ≤ n) × (live ≡ length (entries (rest e (now b) t (length (now b)) (e .header)))) ⌝ }
+    requires { ⌜ Data-tiled e (now b) t n × (m ≤ n) × (live ≡ length (entries (rest e (now b) t (length (now b)) (e .header)))) ⌝ }
     ensures { λ r. ⌜ r ≡ after-tile e (now (b .entry)) (rest e (now (b .entry)) t (length (now (b .entry))) (e .header)) (slots-from (now (b .entry)) t n 0) m ⌝ }
 {
     let fit = counts_fit(b, t, n, m, live);

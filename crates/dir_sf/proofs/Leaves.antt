@@ -40,26 +40,6 @@ field-narrow wides o r u h q = q ∙ ap (λ (w : ℕ). field o w u) (narrow wide
 pub field-broad : (wides o r : ℕ) (u : List ℕ) → (wides ≡ 0 → ⊥) → r ≡ field o 8 u → r ≡ field o (width-of wides) u
 field-broad wides o r u h q = q ∙ ap (λ (w : ℕ). field o w u) (broad wides h)
 
--- a file type, where the edition has none and where it has one
-module _ (e : Edition) (z : e .ftype ≡ 0) (o : ℕ) where
-  pub kind-none : (u : List ℕ) → 0 ≡ field o (e .ftype) u
-  unfolding be be-from
-  kind-none u = rw z refl
-
-module _ (e : Edition) (s : Sane e) (z : e .ftype ≡ 0 → ⊥) (o : ℕ) where
-  pub kind-one : e .ftype ≡ 1
-  kind-one = go (e .ftype) (s .ftype-most) z
-    where
-      go : (k : ℕ) → k ≤ 1 → (k ≡ 0 → ⊥) → k ≡ 1
-      go zero h f = absurd (f refl)
-      go (suc k) h f = omega arith
-
-  pub kind-in : (n : ℕ) → o + e .ftype ≤ n → o < n
-  kind-in n h = omega (arith, kind-one)
-
-  pub kind-some : (u : List ℕ) (r : ℕ) → r ≡ byte o u → r ≡ field o (e .ftype) u
-  kind-some u r h = h ∙ sym (field-1 u o) ∙ ap (λ (k : ℕ). field o k u) (sym kind-one)
-
 one-long : (e : Edition) (w : ℕ) (d : List ℕ) → enough e w 1 d ≡ true → long-in e w d ≤ length d
 unfolding enough
 one-long e w d h = leb-true _ _ (and-left _ _ h)

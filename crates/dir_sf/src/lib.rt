@@ -75,17 +75,6 @@ pub fn number(u: &[u8], o: usize, wides: usize) -> u64
     be::be64(u, o)
 }
 
-// The file type at an offset; 0 where the edition has none.
-pub fn kind(e: Edition, u: &[u8], o: usize) -> usize
-    requires { ⌜ Sane e × (o + e .ftype ≤ length (now u)) ⌝ }
-    ensures { λ r. ⌜ r ≡ field o (e .ftype) (now (u .entry)) ⌝ }
-{
-    if e.ftype == 0 {
-        return 0;
-    }
-    be::be8(u, o)
-}
-
 // The length of the name of the entry at p, which lies in u.
 pub fn namelen(e: Edition, u: &[u8], p: usize, wides: usize) -> usize
     requires { ⌜ enough e (width-of wides) 1 (drop p (now u)) ≡ true ⌝ }

@@ -11,7 +11,7 @@ use Rattle.be.proofs.Writes.{put-nothing, put-next, put-then}
 use Rattle.edition.specs.declared.Edition.{Edition}
 use Rattle.edition.specs.Edition.{Sane}
 use Rattle.dir_sf.specs.Entry.{entry, width-of, entry-bytes}
-use Rattle.dir_sf.proofs.Leaves.{narrow, broad, kind-one}
+use Rattle.dir_sf.proofs.Leaves.{narrow, broad}
 
 -- two writes, as they are made
 pub put-put : (b b₁ b₂ : List ℕ) (o p : ℕ) (xs ys : List ℕ) → b₁ ≡ put b o xs → b₂ ≡ put b₁ p ys → b₂ ≡ put (put b o xs) p ys
@@ -22,14 +22,6 @@ put-narrow wides o v b c h q = q ∙ ap (λ (w : ℕ). put b o (to-be w v)) (nar
 
 pub put-broad : (wides o v : ℕ) (b c : List ℕ) → (wides ≡ 0 → ⊥) → c ≡ put b o (to-be 8 v) → c ≡ put b o (to-be (width-of wides) v)
 put-broad wides o v b c h q = q ∙ ap (λ (w : ℕ). put b o (to-be w v)) (broad wides h)
-
--- a file type, where the edition has none and where it has one
-pub put-kind-none : (e : Edition) (z : e .ftype ≡ 0) (o : ℕ) (b : List ℕ) (v : ℕ) → b ≡ put b o (to-be (e .ftype) v)
-unfolding to-be
-put-kind-none e z o b v = rw z (sym (put-nothing b o))
-
-pub put-kind-some : (e : Edition) (s : Sane e) (z : e .ftype ≡ 0 → ⊥) (o : ℕ) (b c : List ℕ) (v : ℕ) → c ≡ put b o (to-be 1 v) → c ≡ put b o (to-be (e .ftype) v)
-put-kind-some e s z o b c v h = h ∙ ap (λ (k : ℕ). put b o (to-be k v)) (sym (kind-one e s z o))
 
 -- what stands behind a name, written
 pub rest-put : (e : Edition) (b b₁ b₂ : List ℕ) (o kind ino wides : ℕ) → b₁ ≡ put b o (to-be (e .ftype) kind) → b₂ ≡ put b₁ (o + e .ftype) (to-be (width-of wides) ino)

@@ -29,23 +29,12 @@ fn put_number(b: &mut [u8], o: usize, v: u64, wides: usize)
     be::put64(b, o, v);
 }
 
-// Stores a file type at an offset, where the edition has one.
-fn put_kind(e: Edition, b: &mut [u8], o: usize, v: usize)
-    requires { ⌜ Sane e × (o + e .ftype ≤ length (now b)) ⌝ }
-    ensures { λ _. ⌜ now (b .exit) ≡ put (now (b .entry)) o (to-be (e .ftype) v) ⌝ }
-{
-    if e.ftype == 0 {
-        return;
-    }
-    be::put8(b, o, v);
-}
-
 // Stores what stands behind an entry's name, and gives where it ends.
 fn put_rest(e: Edition, b: &mut [u8], o: usize, kind: usize, ino: u64, wides: usize) -> usize
     requires { ⌜ Sane e × (o + (e .ftype + width-of wides) ≤ length (now b)) ⌝ }
     ensures { λ r. ⌜ (now (b .exit) ≡ put (now (b .entry)) o (to-be (e .ftype) kind ++ to-be (width-of wides) ino)) × (r ≡ o + (e .ftype + width-of wides)) ⌝ }
 {
-    put_kind(e, b, o, kind);
+    dir::put_kind(e, b, o, kind);
     put_number(b, o + e.ftype, ino, wides);
     o + dir_sf::rest(e, wides)
 }
@@ -89,7 +78,7 @@ fn copy_entry<'a, 'b>(
     let n = dir_sf::namelen(e, u, p, wides);
     let tag = be::be16(u, p + 1);
     let end = p + 3 + n;
-    let kind = dir_sf::kind(e, u, end);
+    let kind = dir::kind(e, u, end);
     let ino = dir_sf::number(u, end + e.ftype, wides);
     put_entry(e, b, o, &u[p + 3..end], tag, kind, ino, after)
 }

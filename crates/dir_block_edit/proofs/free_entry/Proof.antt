@@ -14,17 +14,17 @@ use Rattle.dir_block_edit.proofs.free_entry.Tie as tie
 add-be8 : tie.Need-add-be8
 add-be8 c =
     let p = c .before .before .before in
-    omega (arith, found-room _ (p .pre .0 .0) (now (p .args .b)) (now (p .args .name)) (p .args .end) (p .args .place) (p .args .at) (p .pre .0 .1) (p .pre .1 .1 .0) (p .pre .1 .1 .1 .0) (p .pre .1 .1 .1 .1) (p .pre .1 .0))
+    omega (arith, found-room _ (p .pre .0 .0) (now (p .args .b)) (now (p .args .name)) (p .args .end) (p .args .slot) (p .args .at) (p .pre .0 .1) (p .pre .1 .1 .0) (p .pre .1 .1 .1 .0) (p .pre .1 .1 .1 .1) (p .pre .1 .0))
 
 be8-requires : tie.Need-be8-requires
 be8-requires c κs =
     let p = c .before .before .before in
-    omega (arith, found-room _ (p .pre .0 .0) (now (p .args .b)) (now (p .args .name)) (p .args .end) (p .args .place) (p .args .at) (p .pre .0 .1) (p .pre .1 .1 .0) (p .pre .1 .1 .1 .0) (p .pre .1 .1 .1 .1) (p .pre .1 .0))
+    omega (arith, found-room _ (p .pre .0 .0) (now (p .args .b)) (now (p .args .name)) (p .args .end) (p .args .slot) (p .args .at) (p .pre .0 .1) (p .pre .1 .1 .0) (p .pre .1 .1 .1 .0) (p .pre .1 .1 .1 .1) (p .pre .1 .0))
 
 add-m : tie.Need-add-m
 add-m c =
     let p = c .before .before .before .before .before in
-    omega (arith, found-room _ (p .pre .0 .0) (now (p .args .b)) (now (p .args .name)) (p .args .end) (p .args .place) (p .args .at) (p .pre .0 .1) (p .pre .1 .1 .0) (p .pre .1 .1 .1 .0) (p .pre .1 .1 .1 .1) (p .pre .1 .0))
+    omega (arith, found-room _ (p .pre .0 .0) (now (p .args .b)) (now (p .args .name)) (p .args .end) (p .args .slot) (p .args .at) (p .pre .0 .1) (p .pre .1 .1 .0) (p .pre .1 .1 .1 .0) (p .pre .1 .1 .1 .1) (p .pre .1 .0))
 
 joined-start-requires : tie.Need-joined-start-requires
 joined-start-requires c κs =
@@ -42,47 +42,47 @@ joined-end-requires c κs =
 sub-be32 : tie.Need-sub-be32
 sub-be32 c =
     let p = c .before .before .before .before .before .before .before .before .before .before in
-    omega (arith, found-room _ (p .pre .0 .0) (now (p .args .b)) (now (p .args .name)) (p .args .end) (p .args .place) (p .args .at) (p .pre .0 .1) (p .pre .1 .1 .0) (p .pre .1 .1 .1 .0) (p .pre .1 .1 .1 .1) (p .pre .1 .0))
+    omega (arith, found-room _ (p .pre .0 .0) (now (p .args .b)) (now (p .args .name)) (p .args .end) (p .args .slot) (p .args .at) (p .pre .0 .1) (p .pre .1 .1 .0) (p .pre .1 .1 .1 .0) (p .pre .1 .1 .1 .1) (p .pre .1 .0))
 
 be32-requires : tie.Need-be32-requires
 be32-requires c κs =
     let p = c .before .before .before .before .before .before .before .before .before .before in
-    omega (arith, found-room _ (p .pre .0 .0) (now (p .args .b)) (now (p .args .name)) (p .args .end) (p .args .place) (p .args .at) (p .pre .0 .1) (p .pre .1 .1 .0) (p .pre .1 .1 .1 .0) (p .pre .1 .1 .1 .1) (p .pre .1 .0))
+    omega (arith, found-room _ (p .pre .0 .0) (now (p .args .b)) (now (p .args .name)) (p .args .end) (p .args .slot) (p .args .at) (p .pre .0 .1) (p .pre .1 .1 .0) (p .pre .1 .1 .1 .0) (p .pre .1 .1 .1 .1) (p .pre .1 .0))
 
 put-gap-requires : tie.Need-put-gap-requires
 put-gap-requires c κs =
     let p = c .before .before .before .before .before .before .before .before .before .before .before .before in
-    omega (arith, found-room _ (p .pre .0 .0) (now (p .args .b)) (now (p .args .name)) (p .args .end) (p .args .place) (p .args .at) (p .pre .0 .1) (p .pre .1 .1 .0) (p .pre .1 .1 .1 .0) (p .pre .1 .1 .1 .1) (p .pre .1 .0))
+    omega (arith, found-room _ (p .pre .0 .0) (now (p .args .b)) (now (p .args .name)) (p .args .end) (p .args .slot) (p .args .at) (p .pre .0 .1) (p .pre .1 .1 .0) (p .pre .1 .1 .1 .0) (p .pre .1 .1 .1 .1) (p .pre .1 .0))
 
 mul-put32 : tie.Need-mul-put32
 mul-put32 c =
     let p = c .before .before .before .before .before .before .before .before .before .before .before .before .before .before .before .before in
-    omega (arith, found-room _ (p .pre .0 .0) (now (p .args .b)) (now (p .args .name)) (p .args .end) (p .args .place) (p .args .at) (p .pre .0 .1) (p .pre .1 .1 .0) (p .pre .1 .1 .1 .0) (p .pre .1 .1 .1 .1) (p .pre .1 .0))
+    omega (arith, found-room _ (p .pre .0 .0) (now (p .args .b)) (now (p .args .name)) (p .args .end) (p .args .slot) (p .args .at) (p .pre .0 .1) (p .pre .1 .1 .0) (p .pre .1 .1 .1 .0) (p .pre .1 .1 .1 .1) (p .pre .1 .0))
 
 add-put32 : tie.Need-add-put32
 add-put32 c =
     let p = c .before .before .before .before .before .before .before .before .before .before .before .before .before .before .before .before in
-    omega (arith, found-room _ (p .pre .0 .0) (now (p .args .b)) (now (p .args .name)) (p .args .end) (p .args .place) (p .args .at) (p .pre .0 .1) (p .pre .1 .1 .0) (p .pre .1 .1 .1 .0) (p .pre .1 .1 .1 .1) (p .pre .1 .0))
+    omega (arith, found-room _ (p .pre .0 .0) (now (p .args .b)) (now (p .args .name)) (p .args .end) (p .args .slot) (p .args .at) (p .pre .0 .1) (p .pre .1 .1 .0) (p .pre .1 .1 .1 .0) (p .pre .1 .1 .1 .1) (p .pre .1 .0))
 
 add-put32-2 : tie.Need-add-put32-2
 add-put32-2 c =
     let p = c .before .before .before .before .before .before .before .before .before .before .before .before .before .before .before .before in
-    omega (arith, found-room _ (p .pre .0 .0) (now (p .args .b)) (now (p .args .name)) (p .args .end) (p .args .place) (p .args .at) (p .pre .0 .1) (p .pre .1 .1 .0) (p .pre .1 .1 .1 .0) (p .pre .1 .1 .1 .1) (p .pre .1 .0))
+    omega (arith, found-room _ (p .pre .0 .0) (now (p .args .b)) (now (p .args .name)) (p .args .end) (p .args .slot) (p .args .at) (p .pre .0 .1) (p .pre .1 .1 .0) (p .pre .1 .1 .1 .0) (p .pre .1 .1 .1 .1) (p .pre .1 .0))
 
 put32-requires : tie.Need-put32-requires
 put32-requires c κs =
     let p = c .before .before .before .before .before .before .before .before .before .before .before .before .before .before .before .before in
-    omega (arith, found-room _ (p .pre .0 .0) (now (p .args .b)) (now (p .args .name)) (p .args .end) (p .args .place) (p .args .at) (p .pre .0 .1) (p .pre .1 .1 .0) (p .pre .1 .1 .1 .0) (p .pre .1 .1 .1 .1) (p .pre .1 .0))
+    omega (arith, found-room _ (p .pre .0 .0) (now (p .args .b)) (now (p .args .name)) (p .args .end) (p .args .slot) (p .args .at) (p .pre .0 .1) (p .pre .1 .1 .0) (p .pre .1 .1 .1 .0) (p .pre .1 .1 .1 .1) (p .pre .1 .0))
 
 sub-put32 : tie.Need-sub-put32
 sub-put32 c =
     let p = c .before .before .before .before .before .before .before .before .before .before .before .before .before .before .before .before .before .before .before .before in
-    omega (arith, found-room _ (p .pre .0 .0) (now (p .args .b)) (now (p .args .name)) (p .args .end) (p .args .place) (p .args .at) (p .pre .0 .1) (p .pre .1 .1 .0) (p .pre .1 .1 .1 .0) (p .pre .1 .1 .1 .1) (p .pre .1 .0))
+    omega (arith, found-room _ (p .pre .0 .0) (now (p .args .b)) (now (p .args .name)) (p .args .end) (p .args .slot) (p .args .at) (p .pre .0 .1) (p .pre .1 .1 .0) (p .pre .1 .1 .1 .0) (p .pre .1 .1 .1 .1) (p .pre .1 .0))
 
 put32-requires-2 : tie.Need-put32-requires-2
 put32-requires-2 c κs =
     let p = c .before .before .before .before .before .before .before .before .before .before .before .before .before .before .before .before .before .before .before .before in
-    omega (arith, found-room _ (p .pre .0 .0) (now (p .args .b)) (now (p .args .name)) (p .args .end) (p .args .place) (p .args .at) (p .pre .0 .1) (p .pre .1 .1 .0) (p .pre .1 .1 .1 .0) (p .pre .1 .1 .1 .1) (p .pre .1 .0))
+    omega (arith, found-room _ (p .pre .0 .0) (now (p .args .b)) (now (p .args .name)) (p .args .end) (p .args .slot) (p .args .at) (p .pre .0 .1) (p .pre .1 .1 .0) (p .pre .1 .1 .1 .0) (p .pre .1 .1 .1 .1) (p .pre .1 .0))
 
 returns : tie.Need-returns
 returns c =
@@ -96,7 +96,7 @@ returns c =
     let c₁₉ = c₁₈ .before in
     let c₂₂ = c₁₉ .before .before .before in
     let p = c₂₂ .before in
-    remove-stores _ (now (p .args .b)) (now (p .args .name)) (p .args .end) (p .args .place) (p .args .at) (c₁₆ .joined-start .result)
+    remove-stores _ (now (p .args .b)) (now (p .args .name)) (p .args .end) (p .args .slot) (p .args .at) (c₁₆ .joined-start .result)
     (c₁₄ .joined-end .result) _ _ (c₁₂ .be32 .result) _ _ _ (p .pre .1 .1 .1 .0) (p .pre .1 .1 .1 .1) (p .pre .1 .0)
     (stale-read (now (p .args .b)) (c₁₂ .be32 .result) (c₁₂ .be32 .ensures .0)) refl
     (ap (λ (k : ℕ). p .args .at + k) (c₁₈ .entry-size .ensures .0 ∙ ap (entry-size (p .args .e)) (c₁₉ .be8 .ensures .0 ∙ long-found _ (p .pre .0 .0) (now (p .args .b)) (now (p .args .name)) (p .args .at) (p .pre .0 .1) (p .pre .1 .1 .0) (p .pre .1 .1 .1 .1))))

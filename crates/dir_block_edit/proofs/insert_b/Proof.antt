@@ -34,7 +34,7 @@ returns c =
     done-b _ (now (p .args .b)) (now (p .args .name)) (p .pre .0 .1) (p .args .to) (p .args .h) (p .args .u / 8) (p .args .u) (p .args .k)
     (p .args .stale) _ _ (t .1 .0 ∙ p .pre .1 .0 .0) (p .pre .1 .0 .1 .1 .0) (p .pre .1 .0 .1 .1 .1) (p .pre .1 .1 .1 .0 .1) (t .1 .1)
     (live-count _ (p .pre .0 .0) (now (p .args .b)) (p .pre .0 .1) (p .args .end) (p .args .count) (p .args .stale) (p .args .p) (p .args .h) (p .args .u / 8) (p .pre .1 .0 .0) (p .pre .1 .0 .1 .0) (p .pre .1 .0 .1 .1 .0) (p .pre .1 .0 .1 .1 .1) (p .pre .1 .1 .0) ∙ p .pre .1 .0 .1 .0)
-    (c₆ .squeeze .ensures) (c₂ .place .ensures)
+    (c₆ .squeeze .ensures) (c₂ .put-first .ensures)
 
 pub insert-b-spec : {M : Type 1} → statement M
 insert-b-spec =

@@ -34,7 +34,7 @@ returns c =
     let t = p .pre .1 .1 .1 .1 in
     done-c _ (now (p .args .b)) (now (p .args .name)) (p .pre .0 .1) (p .args .to) (p .args .h) (p .args .o / 8) (p .args .o) (p .args .l)
     (p .args .u) (p .args .k) _ _ _ (g .0) (g .1 .1) (t .0) (t .1 .0 ∙ p .pre .1 .0 .0) (t .1 .1 .0) (t .1 .1 .1) (c₁₀ .grow .ensures)
-    (c₆ .place .ensures) (c₂ .put-gap .ensures)
+    (c₆ .put-first .ensures) (c₂ .put-gap .ensures)
 
 pub insert-c-spec : {M : Type 1} → statement M
 insert-c-spec =

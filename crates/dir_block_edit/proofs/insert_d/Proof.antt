@@ -25,7 +25,7 @@ returns c =
     let c₉ = c₆ .before .before .before in
     let p = c₉ .before in
     let t = p .pre .1 .1 .1 .1 in
-    done-d _ (now (p .args .b)) (now (p .args .name)) (p .pre .0 .1) (p .args .to) (p .args .h) (p .args .u / 8) (p .args .u) (p .args .k) _ _ (t .1 .0 ∙ p .pre .1 .0 .0) (p .pre .1 .1 .1 .0 .1) (t .1 .1) (c₆ .grow .ensures) (c₂ .place .ensures)
+    done-d _ (now (p .args .b)) (now (p .args .name)) (p .pre .0 .1) (p .args .to) (p .args .h) (p .args .u / 8) (p .args .u) (p .args .k) _ _ (t .1 .0 ∙ p .pre .1 .0 .0) (p .pre .1 .1 .1 .0 .1) (t .1 .1) (c₆ .grow .ensures) (c₂ .put-first .ensures)
 
 pub insert-d-spec : {M : Type 1} → statement M
 insert-d-spec =

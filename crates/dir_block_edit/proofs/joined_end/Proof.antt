@@ -19,38 +19,38 @@ use Rattle.dir_block_edit.proofs.joined_end.Tie as tie
 ends : (e : Edition) (b : List ℕ) (t : Tiled e b) (o u : ℕ) (w : Entry-at e b o) → u ≡ o + entry-size e (getD b (o + 8) 0) → o + size (w .entry) ≡ u
 ends e b t o u w q = ap (λ (n : ℕ). o + n) (entry-long e b t o w) ∙ sym q
 
-room : (e : Edition) (b : List ℕ) (t : Tiled e b) (o u : ℕ) (w : Entry-at e b o) → u ≡ o + entry-size e (getD b (o + 8) 0) → (u ≤ data-end b) × (data-end b + 8 ≤ length b) × (length b ≤ 65536)
-room e b t o u w q = (omega (arith, entry-inside e b t o w, ends e b t o u w q), omega (arith, end-fits e b t), t .short)
+fits : (e : Edition) (b : List ℕ) (t : Tiled e b) (o u : ℕ) (w : Entry-at e b o) → u ≡ o + entry-size e (getD b (o + 8) 0) → (u ≤ data-end b) × (data-end b + 8 ≤ length b) × (length b ≤ 65536)
+fits e b t o u w q = (omega (arith, entry-inside e b t o w, ends e b t o u w q), omega (arith, end-fits e b t), t .short)
 
 returns : tie.Need-returns
 returns c =
     let p = c .before .before in
-    (sym (behind-none _ (now (p .args .b)) (p .pre .0 .1) (p .args .o) (p .pre .1 .0) (p .args .u) (ends _ (now (p .args .b)) (p .pre .0 .1) (p .args .o) (p .args .u) (p .pre .1 .0) (p .pre .1 .1 .1)) (omega (arith, p .pre .1 .1))), (omega arith, omega (arith, room _ (now (p .args .b)) (p .pre .0 .1) (p .args .o) (p .args .u) (p .pre .1 .0) (p .pre .1 .1 .1), p .pre .1 .1)))
+    (sym (behind-none _ (now (p .args .b)) (p .pre .0 .1) (p .args .o) (p .pre .1 .0) (p .args .u) (ends _ (now (p .args .b)) (p .pre .0 .1) (p .args .o) (p .args .u) (p .pre .1 .0) (p .pre .1 .1 .1)) (omega (arith, p .pre .1 .1))), (omega arith, omega (arith, fits _ (now (p .args .b)) (p .pre .0 .1) (p .args .o) (p .args .u) (p .pre .1 .0) (p .pre .1 .1 .1), p .pre .1 .1)))
 
 be16-requires : tie.Need-be16-requires
 be16-requires c κs =
     let p = c .before .before in
-    omega (arith, room _ (now (p .args .b)) (p .pre .0 .1) (p .args .o) (p .args .u) (p .pre .1 .0) (p .pre .1 .1 .1), p .pre .1 .1)
+    omega (arith, fits _ (now (p .args .b)) (p .pre .0 .1) (p .args .o) (p .args .u) (p .pre .1 .0) (p .pre .1 .1 .1), p .pre .1 .1)
 
 returns-2 : tie.Need-returns-2
 returns-2 c =
     let p = c .before .before .before .before in
-    (sym (behind-entry _ (now (p .args .b)) (p .pre .0 .1) (p .args .o) (p .pre .1 .0) (p .args .u) (ends _ (now (p .args .b)) (p .pre .0 .1) (p .args .o) (p .args .u) (p .pre .1 .0) (p .pre .1 .1 .1)) (omega (arith, p .pre .1 .1)) (λ z. c .if2 .taken (c .before .be16 .ensures .0 ∙ z))), (omega arith, omega (arith, room _ (now (p .args .b)) (p .pre .0 .1) (p .args .o) (p .args .u) (p .pre .1 .0) (p .pre .1 .1 .1), p .pre .1 .1)))
+    (sym (behind-entry _ (now (p .args .b)) (p .pre .0 .1) (p .args .o) (p .pre .1 .0) (p .args .u) (ends _ (now (p .args .b)) (p .pre .0 .1) (p .args .o) (p .args .u) (p .pre .1 .0) (p .pre .1 .1 .1)) (omega (arith, p .pre .1 .1)) (λ z. c .if2 .taken (c .before .be16 .ensures .0 ∙ z))), (omega arith, omega (arith, fits _ (now (p .args .b)) (p .pre .0 .1) (p .args .o) (p .args .u) (p .pre .1 .0) (p .pre .1 .1 .1), p .pre .1 .1)))
 
 add-be16 : tie.Need-add-be16
 add-be16 c =
     let p = c .before .before .before .before in
-    omega (arith, room _ (now (p .args .b)) (p .pre .0 .1) (p .args .o) (p .args .u) (p .pre .1 .0) (p .pre .1 .1 .1), p .pre .1 .1)
+    omega (arith, fits _ (now (p .args .b)) (p .pre .0 .1) (p .args .o) (p .args .u) (p .pre .1 .0) (p .pre .1 .1 .1), p .pre .1 .1)
 
 be16-requires-2 : tie.Need-be16-requires-2
 be16-requires-2 c κs =
     let p = c .before .before .before .before in
-    omega (arith, room _ (now (p .args .b)) (p .pre .0 .1) (p .args .o) (p .args .u) (p .pre .1 .0) (p .pre .1 .1 .1), p .pre .1 .1)
+    omega (arith, fits _ (now (p .args .b)) (p .pre .0 .1) (p .args .o) (p .args .u) (p .pre .1 .0) (p .pre .1 .1 .1), p .pre .1 .1)
 
 add-result : tie.Need-add-result
 add-result c =
     let p = c .before .before .before .before .before in
-    omega (arith, room _ (now (p .args .b)) (p .pre .0 .1) (p .args .o) (p .args .u) (p .pre .1 .0) (p .pre .1 .1 .1), p .pre .1 .1)
+    omega (arith, fits _ (now (p .args .b)) (p .pre .0 .1) (p .args .o) (p .args .u) (p .pre .1 .0) (p .pre .1 .1 .1), p .pre .1 .1)
 
 returns-3 : tie.Need-returns-3
 returns-3 c =

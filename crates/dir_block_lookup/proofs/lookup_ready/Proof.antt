@@ -1,7 +1,10 @@
+use Prim.Native.Nat.{_+_}
 use native.Mathlib.Omega.{arith}
 use mathlib.Core.Path.{_∙_, ap}
 use denote.Ref.{now}
 use borrow.Author.Needs.{needs}
+use lib.ListN.{getD}
+use Rattle.edition.proofs.Sizes.{entry-size-least}
 use Rattle.dir_block_rules.specs.Lookup.{Sought}
 use Rattle.dir_block_laws.proofs.RecordSteps.{count-read, end-read}
 use Rattle.dir_block_laws.proofs.SlotSearch.{slots-room}
@@ -10,12 +13,12 @@ use Rattle.dir_block_lookup.proofs.CallAnswers.{lookup-found, lookup-ab
 use Rattle.dir_block_lookup.proofs.lookup_ready.Statement.{statement}
 use Rattle.dir_block_lookup.proofs.lookup_ready.Tie as tie
 
-be64-requires : tie.Need-be64-requires
-be64-requires c κs =
+target-at-requires : tie.Need-target-at-requires
+target-at-requires c κs =
     let a = c .before .before .before .before .before .args in
     let q = c .before .before .before .before .before .pre in
     let s = c .before .seek .ensures in
-    omega (arith, found-room _ (q .0 .0) (now (a .b)) (now (a .name)) _ _ _ (q .0 .1) (ap (λ (x : Sought). x .hit) s ∙ c .if1 .taken) (ap (λ (x : Sought). x .place) s) (ap (λ (x : Sought). x .at) s) (end-read (now (a .b)) _ (count-read (now (a .b)) _ (c .before .before .be32 .ensures .0))), slots-room _ (now (a .b)) (q .0 .0) (q .0 .1))
+    (q .0 .0, omega (arith, found-room _ (q .0 .0) (now (a .b)) (now (a .name)) _ _ _ (q .0 .1) (ap (λ (x : Sought). x .hit) s ∙ c .if1 .taken) (ap (λ (x : Sought). x .index) s) (ap (λ (x : Sought). x .at) s) (end-read (now (a .b)) _ (count-read (now (a .b)) _ (c .before .before .be32 .ensures .0))), slots-room _ (now (a .b)) (q .0 .0) (q .0 .1), entry-size-least (a .e) (getD (now (a .b)) (c .before .seek .result .at + 8) 0)))
 
 pub lookup-ready-spec : {M : Type 1} → statement M
 lookup-ready-spec =
@@ -29,6 +32,6 @@ lookup-ready-spec =
     (λ c κs.
     let c₃ = c .before .before .before in
     (c₃ .pre .0, (end-read (now (c₃ .args .b)) _ (count-read (now (c₃ .args .b)) _ (c .be32 .ensures .0)), count-read (now (c₃ .args .b)) _ (c .be32 .ensures .0))))
-    be64-requires
-    (λ c. lookup-found _ _ _ (c .before .before .before .before .before .before .pre .0 .1 .ok) (c .before .before .before .before .before .before .pre .1) _ (c .before .before .seek .ensures) (c .before .if1 .taken) _ (c .be64 .ensures))
-    (λ c. lookup-absent _ _ _ (c .before .before .before .before .before .pre .0 .1 .ok) (c .before .before .before .before .before .pre .1) _ (c .before .seek .ensures) (c .if1 .left)))
+    target-at-requires
+    (λ c. lookup-found _ _ _ (c .before .before .before .before .before .before .pre .0 .0) (c .before .before .before .before .before .before .pre .0 .1) (c .before .before .before .before .before .before .pre .1) _ (c .before .before .seek .ensures) (c .before .if1 .taken) _ (c .target-at .ensures))
+    (λ c. lookup-absent _ _ _ (c .before .before .before .before .before .pre .0 .0) (c .before .before .before .before .before .pre .0 .1) (c .before .before .before .before .before .pre .1) _ (c .before .seek .ensures) (c .if1 .left)))

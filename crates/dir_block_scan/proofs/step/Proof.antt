@@ -15,28 +15,28 @@ use Rattle.dir_block_scan.proofs.step.Statement.{statement}
 use Rattle.dir_block_scan.proofs.step.Tie as tie
 
 -- the data ends before the tail
-room : (e : Edition) (b : List ℕ) → Tiled e b → (data-end b + 8 ≤ length b) × (length b ≤ 65536)
-room e b t = (omega (arith, end-fits e b t), t .short)
+fits : (e : Edition) (b : List ℕ) → Tiled e b → (data-end b + 8 ≤ length b) × (length b ≤ 65536)
+fits e b t = (omega (arith, end-fits e b t), t .short)
 
 be16-requires : tie.Need-be16-requires
 be16-requires c κs =
     let p = c .before in
-    omega (arith, room _ (now (p .args .b)) (p .pre .0 .1), p .pre .1 .1)
+    omega (arith, fits _ (now (p .args .b)) (p .pre .0 .1), p .pre .1 .1)
 
 add-be16 : tie.Need-add-be16
 add-be16 c =
     let p = c .before .before .before in
-    omega (arith, room _ (now (p .args .b)) (p .pre .0 .1), p .pre .1 .1)
+    omega (arith, fits _ (now (p .args .b)) (p .pre .0 .1), p .pre .1 .1)
 
 be16-requires-2 : tie.Need-be16-requires-2
 be16-requires-2 c κs =
     let p = c .before .before .before in
-    omega (arith, room _ (now (p .args .b)) (p .pre .0 .1), p .pre .1 .1)
+    omega (arith, fits _ (now (p .args .b)) (p .pre .0 .1), p .pre .1 .1)
 
 with-gap-requires : tie.Need-with-gap-requires
 with-gap-requires c κs =
     let p = c .before .before .before .before in
-    omega (arith, room _ (now (p .args .b)) (p .pre .0 .1), p .pre .1 .1)
+    omega (arith, fits _ (now (p .args .b)) (p .pre .0 .1), p .pre .1 .1)
 
 returns : tie.Need-returns
 returns c =
@@ -48,17 +48,17 @@ returns c =
 add-be8 : tie.Need-add-be8
 add-be8 c =
     let p = c .before .before .before in
-    omega (arith, room _ (now (p .args .b)) (p .pre .0 .1), p .pre .1 .1)
+    omega (arith, fits _ (now (p .args .b)) (p .pre .0 .1), p .pre .1 .1)
 
 be8-requires : tie.Need-be8-requires
 be8-requires c κs =
     let p = c .before .before .before in
-    omega (arith, room _ (now (p .args .b)) (p .pre .0 .1), p .pre .1 .1)
+    omega (arith, fits _ (now (p .args .b)) (p .pre .0 .1), p .pre .1 .1)
 
 with-entry-requires : tie.Need-with-entry-requires
 with-entry-requires c κs =
     let p = c .before .before .before .before .before in
-    omega (arith, room _ (now (p .args .b)) (p .pre .0 .1), p .pre .1 .1)
+    omega (arith, fits _ (now (p .args .b)) (p .pre .0 .1), p .pre .1 .1)
 
 returns-2 : tie.Need-returns-2
 returns-2 c =

@@ -8,11 +8,11 @@ pub best-fits-spec : {M : Type 1} → statement M
 best-fits-spec =
     tie.close
     (tie.spec
-    (λ c κs. let p = c .before .pre in omega (arith, p .0 .best-inside, p .1 .parts .room, p .1 .parts .least))
+    (λ c κs. let p = c .before .pre in omega (arith, p .0 .best-inside, p .1 .parts .slots-fit, p .1 .parts .least))
     (λ c. let p = c .before .before .before .pre in omega (arith, p .0 .best-inside, p .0 .header-most))
-    (λ c κs. let p = c .before .before .before .pre in omega (arith, p .0 .best-inside, p .1 .parts .room, p .1 .parts .least))
+    (λ c κs. let p = c .before .before .before .pre in omega (arith, p .0 .best-inside, p .1 .parts .slots-fit, p .1 .parts .least))
     (λ c. let p = c .before .before .before .before .before .pre in omega (arith, p .0 .best-inside, p .0 .header-most))
-    (λ c κs. let p = c .before .before .before .before .before .pre in omega (arith, p .0 .best-inside, p .1 .parts .room, p .1 .parts .least))
+    (λ c κs. let p = c .before .before .before .before .before .pre in omega (arith, p .0 .best-inside, p .1 .parts .slots-fit, p .1 .parts .least))
     (λ c.
     let c₃ = c .before .before .before in
     let c₅ = c₃ .before .before in
@@ -33,7 +33,7 @@ best-fits-spec =
     (λ c κs. search needs)
     (λ c κs. search needs)
     (λ c κs. search needs)
-    (λ c κs. let p = c .before .before .before .before .before .before .before .before .before .before .before .before .before .before .before .pre in (p .0, (omega (arith, p .1 .parts .room), p .1 .parts .eights, p .1 .parts .least, wholes _ (p .0) _ _ _ (p .1))))
+    (λ c κs. let p = c .before .before .before .before .before .before .before .before .before .before .before .before .before .before .before .pre in (p .0, (omega (arith, p .1 .parts .slots-fit), p .1 .parts .eights, p .1 .parts .least, wholes _ (p .0) _ _ _ (p .1))))
     (λ c.
     let c₂ = c .before .before in
     let c₃ = c₂ .before in

@@ -10,7 +10,7 @@ returns c =
 
 once-requires : tie.Need-once-requires
 once-requires c κs =
-    (c .before .before .before .pre .1 .0 .parts .room, reach _ (c .before .before .before .pre .0) _ _ _ (c .before .before .before .pre .1 .0) _ (c .before .before .before .pre .1 .1))
+    (c .before .before .before .pre .1 .0 .parts .slots-fit, reach _ (c .before .before .before .pre .0) _ _ _ (c .before .before .before .pre .1 .0) _ (c .before .before .before .pre .1 .1))
 
 returns-2 : tie.Need-returns-2
 returns-2 c =

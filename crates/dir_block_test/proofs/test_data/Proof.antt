@@ -6,7 +6,7 @@ use Rattle.dir_block_test.proofs.test_data.Tie as tie
 
 tiles-requires : tie.Need-tiles-requires
 tiles-requires c κs =
-    let p = c .before .pre .1 .0 in (c .before .pre .0, (omega (arith, p .room), p .eights, p .least))
+    let p = c .before .pre .1 .0 in (c .before .pre .0, (omega (arith, p .slots-fit), p .eights, p .least))
 
 returns : tie.Need-returns
 returns c =

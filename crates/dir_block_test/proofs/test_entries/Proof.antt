@@ -14,7 +14,7 @@ len0 = length-replicate {A = ℕ} record-places 0
 
 places-requires : tie.Need-places-requires
 places-requires c κs =
-    let p = c .before .before .before .pre .1 .0 in (p .parts .room, omega (arith, p .parts .room, p .parts .top), len0)
+    let p = c .before .before .before .pre .1 .0 in (p .parts .slots-fit, omega (arith, p .parts .slots-fit, p .parts .top), len0)
 
 faults-requires : tie.Need-faults-requires
 faults-requires c κs =
@@ -76,7 +76,7 @@ pub test-entries-spec : {M : Type 1} → statement M
 test-entries-spec =
     tie.close
     (tie.spec
-    (λ c κs. (c .before .pre .1 .0 .parts .room, c .before .pre .1 .1))
+    (λ c κs. (c .before .pre .1 .0 .parts .slots-fit, c .before .pre .1 .1))
     places-requires
     (λ c κs. search needs)
     faults-requires

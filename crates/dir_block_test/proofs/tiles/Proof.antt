@@ -1,7 +1,7 @@
 use native.Mathlib.Omega.{arith}
 use Prim.Native.Nat.{_-_}
 use mathlib.Core.Logic.{⊎-elim}
-use Rattle.dir_block_test.proofs.TileWalk.{Tiling, tiling-start, tiling-end, tiling-broken, tiling-touch, tiling-gap, tiling-entry, room, fits-here, least-here}
+use Rattle.dir_block_test.proofs.TileWalk.{Tiling, tiling-start, tiling-end, tiling-broken, tiling-touch, tiling-gap, tiling-entry, eight-left, fits-here, least-here}
 use Rattle.dir_block_test.proofs.tiles.Statement.{statement}
 use Rattle.dir_block_test.proofs.tiles.Tie as tie
 
@@ -19,7 +19,7 @@ loop-holds c =
 
 whole-len-requires : tie.Need-whole-len-requires Inv-loop μ-loop
 whole-len-requires c κs =
-    (c .before .before .before .pre .0, (room _ _ _ _ (c .before .before .before .pre .1 .0) (c .before .before .before .pre .1 .1) _ _ _ (c .before .loop .inv) (c .loop-test .taken), c .before .before .before .pre .1 .0))
+    (c .before .before .before .pre .0, (eight-left _ _ _ _ (c .before .before .before .pre .1 .0) (c .before .before .before .pre .1 .1) _ _ _ (c .before .loop .inv) (c .loop-test .taken), c .before .before .before .pre .1 .0))
 
 returns : tie.Need-returns Inv-loop μ-loop
 returns c =
@@ -30,7 +30,7 @@ returns c =
 
 is-gap-requires : tie.Need-is-gap-requires Inv-loop μ-loop
 is-gap-requires c κs =
-    omega (arith, room _ _ _ _ (c .before .before .before .before .before .pre .1 .0) (c .before .before .before .before .before .pre .1 .1) _ _ _ (c .before .before .before .loop .inv) (c .before .before .loop-test .taken))
+    omega (arith, eight-left _ _ _ _ (c .before .before .before .before .before .pre .1 .0) (c .before .before .before .before .before .pre .1 .1) _ _ _ (c .before .before .before .loop .inv) (c .before .before .loop-test .taken))
 
 returns-2 : tie.Need-returns-2 Inv-loop μ-loop
 returns-2 c =

@@ -1,7 +1,7 @@
 use mathlib.Core.Path.{refl}
 use Rattle.dir.specs.Target.{legal-type}
-use Rattle.dir_block_edit.proofs.type_legal.Statement.{statement}
-use Rattle.dir_block_edit.proofs.type_legal.Tie as tie
+use Rattle.dir.proofs.type_legal.Statement.{statement}
+use Rattle.dir.proofs.type_legal.Tie as tie
 
 returns : tie.Need-returns
 unfolding legal-type

@@ -1,10 +1,10 @@
 use Rattle.dir_block_edit.proofs.EntryStored.{placed}
 use borrow.Author.Needs.{needs}
-use Rattle.dir_block_edit.proofs.place.Statement.{statement}
-use Rattle.dir_block_edit.proofs.place.Tie as tie
+use Rattle.dir_block_edit.proofs.put_first.Statement.{statement}
+use Rattle.dir_block_edit.proofs.put_first.Tie as tie
 
-pub place-spec : {M : Type 1} → statement M
-place-spec =
+pub put-first-spec : {M : Type 1} → statement M
+put-first-spec =
     tie.close
     (tie.spec
     (λ c κs. search needs)

@@ -1,9 +1,9 @@
 use mathlib.Core.Path.{ap₂}
 use mathlib.Core.Bool.{Bool, _&&_}
 use Rattle.dir.specs.Target.{legal-target}
 use borrow.Author.Needs.{needs}
-use Rattle.dir_block_edit.proofs.target_legal.Statement.{statement}
-use Rattle.dir_block_edit.proofs.target_legal.Tie as tie
+use Rattle.dir.proofs.target_legal.Statement.{statement}
+use Rattle.dir.proofs.target_legal.Tie as tie
 
 returns : tie.Need-returns
 unfolding legal-target
