@@ -1,7 +1,11 @@
 //! The yardstick: an ordinary Rust checker of a block's rules, for timing only. Names are compared only where hashes are equal, and an
 //! entry's slot is found by binary search.
 
-const HEADER: usize = 16;
+use crate::model::Options;
+
+/// A constant, so that the sizes cost no time.
+const V4: Options = Options::V4;
+const HEADER: usize = V4.header;
 const TAIL: usize = 8;
 const GAP: u16 = 0xffff;
 
@@ -24,7 +28,7 @@ pub fn hash(name: &[u8]) -> u32 {
 }
 
 fn entry_size(namelen: usize) -> usize {
-    (namelen + 11).next_multiple_of(8)
+    (11 + V4.ftype + namelen).next_multiple_of(8)
 }
 
 struct Slot {
@@ -104,10 +108,10 @@ fn checked(name: &[u8]) -> (bool, u32) {
 
 impl<'a> Block<'a> {
     fn open(b: &'a [u8]) -> Result<Self, u32> {
-        if !b.len().is_power_of_two() || !(512..=16384).contains(&b.len()) {
+        if !b.len().is_power_of_two() || !(512..=V4.largest_block).contains(&(b.len() as u64)) {
             return Err(1);
         }
-        if be32(b, 0) != 0x5844_3242 {
+        if be32(b, 0) != V4.magic {
             return Err(2);
         }
         let tail = b.len() - TAIL;
@@ -116,7 +120,10 @@ impl<'a> Block<'a> {
             return Err(4);
         }
         let end = tail - 8 * count;
-        let pair = |i: usize| (be16(b, 4 + 4 * i), be16(b, 6 + 4 * i));
+        let pair = |i: usize| {
+            let at = V4.best_gaps + 4 * i;
+            (be16(b, at), be16(b, at + 2))
+        };
         Ok(Block {
             bytes: b,
             index: Index(b[end..tail].as_chunks().0),

@@ -5,7 +5,7 @@ mod common;
 
 use common::build::{self, INODE_SIZES};
 use common::calls::Lab;
-use common::{damage, images, names, rounds};
+use common::{damage, images, names, rounds, V4};
 use pelunziwa::model::{attr, END};
 
 const TESTS: [u32; 8] = [1, 2, 3, 4, 5, 6, 7, 10];
@@ -42,7 +42,7 @@ type Key = (Vec<u8>, u32);
 
 /// The names and flags that the inode holds, if it is right.
 fn held(inode: &[u8]) -> Vec<Key> {
-    match attr::read(inode) {
+    match attr::read(V4, inode) {
         Ok(attrs) => attrs
             .entries
             .into_iter()
@@ -103,7 +103,7 @@ fn value(lab: &mut Lab) -> Vec<u8> {
 fn place(lab: &mut Lab, inode: &[u8]) -> u64 {
     let rng = &mut lab.rng;
     let mut places = vec![0, 3, 4, 100, rng.next(), u64::MAX, 1 << 32 | 4];
-    if let Ok(attrs) = attr::read(inode) {
+    if let Ok(attrs) = attr::read(V4, inode) {
         places.extend(attrs.entries.iter().map(|entry| entry.place as u64));
         places.push(attrs.totsize as u64);
     }
@@ -134,7 +134,7 @@ fn set(lab: &mut Lab, inode: &[u8], name: &[u8], flags: u32, value: &[u8]) -> Ve
     if change.refusal != 0 {
         return change.bytes;
     }
-    let after = attr::read(&change.bytes).expect("a set leaves a right list");
+    let after = attr::read(V4, &change.bytes).expect("a set leaves a right list");
     if after.totsize == after.fork.len() {
         lab.cover.note("attr_set", "fills the fork");
     }
@@ -195,7 +195,7 @@ fn generated(lab: &mut Lab) {
 
 /// Sets that leave no byte of the fork, or miss it by one.
 fn exact_fit(lab: &mut Lab, inode: &[u8]) {
-    let Ok(attrs) = attr::read(inode) else {
+    let Ok(attrs) = attr::read(V4, inode) else {
         return;
     };
     let name = build::attr_name(&mut lab.rng, true);
@@ -274,7 +274,7 @@ fn list(lab: &mut Lab, mut inode: Vec<u8>) {
             _ => inode = lab.attr_remove(&inode, &name, flags).bytes,
         }
     }
-    assert_eq!(attr::test(&inode), 0);
+    assert_eq!(attr::test(V4, &inode), 0);
     walk(lab, &inode);
 }
 

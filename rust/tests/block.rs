@@ -5,7 +5,7 @@ mod common;
 
 use common::build::{self, BLOCK_SIZES};
 use common::calls::Lab;
-use common::{damage, images, names, rounds};
+use common::{damage, images, names, rounds, V4};
 use pelunziwa::model::{block, entry_size, END};
 
 const TESTS: [u32; 9] = [1, 2, 4, 5, 6, 7, 8, 9, 10];
@@ -51,7 +51,7 @@ fn blocks() {
 
 /// The names that the block holds, if it is right.
 fn held(bytes: &[u8]) -> Vec<Vec<u8>> {
-    match block::read(bytes) {
+    match block::read(V4, bytes) {
         Ok(block) => block.live().map(|(_, _, name)| name.to_vec()).collect(),
         Err(_) => Vec::new(),
     }
@@ -73,7 +73,7 @@ fn place(lab: &mut Lab, bytes: &[u8]) -> u64 {
         u64::MAX,
         1 << 32 | 16,
     ];
-    if let Ok(block) = block::read(bytes) {
+    if let Ok(block) = block::read(V4, bytes) {
         let offsets = block.live().map(|(offset, _, _)| offset as u64);
         places.extend(offsets);
         places.extend(block.gaps().iter().map(|gap| gap.0 as u64));
@@ -154,7 +154,7 @@ fn generated(lab: &mut Lab) {
 
 /// Inserts at the edge of each case of the room rule.
 fn exact_fits(lab: &mut Lab, bytes: &[u8]) {
-    let Ok(block) = block::read(bytes) else {
+    let Ok(block) = block::read(V4, bytes) else {
         return;
     };
     let at_slots = block.gaps().last().copied();
@@ -185,7 +185,7 @@ fn filling(lab: &mut Lab, room: usize) -> Option<Vec<u8>> {
         return None;
     }
     let len = lab.rng.between(shortest, longest);
-    assert_eq!(entry_size(len), room);
+    assert_eq!(entry_size(V4, len), room);
     Some(names::of_len(&mut lab.rng, len))
 }
 
@@ -259,7 +259,7 @@ fn list(lab: &mut Lab, mut block: Vec<u8>, calls: usize) {
             _ => block = remove(lab, block, &mut held),
         }
     }
-    assert_eq!(block::test(&block), 0);
+    assert_eq!(block::test(V4, &block), 0);
     if block.len() <= 2048 {
         walk(lab, &block);
     }

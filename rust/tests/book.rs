@@ -4,7 +4,7 @@
 mod common;
 
 use common::build::{self, BLOCK_SIZES};
-use common::{names, rounds, Rng};
+use common::{names, rounds, Rng, V4};
 use pelunziwa::{block, model, Refusal};
 use std::collections::BTreeMap;
 
@@ -40,15 +40,15 @@ fn calls_agree_with_the_book() {
 fn held(bytes: &[u8]) -> Book {
     assert_eq!(block::test(bytes), Ok(()));
     let entry = |live: (usize, u64, &[u8])| (live.2.to_vec(), live.1);
-    let block = model::block::read(bytes).expect("a right block");
+    let block = model::block::read(V4, bytes).expect("a right block");
     block.live().map(entry).collect()
 }
 
 /// Header, live entries, gaps, slots and tail.
 fn parts(bytes: &[u8]) -> usize {
-    let block = model::block::read(bytes).expect("a right block");
-    let live = block.live();
-    let live: usize = live.map(|(_, _, name)| model::entry_size(name.len())).sum();
+    let block = model::block::read(V4, bytes).expect("a right block");
+    let size = |(_, _, name): (usize, u64, &[u8])| model::entry_size(V4, name.len());
+    let live: usize = block.live().map(size).sum();
     let gaps: usize = block.gaps().iter().map(|gap| gap.1).sum();
     16 + live + gaps + 8 * block.slots.len() + 8
 }
@@ -68,8 +68,8 @@ fn one_call(rng: &mut Rng, bytes: &mut [u8], book: &mut Book) -> (&'static str, 
             let number = names::number(rng);
             let new = names::legal(rng);
             let name = rng.pick(&[name, new]);
-            let block = model::block::read(bytes).expect("a right block");
-            let room = block.room(name.len()).is_some();
+            let block = model::block::read(V4, bytes).expect("a right block");
+            let room = block.room(V4, name.len()).is_some();
             let want = book_insert(book, &name, number, room);
             assert_eq!(code(block::insert(bytes, &name, number)), want);
             ("insert", want.err().unwrap_or(0))
@@ -100,14 +100,14 @@ fn refill(rng: &mut Rng, bytes: &[u8], book: &Book, removed: usize) -> u32 {
 
 fn book_lookup(book: &Book, name: &[u8]) -> Result<u64, u32> {
     match book.get(name) {
-        _ if !model::legal_name(name) => Err(model::ASKED),
+        _ if !model::legal_name(V4, name) => Err(model::ASKED),
         Some(number) => Ok(*number),
         None => Err(model::ABSENT),
     }
 }
 
 fn book_insert(book: &mut Book, name: &[u8], number: u64, room: bool) -> Result<(), u32> {
-    if !model::legal_name(name) || !model::legal_number(number) {
+    if !model::legal_name(V4, name) || !model::legal_number(number) {
         Err(model::ASKED)
     } else if model::is_dot(name) {
         Err(model::FIXED)
@@ -122,7 +122,7 @@ fn book_insert(book: &mut Book, name: &[u8], number: u64, room: bool) -> Result<
 }
 
 fn book_remove(book: &mut Book, name: &[u8]) -> Result<(), u32> {
-    if !model::legal_name(name) {
+    if !model::legal_name(V4, name) {
         Err(model::ASKED)
     } else if model::is_dot(name) {
         Err(model::FIXED)

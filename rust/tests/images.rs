@@ -4,6 +4,7 @@
 mod common;
 
 use common::images::{self, Check, Image};
+use common::V4;
 use pelunziwa::{attr, block, inode, model, sfdir, Refusal};
 use std::collections::{BTreeMap, BTreeSet};
 use std::fs;
@@ -46,14 +47,14 @@ fn try_check(image: &Image, check: &Check, counts: &mut Counts) {
     let (library, model) = match check.call.as_str() {
         "inode" => (
             code(inode::test(&bytes)),
-            model::inode::test(&bytes).refusal,
+            model::inode::test(V4, &bytes).refusal,
         ),
         "sfdir" => (
             code(sfdir::test(&bytes, size)),
-            model::sfdir::test(&bytes, size),
+            model::sfdir::test(V4, &bytes, size),
         ),
-        "attr" => (code(attr::test(&bytes)), model::attr::test(&bytes)),
-        "block" => (code(block::test(&bytes)), model::block::test(&bytes)),
+        "attr" => (code(attr::test(&bytes)), model::attr::test(V4, &bytes)),
+        "block" => (code(block::test(&bytes)), model::block::test(V4, &bytes)),
         "room" => return rooms(image, check, counts),
         call => panic!("{file}: no such check: {call}"),
     };
@@ -208,7 +209,7 @@ fn listed_block(file: &str, bytes: &[u8], list: &[Listed]) {
     for entry in list {
         let found = block::lookup(bytes, &entry.name);
         assert_eq!(found.map(|f| f.number), Ok(entry.number), "{file}");
-        let stored = model::block::lookup(bytes, &entry.name);
+        let stored = model::block::lookup(V4, bytes, &entry.name);
         assert_eq!(found.map(|f| f.compared), Ok(stored.compared), "{file}");
     }
 }

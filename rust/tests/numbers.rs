@@ -1,6 +1,6 @@
 //! The paper's own numbers and the dumps of its sources, given by the model alone and by the library.
 
-use pelunziwa::model;
+use pelunziwa::model::{self, Options};
 
 /// The calls that the numbers need; 0 or the refusal's number.
 struct Calls {
@@ -15,6 +15,7 @@ struct Calls {
 }
 
 const BLOCK_SIZE: u64 = 4096;
+const V4: &Options = &Options::V4;
 
 fn kept(bytes: &mut Vec<u8>, change: model::Change) -> u32 {
     *bytes = change.bytes;
@@ -24,25 +25,25 @@ fn kept(bytes: &mut Vec<u8>, change: model::Change) -> u32 {
 const MODEL: Calls = Calls {
     hash: model::hash,
     block_insert: |block, name, number| {
-        let change = model::block::insert(block, name, number);
+        let change = model::block::insert(V4, block, name, number);
         kept(block, change)
     },
     block_remove: |block, name| {
-        let change = model::block::remove(block, name);
+        let change = model::block::remove(V4, block, name);
         kept(block, change)
     },
-    sfdir_test: |inode| model::sfdir::test(inode, BLOCK_SIZE),
+    sfdir_test: |inode| model::sfdir::test(V4, inode, BLOCK_SIZE),
     sfdir_insert: |inode, name, number| {
-        let change = model::sfdir::insert(inode, BLOCK_SIZE, name, number);
+        let change = model::sfdir::insert(V4, inode, BLOCK_SIZE, name, number);
         kept(inode, change)
     },
     sfdir_remove: |inode, name| {
-        let change = model::sfdir::remove(inode, BLOCK_SIZE, name);
+        let change = model::sfdir::remove(V4, inode, BLOCK_SIZE, name);
         kept(inode, change)
     },
-    attr_test: model::attr::test,
+    attr_test: |inode| model::attr::test(V4, inode),
     attr_set: |inode, name, flags, value| {
-        let change = model::attr::set(inode, name, flags, value);
+        let change = model::attr::set(V4, inode, name, flags, value);
         kept(inode, change)
     },
 };
@@ -162,7 +163,7 @@ fn c5() {
         assert_eq!((calls.block_remove)(&mut block, &[b'z'; 117]), 0);
         assert_eq!(pairs(&block)[0].1, 144);
         assert_eq!(tail(&block).1, 2);
-        let room = |len: usize| model::block::read(&block).unwrap().room(len);
+        let room = |len: usize| model::block::read(V4, &block).unwrap().room(V4, len);
         assert_eq!(room(141), Some(model::block::Room::B));
         assert_eq!(room(142), None);
         assert_eq!((calls.block_insert)(&mut block, &[b'w'; 142], 134), 15);

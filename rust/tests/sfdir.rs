@@ -5,7 +5,7 @@ mod common;
 
 use common::build::{self, BLOCK_SIZES, INODE_SIZES};
 use common::calls::Lab;
-use common::{damage, images, names, rounds};
+use common::{damage, images, names, rounds, V4};
 use pelunziwa::model::{sfdir, END};
 
 const TESTS: [u32; 9] = [1, 2, 3, 4, 5, 6, 7, 8, 10];
@@ -42,7 +42,7 @@ fn short_form_directories() {
 
 /// The names that the directory holds, if it is right.
 fn held(inode: &[u8], block_size: u64) -> Vec<Vec<u8>> {
-    match sfdir::read(inode, block_size) {
+    match sfdir::read(V4, inode, block_size) {
         Ok(dir) => dir.entries.into_iter().map(|entry| entry.name).collect(),
         Err(_) => Vec::new(),
     }
@@ -52,7 +52,7 @@ fn held(inode: &[u8], block_size: u64) -> Vec<Vec<u8>> {
 fn place(lab: &mut Lab, inode: &[u8], block_size: u64) -> u64 {
     let rng = &mut lab.rng;
     let mut places = vec![0, 6, 10, 100, 106, rng.next(), u64::MAX, 1 << 32 | 6];
-    if let Ok(dir) = sfdir::read(inode, block_size) {
+    if let Ok(dir) = sfdir::read(V4, inode, block_size) {
         places.extend(dir.entries.iter().map(|entry| entry.place as u64));
         places.push(dir.size as u64);
     }
@@ -149,7 +149,7 @@ fn generated(lab: &mut Lab) {
 
 /// Inserts that leave no byte of the fork, or miss it by one.
 fn exact_fit(lab: &mut Lab, inode: &[u8], size: u64) {
-    let Ok(dir) = sfdir::read(inode, size) else {
+    let Ok(dir) = sfdir::read(V4, inode, size) else {
         return;
     };
     let wide = lab.rng.one_in(2);
@@ -178,7 +178,7 @@ fn insert(
 ) -> pelunziwa::model::Change {
     let change = lab.sfdir_insert(inode, size, name, number);
     let full = |dir: sfdir::Dir| dir.size == dir.fork.len();
-    if change.refusal == 0 && sfdir::read(&change.bytes, size).is_ok_and(full) {
+    if change.refusal == 0 && sfdir::read(V4, &change.bytes, size).is_ok_and(full) {
         lab.cover.note("sfdir_insert", "fills the fork");
     }
     change
@@ -263,6 +263,6 @@ fn list(lab: &mut Lab, mut inode: Vec<u8>, size: u64) {
             }
         }
     }
-    assert_eq!(sfdir::test(&inode, size), 0);
+    assert_eq!(sfdir::test(V4, &inode, size), 0);
     walk(lab, &inode, size);
 }

@@ -3,7 +3,7 @@
 mod common;
 
 use common::build::{self, INODE_SIZES};
-use common::{names, rounds, Rng};
+use common::{names, rounds, Rng, V4};
 use pelunziwa::{attr, block, inode, model, sfdir, Refusal, Seen};
 
 fn code<T>(result: &Result<T, Refusal>) -> u32 {
@@ -43,7 +43,7 @@ fn inodes() {
         let mut bytes = build::attrs(&mut rng, len, &[]);
         bytes[82] = rng.byte();
         bytes[4] = rng.below(4) as u8;
-        let want = model::inode::test(&bytes);
+        let want = model::inode::test(V4, &bytes);
         let got = inode::test(&bytes);
         assert_eq!(code(&got), want.refusal);
         if let Ok(core) = got {
@@ -67,13 +67,13 @@ fn blocks() {
         let faults = build::faults(&mut rng);
         let mut bytes = build::block(&mut rng, len, &faults);
         listed_block(&bytes);
-        let held = match model::block::read(&bytes) {
+        let held = match model::block::read(V4, &bytes) {
             Ok(block) => block.live().map(|entry| entry.2.to_vec()).collect(),
             Err(_) => Vec::new(),
         };
         for _ in 0..10 {
             let name = names::asked(&mut rng, &held);
-            let want = model::block::lookup(&bytes, &name);
+            let want = model::block::lookup(V4, &bytes, &name);
             match block::lookup(&bytes, &name) {
                 Ok(found) => assert_eq!((0, found.number), (want.refusal, want.number)),
                 Err(missed) => assert_eq!(missed.refusal.number(), want.refusal),
@@ -82,11 +82,11 @@ fn blocks() {
             let compared = compared.map_or_else(|missed| missed.compared, |f| f.compared);
             assert_eq!(compared, want.compared);
             let number = names::number(&mut rng);
-            let want = model::block::insert(&bytes, &name, number);
+            let want = model::block::insert(V4, &bytes, &name, number);
             let got = block::insert(&mut bytes, &name, number);
             assert_eq!((code(&got), &bytes), (want.refusal, &want.bytes));
             let name = names::asked(&mut rng, &held);
-            let want = model::block::remove(&bytes, &name);
+            let want = model::block::remove(V4, &bytes, &name);
             let got = block::remove(&mut bytes, &name);
             assert_eq!((code(&got), &bytes), (want.refusal, &want.bytes));
         }
@@ -97,8 +97,8 @@ fn blocks() {
 /// The entries as the model has them, or one refusal.
 fn listed_block(bytes: &[u8]) {
     let got: Result<Vec<_>, Refusal> = block::entries(bytes).collect();
-    assert_eq!(code(&block::test(bytes)), model::block::test(bytes));
-    match model::block::read(bytes) {
+    assert_eq!(code(&block::test(bytes)), model::block::test(V4, bytes));
+    match model::block::read(V4, bytes) {
         Ok(block) => {
             let got = got.expect("a right block is listed");
             let got = got.iter().map(|e| (e.tag as usize, e.number, e.name));
@@ -122,20 +122,20 @@ fn short_form_directories() {
         let (mut bytes, size) = build::sfdir(&mut rng, len, &faults);
         listed_sfdir(&bytes, size);
         for _ in 0..10 {
-            let held = match model::sfdir::read(&bytes, size) {
+            let held = match model::sfdir::read(V4, &bytes, size) {
                 Ok(dir) => dir.entries.into_iter().map(|entry| entry.name).collect(),
                 Err(_) => Vec::new(),
             };
             let name = names::asked(&mut rng, &held);
-            let want = model::sfdir::lookup(&bytes, size, &name);
+            let want = model::sfdir::lookup(V4, &bytes, size, &name);
             let got = sfdir::lookup(&bytes, size, &name);
             assert_eq!((code(&got), got.unwrap_or(0)), (want.refusal, want.number));
             let number = names::number(&mut rng);
-            let want = model::sfdir::insert(&bytes, size, &name, number);
+            let want = model::sfdir::insert(V4, &bytes, size, &name, number);
             let got = sfdir::insert(&mut bytes, size, &name, number);
             assert_eq!((code(&got), &bytes), (want.refusal, &want.bytes));
             let name = names::asked(&mut rng, &held);
-            let want = model::sfdir::remove(&bytes, size, &name);
+            let want = model::sfdir::remove(V4, &bytes, size, &name);
             let got = sfdir::remove(&mut bytes, size, &name);
             assert_eq!((code(&got), &bytes), (want.refusal, &want.bytes));
         }
@@ -147,9 +147,9 @@ fn listed_sfdir(bytes: &[u8], size: u64) {
     let got: Result<Vec<_>, Refusal> = sfdir::entries(bytes, size).collect();
     assert_eq!(
         code(&sfdir::test(bytes, size)),
-        model::sfdir::test(bytes, size)
+        model::sfdir::test(V4, bytes, size)
     );
-    match model::sfdir::read(bytes, size) {
+    match model::sfdir::read(V4, bytes, size) {
         Ok(dir) => {
             let got = got.expect("a right directory is listed");
             let got = got.iter().map(|e| (e.tag as usize, e.number, e.name));
@@ -171,7 +171,7 @@ fn short_form_attributes() {
         for _ in 0..10 {
             let flags = rng.pick(&[attr::USER, attr::TRUSTED, attr::SECURE, 1, 6]);
             let name = build::attr_name(&mut rng, true);
-            let want = model::attr::lookup(&bytes, &name, flags);
+            let want = model::attr::lookup(V4, &bytes, &name, flags);
             let got = attr::lookup(&bytes, &name, flags);
             assert_eq!(code(&got), want.refusal);
             if let Ok(value) = got {
@@ -181,11 +181,11 @@ fn short_form_attributes() {
             }
             let len = rng.pick(&[0, 1, 5, 255, 256]);
             let value = rng.bytes(len);
-            let want = model::attr::set(&bytes, &name, flags, &value);
+            let want = model::attr::set(V4, &bytes, &name, flags, &value);
             let got = attr::set(&mut bytes, &name, flags, &value);
             assert_eq!((code(&got), &bytes), (want.refusal, &want.bytes));
             let name = build::attr_name(&mut rng, true);
-            let want = model::attr::remove(&bytes, &name, flags);
+            let want = model::attr::remove(V4, &bytes, &name, flags);
             let got = attr::remove(&mut bytes, &name, flags);
             assert_eq!((code(&got), &bytes), (want.refusal, &want.bytes));
         }
@@ -195,8 +195,8 @@ fn short_form_attributes() {
 
 fn listed_attrs(bytes: &[u8]) {
     let got: Result<Vec<_>, Refusal> = attr::entries(bytes).collect();
-    assert_eq!(code(&attr::test(bytes)), model::attr::test(bytes));
-    match model::attr::read(bytes) {
+    assert_eq!(code(&attr::test(bytes)), model::attr::test(V4, bytes));
+    match model::attr::read(V4, bytes) {
         Ok(attrs) => {
             let got = got.expect("right attributes are listed");
             let got = got.iter().map(|e| (e.flags, e.name, e.value));

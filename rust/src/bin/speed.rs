@@ -3,12 +3,14 @@
 //! Each row's contenders take turns, so that a busy moment of the machine falls on all of them. Full blocks are filled by the library's
 //! own insert, with names from fixed seeds.
 
-use pelunziwa::{block, hash, model, yardstick, Refusal};
+use pelunziwa::model::{self, Options};
+use pelunziwa::{block, hash, yardstick, Refusal};
 use std::hint::black_box;
 use std::time::Instant;
 
 const ROUNDS: usize = 61;
 const BLOCKS: u64 = 16;
+const V4: &Options = &Options::V4;
 
 struct Random(u64);
 
@@ -132,7 +134,7 @@ fn tests(blocks: &[Full]) -> [f64; 3] {
         [
             each(library),
             each(yardstick::test),
-            each(model::block::test),
+            each(|b| model::block::test(V4, b)),
         ],
     )
 }
@@ -160,7 +162,7 @@ fn lookups(blocks: &[Full]) -> [f64; 3] {
             }),
             Box::new(|| {
                 for (b, n) in &asked {
-                    assert_eq!(model::block::lookup(black_box(b), n).refusal, 0);
+                    assert_eq!(model::block::lookup(V4, black_box(b), n).refusal, 0);
                 }
             }),
         ],
@@ -189,8 +191,8 @@ fn changes(blocks: &[Full]) -> [f64; 2] {
             }),
             Box::new(|| {
                 for (b, n) in &taken {
-                    let put = model::block::insert(black_box(b), n, 5);
-                    assert_eq!(model::block::remove(&put.bytes, n).refusal, 0);
+                    let put = model::block::insert(V4, black_box(b), n, 5);
+                    assert_eq!(model::block::remove(V4, &put.bytes, n).refusal, 0);
                 }
             }),
         ],

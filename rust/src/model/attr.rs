@@ -48,11 +48,11 @@ fn legal_flags(flags: u32) -> bool {
 }
 
 /// Tests 1 to 10.
-pub fn read(inode: &[u8]) -> Result<Attrs, u32> {
-    let core = inode::read(inode)?;
+pub fn read(options: &Options, inode: &[u8]) -> Result<Attrs, u32> {
+    let core = inode::read(options, inode)?;
     want(core.aformat == 1 && core.forkoff != 0, KIND)?;
 
-    let fork = inode::attr_fork(&core, inode.len());
+    let fork = inode::attr_fork(options, &core, inode.len());
     want(fork.len() >= HEADER, SPAN)?;
     let totsize = field(inode, fork.start, 2) as usize;
     want((HEADER..=fork.len()).contains(&totsize), SPAN)?;
@@ -95,12 +95,12 @@ fn records(list: &[u8]) -> Result<Vec<Entry>, u32> {
     Ok(entries)
 }
 
-pub fn test(inode: &[u8]) -> u32 {
-    code(read(inode))
+pub fn test(options: &Options, inode: &[u8]) -> u32 {
+    code(read(options, inode))
 }
 
-pub fn lookup(inode: &[u8], name: &[u8], flags: u32) -> Place {
-    match seek(inode, name, flags) {
+pub fn lookup(options: &Options, inode: &[u8], name: &[u8], flags: u32) -> Place {
+    match seek(options, inode, name, flags) {
         Ok((attrs, index)) => {
             let entry = &attrs.entries[index];
             Place {
@@ -117,28 +117,28 @@ pub fn lookup(inode: &[u8], name: &[u8], flags: u32) -> Place {
 }
 
 /// The list and which of its entries it is.
-fn seek(inode: &[u8], name: &[u8], flags: u32) -> Result<(Attrs, usize), u32> {
-    let attrs = asked(inode, name, flags)?;
+fn seek(options: &Options, inode: &[u8], name: &[u8], flags: u32) -> Result<(Attrs, usize), u32> {
+    let attrs = asked(options, inode, name, flags)?;
     let index = attrs.entries.iter().position(|e| e.is(name, flags));
     Ok((attrs, index.ok_or(ABSENT)?))
 }
 
 /// Tests 1 to 11.
-fn asked(inode: &[u8], name: &[u8], flags: u32) -> Result<Attrs, u32> {
-    let attrs = read(inode)?;
+fn asked(options: &Options, inode: &[u8], name: &[u8], flags: u32) -> Result<Attrs, u32> {
+    let attrs = read(options, inode)?;
     want(legal_attr_name(name) && legal_flags(flags), ASKED)?;
     Ok(attrs)
 }
 
-pub fn step(inode: &[u8], place: u64) -> AttrStep {
-    walk(inode, place).unwrap_or_else(|refusal| AttrStep {
+pub fn step(options: &Options, inode: &[u8], place: u64) -> AttrStep {
+    walk(options, inode, place).unwrap_or_else(|refusal| AttrStep {
         refusal,
         ..AttrStep::default()
     })
 }
 
-fn walk(inode: &[u8], place: u64) -> Result<AttrStep, u32> {
-    let attrs = read(inode)?;
+fn walk(options: &Options, inode: &[u8], place: u64) -> Result<AttrStep, u32> {
+    let attrs = read(options, inode)?;
     if place == attrs.totsize as u64 {
         return Ok(AttrStep {
             seen: END,
@@ -161,8 +161,8 @@ fn walk(inode: &[u8], place: u64) -> Result<AttrStep, u32> {
     })
 }
 
-pub fn set(inode: &[u8], name: &[u8], flags: u32, value: &[u8]) -> Change {
-    let attrs = match asked(inode, name, flags) {
+pub fn set(options: &Options, inode: &[u8], name: &[u8], flags: u32, value: &[u8]) -> Change {
+    let attrs = match asked(options, inode, name, flags) {
         Ok(attrs) => attrs,
         Err(refusal) => return Change::refused(refusal, inode),
     };
@@ -193,8 +193,8 @@ pub fn set(inode: &[u8], name: &[u8], flags: u32, value: &[u8]) -> Change {
     change
 }
 
-pub fn remove(inode: &[u8], name: &[u8], flags: u32) -> Change {
-    match seek(inode, name, flags) {
+pub fn remove(options: &Options, inode: &[u8], name: &[u8], flags: u32) -> Change {
+    match seek(options, inode, name, flags) {
         Ok((attrs, index)) => {
             let mut entries = attrs.entries.clone();
             entries.remove(index);

@@ -3,9 +3,6 @@
 use super::*;
 use std::collections::{BTreeMap, BTreeSet};
 
-/// The magic and three (offset, length) pairs.
-const HEADER: usize = 16;
-const BLOCK_MAGIC: u64 = 0x5844_3242;
 /// What a gap's first two bytes say; no legal inode number starts so.
 const GAP_MARK: u64 = 0xffff;
 
@@ -13,6 +10,7 @@ const GAP_MARK: u64 = 0xffff;
 pub enum Record {
     Live {
         offset: usize,
+        len: usize,
         number: u64,
         name: Vec<u8>,
     },
@@ -31,8 +29,7 @@ impl Record {
 
     fn len(&self) -> usize {
         match self {
-            Record::Live { name, .. } => entry_size(name.len()),
-            Record::Gap { len, .. } => *len,
+            Record::Live { len, .. } | Record::Gap { len, .. } => *len,
         }
     }
 
@@ -78,26 +75,27 @@ pub enum Room {
 }
 
 /// Tests 1 to 10.
-pub fn read(bytes: &[u8]) -> Result<Block, u32> {
-    let block = tile(bytes)?;
-    want(block.names_right(), NAME)?;
+pub fn read(options: &Options, bytes: &[u8]) -> Result<Block, u32> {
+    let block = tile(options, bytes)?;
+    want(block.names_right(options), NAME)?;
     let numbers = || block.live().map(|(_, number, _)| number);
     want(numbers().all(legal_number), NUMBER)?;
-    want(block.index_right(), INDEX)?;
+    want(block.index_right(options), INDEX)?;
     want(block.best_right(), BEST)?;
-    let different: BTreeSet<&[u8]> = block.live().map(|(_, _, name)| name).collect();
-    want(different.len() == block.live().count(), TWICE)?;
+    let names = block.live().map(|(_, _, name)| name);
+    want(all_differ(options, names), TWICE)?;
     Ok(block)
 }
 
 /// Tests 1 to 5.
-fn tile(bytes: &[u8]) -> Result<Block, u32> {
-    want(legal_block_size(bytes.len() as u64), SIZE)?;
-    want(field(bytes, 0, 4) == BLOCK_MAGIC, MAGIC)?;
+fn tile(options: &Options, bytes: &[u8]) -> Result<Block, u32> {
+    want(legal_block_size(options, bytes.len() as u64), SIZE)?;
+    want(field(bytes, 0, 4) == u64::from(options.magic), MAGIC)?;
     let tail = bytes.len() - 8;
     let count = field(bytes, tail, 4);
     let stale = field(bytes, tail + 4, 4);
-    want(16 + 8 * count + 8 <= bytes.len() as u64, SPAN)?;
+    let least = options.header as u64 + 8 * count + 8;
+    want(least <= bytes.len() as u64, SPAN)?;
     want(stale <= count, SPAN)?;
 
     let first_slot = tail - 8 * count as usize;
@@ -105,25 +103,26 @@ fn tile(bytes: &[u8]) -> Result<Block, u32> {
         hash: field(bytes, place, 4) as u32,
         address: field(bytes, place + 4, 4) as u32,
     };
-    let pair = |place: usize| {
+    let pair = |rank: usize| {
+        let place = pair_place(options, rank);
         let number = |place: usize| field(bytes, place, 2) as usize;
         (number(place), number(place + 2))
     };
     Ok(Block {
         len: bytes.len(),
-        pairs: [4, 8, 12].into_iter().map(pair).collect(),
-        records: records(bytes, first_slot)?,
+        pairs: (0..3).map(pair).collect(),
+        records: records(options, bytes, first_slot)?,
         slots: (first_slot..tail).step_by(8).map(slot).collect(),
         stale: stale as usize,
     })
 }
 
 /// The records when they fill the data exactly.
-fn records(bytes: &[u8], data_end: usize) -> Result<Vec<Record>, u32> {
+fn records(options: &Options, bytes: &[u8], data_end: usize) -> Result<Vec<Record>, u32> {
     let mut records: Vec<Record> = Vec::new();
-    let mut place = HEADER;
+    let mut place = options.header;
     while place < data_end {
-        let record = record_at(bytes, place, data_end)?;
+        let record = record_at(options, bytes, place, data_end)?;
         let touches = record.is_gap() && records.last().is_some_and(Record::is_gap);
         want(!touches, TILE)?;
         place = record.end();
@@ -132,18 +131,25 @@ fn records(bytes: &[u8], data_end: usize) -> Result<Vec<Record>, u32> {
     Ok(records)
 }
 
-fn record_at(bytes: &[u8], offset: usize, data_end: usize) -> Result<Record, u32> {
+fn record_at(
+    options: &Options,
+    bytes: &[u8],
+    offset: usize,
+    data_end: usize,
+) -> Result<Record, u32> {
     let record = if field(bytes, offset, 2) == GAP_MARK {
         let len = field(bytes, offset + 2, 2) as usize;
         want(len % 8 == 0 && len >= 8, TILE)?;
         Record::Gap { offset, len }
     } else {
-        // The shortest entry takes 16 bytes.
-        want(offset + 16 <= data_end, TILE)?;
+        // Even the shortest entry has its name's length in the data.
+        want(offset + entry_size(options, 0) <= data_end, TILE)?;
         let name_len = field(bytes, offset + 8, 1) as usize;
-        want(offset + entry_size(name_len) <= data_end, TILE)?;
+        let len = entry_size(options, name_len);
+        want(offset + len <= data_end, TILE)?;
         Record::Live {
             offset,
+            len,
             number: field(bytes, offset, 8),
             name: bytes[offset + 9..offset + 9 + name_len].to_vec(),
         }
@@ -162,6 +168,7 @@ impl Block {
                 offset,
                 number,
                 name,
+                ..
             } => Some((*offset, *number, &name[..])),
             Record::Gap { .. } => None,
         })
@@ -178,23 +185,24 @@ impl Block {
         self.len - 8 - 8 * self.slots.len()
     }
 
-    /// "." sits at 16 and ".." at 32, nowhere else, and every name is legal.
-    fn names_right(&self) -> bool {
+    /// "." sits at the data's start and ".." after it, nowhere else, and every name is legal.
+    fn names_right(&self, options: &Options) -> bool {
         let at = |wanted: &[u8]| -> Vec<usize> {
             let named = self.live().filter(|(_, _, name)| *name == wanted);
             named.map(|(offset, _, _)| offset).collect()
         };
-        let legal = self.live().all(|(_, _, name)| legal_name(name));
-        legal && at(b".") == [16] && at(b"..") == [32]
+        let legal = self.live().all(|(_, _, name)| legal_name(options, name));
+        let second = options.header + entry_size(options, 1);
+        legal && at(b".") == [options.header] && at(b"..") == [second]
     }
 
-    fn index_right(&self) -> bool {
+    fn index_right(&self, options: &Options) -> bool {
         let rising = self.slots.windows(2).all(|two| two[0].hash <= two[1].hash);
         let stale = self.slots.iter().filter(|slot| slot.is_stale()).count();
         // Each live entry wants one slot; taking wanted ones out leaves none when each has exactly one.
         let mut wanted: BTreeMap<u32, u32> = self
             .live()
-            .map(|(offset, _, name)| (offset as u32 / 8, hash(name)))
+            .map(|(offset, _, name)| (offset as u32 / 8, name_hash(options, name)))
             .collect();
         let mut live = self.slots.iter().filter(|slot| !slot.is_stale());
         let known = live.all(|slot| wanted.remove(&slot.address) == Some(slot.hash));
@@ -218,15 +226,18 @@ impl Block {
     }
 
     /// The live slots with the name's hash, in slot order.
-    fn candidates(&self, name: &[u8]) -> Vec<Slot> {
-        let hash = hash(name);
+    fn candidates(&self, options: &Options, name: &[u8]) -> Vec<Slot> {
+        let hash = name_hash(options, name);
         let same = |slot: &&Slot| !slot.is_stale() && slot.hash == hash;
         self.slots.iter().filter(same).copied().collect()
     }
 
     /// The record of a name.
-    fn position(&self, wanted: &[u8]) -> Option<usize> {
-        let is = |record: &Record| matches!(record, Record::Live { name, .. } if name == wanted);
+    fn position(&self, options: &Options, wanted: &[u8]) -> Option<usize> {
+        let is = |record: &Record| match record {
+            Record::Live { name, .. } => same_name(options, name, wanted),
+            Record::Gap { .. } => false,
+        };
         self.records.iter().position(is)
     }
 
@@ -239,8 +250,8 @@ impl Block {
     }
 
     /// The first case of the room rule that holds.
-    pub fn room(&self, name_len: usize) -> Option<Room> {
-        let need = entry_size(name_len);
+    pub fn room(&self, options: &Options, name_len: usize) -> Option<Room> {
+        let need = entry_size(options, name_len);
         let slot_gap = self.slot_gap();
         let some_stale = self.stale >= 1;
         let fits = |gap: &(usize, usize)| gap.1 >= need;
@@ -263,6 +274,11 @@ impl Block {
     }
 }
 
+/// Where a pair of the best-gap table stands.
+fn pair_place(options: &Options, rank: usize) -> usize {
+    options.best_gaps + 4 * rank
+}
+
 /// The three longest gaps, lower offset first among equals, zero where there is none.
 fn best_pairs(gaps: &[(usize, usize)]) -> Vec<(usize, usize)> {
     let mut pairs = gaps.to_vec();
@@ -272,12 +288,12 @@ fn best_pairs(gaps: &[(usize, usize)]) -> Vec<(usize, usize)> {
     pairs
 }
 
-pub fn test(bytes: &[u8]) -> u32 {
-    code(read(bytes))
+pub fn test(options: &Options, bytes: &[u8]) -> u32 {
+    code(read(options, bytes))
 }
 
-pub fn lookup(bytes: &[u8], name: &[u8]) -> Found {
-    match seek(bytes, name) {
+pub fn lookup(options: &Options, bytes: &[u8], name: &[u8]) -> Found {
+    match seek(options, bytes, name) {
         Ok(found) => found,
         Err(refusal) => Found {
             refusal,
@@ -286,14 +302,15 @@ pub fn lookup(bytes: &[u8], name: &[u8]) -> Found {
     }
 }
 
-fn seek(bytes: &[u8], wanted: &[u8]) -> Result<Found, u32> {
-    let block = read(bytes)?;
-    want(legal_name(wanted), ASKED)?;
+fn seek(options: &Options, bytes: &[u8], wanted: &[u8]) -> Result<Found, u32> {
+    let block = read(options, bytes)?;
+    want(legal_name(options, wanted), ASKED)?;
     let mut compared = 0;
-    for slot in block.candidates(wanted) {
+    for slot in block.candidates(options, wanted) {
         compared += 1;
         let offset = 8 * slot.address as usize;
-        let same = |entry: &(usize, u64, &[u8])| entry.0 == offset && entry.2 == wanted;
+        let same =
+            |entry: &(usize, u64, &[u8])| entry.0 == offset && same_name(options, entry.2, wanted);
         if let Some((_, number, _)) = block.live().find(same) {
             return Ok(Found {
                 refusal: 0,
@@ -309,15 +326,15 @@ fn seek(bytes: &[u8], wanted: &[u8]) -> Result<Found, u32> {
     })
 }
 
-pub fn step(bytes: &[u8], place: u64) -> Step {
-    walk(bytes, place).unwrap_or_else(|refusal| Step {
+pub fn step(options: &Options, bytes: &[u8], place: u64) -> Step {
+    walk(options, bytes, place).unwrap_or_else(|refusal| Step {
         refusal,
         ..Step::default()
     })
 }
 
-fn walk(bytes: &[u8], place: u64) -> Result<Step, u32> {
-    let block = read(bytes)?;
+fn walk(options: &Options, bytes: &[u8], place: u64) -> Result<Step, u32> {
+    let block = read(options, bytes)?;
     if place == block.data_end() as u64 {
         return Ok(Step {
             seen: END,
@@ -339,6 +356,7 @@ fn walk(bytes: &[u8], place: u64) -> Result<Step, u32> {
             offset,
             number,
             name,
+            ..
         } => Step {
             refusal: 0,
             seen: LIVE,
@@ -350,43 +368,45 @@ fn walk(bytes: &[u8], place: u64) -> Result<Step, u32> {
     })
 }
 
-pub fn insert(bytes: &[u8], name: &[u8], number: u64) -> Change {
-    let block = match insertable(bytes, name, number) {
+pub fn insert(options: &Options, bytes: &[u8], name: &[u8], number: u64) -> Change {
+    let block = match insertable(options, bytes, name, number) {
         Ok(block) => block,
         Err(refusal) => return Change::refused(refusal, bytes),
     };
-    let Some(room) = block.room(name.len()) else {
+    let Some(room) = block.room(options, name.len()) else {
         return Change::no_room(bytes, "no room");
     };
-    let notes = block.notes(room, hash(name));
+    let (hash, need) = (name_hash(options, name), entry_size(options, name.len()));
+    let notes = block.notes(room, hash);
     let mut after = block.clone();
-    let hole = after.make_room(room, entry_size(name.len()));
+    let hole = after.make_room(room, need);
     let (offset, len) = (after.records[hole].offset(), after.records[hole].len());
     let entry = Record::Live {
         offset,
+        len: need,
         number,
         name: name.to_vec(),
     };
     let rest = Record::Gap {
         offset: entry.end(),
-        len: len - entry.len(),
+        len: len - need,
     };
     after.records.splice(hole..=hole, [entry, rest]);
     after.records.retain(|record| record.len() > 0);
-    after.add_slot(hash(name), offset);
+    after.add_slot(hash, offset);
     Change {
         refusal: 0,
-        bytes: after.write(bytes, Some(offset)),
+        bytes: after.write(options, bytes, Some(offset)),
         notes,
     }
 }
 
 /// Every test before that of room.
-fn insertable(bytes: &[u8], name: &[u8], number: u64) -> Result<Block, u32> {
-    let block = read(bytes)?;
-    want(legal_name(name) && legal_number(number), ASKED)?;
+fn insertable(options: &Options, bytes: &[u8], name: &[u8], number: u64) -> Result<Block, u32> {
+    let block = read(options, bytes)?;
+    want(legal_name(options, name) && legal_number(number), ASKED)?;
     want(!is_dot(name), FIXED)?;
-    want(block.position(name).is_none(), EXISTS)?;
+    want(block.position(options, name).is_none(), EXISTS)?;
     Ok(block)
 }
 
@@ -484,7 +504,7 @@ impl Block {
 
     /// The block as bytes: gaps' fields, index, tail and pairs over what stood there, and the entry that is
     /// new at `fresh`. Entries never move, so the others stand already.
-    fn write(&self, before: &[u8], fresh: Option<usize>) -> Vec<u8> {
+    fn write(&self, options: &Options, before: &[u8], fresh: Option<usize>) -> Vec<u8> {
         let mut bytes = before.to_vec();
         for record in &self.records {
             match record {
@@ -502,9 +522,10 @@ impl Block {
         }
         put(&mut bytes, self.len - 8, 4, self.slots.len() as u64);
         put(&mut bytes, self.len - 4, 4, self.stale as u64);
-        for (at, (offset, len)) in best_pairs(&self.gaps()).into_iter().enumerate() {
-            put(&mut bytes, 4 + 4 * at, 2, offset as u64);
-            put(&mut bytes, 6 + 4 * at, 2, len as u64);
+        for (rank, (offset, len)) in best_pairs(&self.gaps()).into_iter().enumerate() {
+            let place = pair_place(options, rank);
+            put(&mut bytes, place, 2, offset as u64);
+            put(&mut bytes, place + 2, 2, len as u64);
         }
         bytes
     }
@@ -522,6 +543,7 @@ fn write_entry(bytes: &mut [u8], entry: &Record) {
         offset,
         number,
         name,
+        ..
     } = entry
     else {
         return;
@@ -534,8 +556,8 @@ fn write_entry(bytes: &mut [u8], entry: &Record) {
     put(bytes, entry.end() - 2, 2, *offset as u64);
 }
 
-pub fn remove(bytes: &[u8], name: &[u8]) -> Change {
-    let (block, at) = match removable(bytes, name) {
+pub fn remove(options: &Options, bytes: &[u8], name: &[u8]) -> Change {
+    let (block, at) = match removable(options, bytes, name) {
         Ok(found) => found,
         Err(refusal) => return Change::refused(refusal, bytes),
     };
@@ -556,7 +578,7 @@ pub fn remove(bytes: &[u8], name: &[u8]) -> Change {
     after.records.splice(joined, [gap]);
     Change {
         refusal: 0,
-        bytes: after.write(bytes, None),
+        bytes: after.write(options, bytes, None),
         notes: vec![match (left, right) {
             (false, false) => "joins none",
             (true, false) => "joins left",
@@ -567,10 +589,10 @@ pub fn remove(bytes: &[u8], name: &[u8]) -> Change {
 }
 
 /// The block and the record to take out, which is never the first: that is ".".
-fn removable(bytes: &[u8], name: &[u8]) -> Result<(Block, usize), u32> {
-    let block = read(bytes)?;
-    want(legal_name(name), ASKED)?;
+fn removable(options: &Options, bytes: &[u8], name: &[u8]) -> Result<(Block, usize), u32> {
+    let block = read(options, bytes)?;
+    want(legal_name(options, name), ASKED)?;
     want(!is_dot(name), FIXED)?;
-    let at = block.position(name).ok_or(ABSENT)?;
+    let at = block.position(options, name).ok_or(ABSENT)?;
     Ok((block, at))
 }

@@ -3,24 +3,21 @@
 use super::*;
 use std::ops::Range;
 
-/// Where the literal area starts.
-pub const LITERAL: usize = 100;
-
 /// Where the data fork lies in an inode of `len` bytes.
-pub fn data_fork(core: &Core, len: usize) -> Range<usize> {
+pub fn data_fork(options: &Options, core: &Core, len: usize) -> Range<usize> {
     match core.forkoff {
-        0 => LITERAL..len,
-        _ => LITERAL..attr_fork(core, len).start,
+        0 => options.literal..len,
+        _ => options.literal..attr_fork(options, core, len).start,
     }
 }
 
 /// Where the attribute fork lies when forkoff is not 0.
-pub fn attr_fork(core: &Core, len: usize) -> Range<usize> {
-    LITERAL + 8 * core.forkoff as usize..len
+pub fn attr_fork(options: &Options, core: &Core, len: usize) -> Range<usize> {
+    options.literal + 8 * core.forkoff as usize..len
 }
 
 /// Tests 1 to 3 as far as they hold for every inode.
-pub fn read(inode: &[u8]) -> Result<Core, u32> {
+pub fn read(options: &Options, inode: &[u8]) -> Result<Core, u32> {
     want([256, 512, 1024, 2048].contains(&inode.len()), SIZE)?;
     let small = |place: usize, width: usize| field(inode, place, width) as u32;
     let core = Core {
@@ -34,13 +31,15 @@ pub fn read(inode: &[u8]) -> Result<Core, u32> {
         size: field(inode, 56, 8),
     };
     want(core.magic == 0x494e, MAGIC)?;
-    want([1, 2].contains(&core.version), KIND)?;
-    want(attr_fork(&core, inode.len()).start <= inode.len(), KIND)?;
+    let versions = options.oldest_version..=options.newest_version;
+    want(versions.contains(&core.version), KIND)?;
+    let attr_start = attr_fork(options, &core, inode.len()).start;
+    want(attr_start <= inode.len(), KIND)?;
     Ok(core)
 }
 
-pub fn test(inode: &[u8]) -> Core {
-    read(inode).unwrap_or_else(|refusal| Core {
+pub fn test(options: &Options, inode: &[u8]) -> Core {
+    read(options, inode).unwrap_or_else(|refusal| Core {
         refusal,
         ..Core::default()
     })

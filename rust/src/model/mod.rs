@@ -2,14 +2,18 @@
 //!
 //! Ordinary Rust on ordinary data structures: a structure is read into lists, each rule is checked on the
 //! lists in number order, and a change writes the lists back. Clear rather than fast; any bytes get an
-//! answer. Refusals are the paper's numbers, 0 is done.
+//! answer. Refusals are the paper's numbers, 0 is done. The rules stand once, over [`Options`].
 
 pub mod attr;
 pub mod block;
 pub mod inode;
+mod options;
 pub mod sfdir;
 
 pub use crate::raw::{AttrStep, Core, Found, Place, Step};
+pub use options::Options;
+use std::borrow::Cow;
+use std::collections::BTreeSet;
 
 pub const SIZE: u32 = 1;
 pub const MAGIC: u32 = 2;
@@ -95,13 +99,40 @@ pub fn hash(name: &[u8]) -> u32 {
         .fold(0u32, |hash, &byte| hash.rotate_left(7) ^ u32::from(byte))
 }
 
-/// What an entry with a name of `name_len` bytes takes in a block: E.
-pub fn entry_size(name_len: usize) -> usize {
-    (11 + name_len).div_ceil(8) * 8
+/// A directory name as it is hashed and compared: under the case option A to Z are taken as a to z.
+/// Attribute names never fold.
+fn folded<'a>(options: &Options, name: &'a [u8]) -> Cow<'a, [u8]> {
+    match options.folds {
+        true => name.to_ascii_lowercase().into(),
+        false => name.into(),
+    }
 }
 
-pub fn legal_name(name: &[u8]) -> bool {
-    legal_attr_name(name) && !name.contains(&b'/')
+/// The hash of a directory name.
+pub fn name_hash(options: &Options, name: &[u8]) -> u32 {
+    hash(&folded(options, name))
+}
+
+/// Two directory names count as one.
+pub fn same_name(options: &Options, one: &[u8], other: &[u8]) -> bool {
+    folded(options, one) == folded(options, other)
+}
+
+/// No two of these directory names count as one.
+fn all_differ<'a>(options: &Options, mut names: impl Iterator<Item = &'a [u8]>) -> bool {
+    let mut seen = BTreeSet::new();
+    names.all(|name| seen.insert(folded(options, name)))
+}
+
+/// What an entry with a name of `name_len` bytes takes in a block: E.
+pub fn entry_size(options: &Options, name_len: usize) -> usize {
+    (11 + options.ftype + name_len).div_ceil(8) * 8
+}
+
+/// A directory name that may be stored or asked for; under the case option it holds no byte of 128 or above.
+pub fn legal_name(options: &Options, name: &[u8]) -> bool {
+    let foldable = !options.folds || name.is_ascii();
+    legal_attr_name(name) && !name.contains(&b'/') && foldable
 }
 
 pub fn legal_attr_name(name: &[u8]) -> bool {
@@ -112,8 +143,8 @@ pub fn legal_number(number: u64) -> bool {
     (1..1 << 56).contains(&number)
 }
 
-pub fn legal_block_size(len: u64) -> bool {
-    len.is_power_of_two() && (512..=16_384).contains(&len)
+pub fn legal_block_size(options: &Options, len: u64) -> bool {
+    len.is_power_of_two() && (512..=options.largest_block).contains(&len)
 }
 
 /// The two names that every directory has.

@@ -1,11 +1,7 @@
 //! The short-form directory.
 
-use super::inode::LITERAL;
 use super::*;
-use std::collections::BTreeSet;
 use std::ops::Range;
-
-const FIRST_TAG: usize = 48;
 
 #[derive(Clone, Debug)]
 pub struct Entry {
@@ -17,8 +13,8 @@ pub struct Entry {
 }
 
 impl Entry {
-    fn tag_end(&self) -> usize {
-        self.tag + entry_size(self.name.len())
+    fn tag_end(&self, options: &Options) -> usize {
+        self.tag + entry_size(options, self.name.len())
     }
 }
 
@@ -50,16 +46,15 @@ fn number_width(i8count: u64) -> usize {
 }
 
 /// Tests 1 to 10.
-pub fn read(inode: &[u8], block_size: u64) -> Result<Dir, u32> {
-    let dir = tile(inode, block_size)?;
+pub fn read(options: &Options, inode: &[u8], block_size: u64) -> Result<Dir, u32> {
+    let dir = tile(options, inode, block_size)?;
     let names: Vec<&[u8]> = dir.entries.iter().map(|entry| &entry.name[..]).collect();
-    let good = |name: &&[u8]| legal_name(name) && !is_dot(name);
+    let good = |name: &&[u8]| legal_name(options, name) && !is_dot(name);
     want(names.iter().all(good), NAME)?;
     want(legal_number(dir.parent), NUMBER)?;
     want(dir.entries.iter().all(|e| legal_number(e.number)), NUMBER)?;
     want(dir.i8count == wide_entries(&dir.entries) as u64, INDEX)?;
-    let different: BTreeSet<&[u8]> = names.iter().copied().collect();
-    want(different.len() == names.len(), TWICE)?;
+    want(all_differ(options, names.into_iter()), TWICE)?;
     Ok(dir)
 }
 
@@ -68,14 +63,14 @@ fn wide_entries(entries: &[Entry]) -> usize {
 }
 
 /// Tests 1 to 5.
-fn tile(inode: &[u8], block_size: u64) -> Result<Dir, u32> {
+fn tile(options: &Options, inode: &[u8], block_size: u64) -> Result<Dir, u32> {
     want([256, 512, 1024, 2048].contains(&inode.len()), SIZE)?;
-    want(legal_block_size(block_size), SIZE)?;
-    let core = inode::read(inode)?;
+    want(legal_block_size(options, block_size), SIZE)?;
+    let core = inode::read(options, inode)?;
     want(core.mode / 4096 == 4 && core.format == 1, KIND)?;
 
-    let fork = inode::data_fork(&core, inode.len());
-    let i8count = field(inode, LITERAL + 1, 1);
+    let fork = inode::data_fork(options, &core, inode.len());
+    let i8count = field(inode, fork.start + 1, 1);
     let width = number_width(i8count);
     let header = header_size(width);
     want(core.size >= header as u64, SPAN)?;
@@ -90,8 +85,8 @@ fn tile(inode: &[u8], block_size: u64) -> Result<Dir, u32> {
         parent: field(list, 2, width),
         entries: records(list, width)?,
     };
-    want(tags_in_order(&dir.entries), TILE)?;
-    want(within_limit(&dir.entries, block_size), TILE)?;
+    want(tags_in_order(options, &dir.entries), TILE)?;
+    want(within_limit(options, &dir.entries, block_size), TILE)?;
     Ok(dir)
 }
 
@@ -115,33 +110,34 @@ fn records(list: &[u8], width: usize) -> Result<Vec<Entry>, u32> {
     Ok(entries)
 }
 
-fn tags_in_order(entries: &[Entry]) -> bool {
-    let mut lowest = FIRST_TAG;
+fn tags_in_order(options: &Options, entries: &[Entry]) -> bool {
+    let mut lowest = options.first_tag;
     for entry in entries {
         if entry.tag % 8 != 0 || entry.tag < lowest {
             return false;
         }
-        lowest = entry.tag_end();
+        lowest = entry.tag_end(options);
     }
     true
 }
 
 /// The end of the last entry's room in a block.
-fn tags_end(entries: &[Entry]) -> usize {
-    entries.last().map_or(FIRST_TAG, Entry::tag_end)
+fn tags_end(options: &Options, entries: &[Entry]) -> usize {
+    let last = entries.last();
+    last.map_or(options.first_tag, |entry| entry.tag_end(options))
 }
 
 /// The directory would still fit a block, with slots for "." and ".." and the tail.
-fn within_limit(entries: &[Entry], block_size: u64) -> bool {
-    (tags_end(entries) + 8 * (entries.len() + 2) + 8) as u64 <= block_size
+fn within_limit(options: &Options, entries: &[Entry], block_size: u64) -> bool {
+    (tags_end(options, entries) + 8 * (entries.len() + 2) + 8) as u64 <= block_size
 }
 
-pub fn test(inode: &[u8], block_size: u64) -> u32 {
-    code(read(inode, block_size))
+pub fn test(options: &Options, inode: &[u8], block_size: u64) -> u32 {
+    code(read(options, inode, block_size))
 }
 
-pub fn lookup(inode: &[u8], block_size: u64, name: &[u8]) -> Found {
-    match seek(inode, block_size, name) {
+pub fn lookup(options: &Options, inode: &[u8], block_size: u64, name: &[u8]) -> Found {
+    match seek(options, inode, block_size, name) {
         Ok(number) => Found {
             number,
             ..Found::default()
@@ -153,26 +149,27 @@ pub fn lookup(inode: &[u8], block_size: u64, name: &[u8]) -> Found {
     }
 }
 
-fn seek(inode: &[u8], block_size: u64, name: &[u8]) -> Result<u64, u32> {
-    let dir = read(inode, block_size)?;
-    want(legal_name(name), ASKED)?;
+fn seek(options: &Options, inode: &[u8], block_size: u64, name: &[u8]) -> Result<u64, u32> {
+    let dir = read(options, inode, block_size)?;
+    want(legal_name(options, name), ASKED)?;
     want(name != b".", FIXED)?;
     if name == b".." {
         return Ok(dir.parent);
     }
-    let entry = dir.entries.iter().find(|entry| entry.name == name);
+    let named = |entry: &&Entry| same_name(options, &entry.name, name);
+    let entry = dir.entries.iter().find(named);
     entry.map(|entry| entry.number).ok_or(ABSENT)
 }
 
-pub fn step(inode: &[u8], block_size: u64, place: u64) -> Step {
-    walk(inode, block_size, place).unwrap_or_else(|refusal| Step {
+pub fn step(options: &Options, inode: &[u8], block_size: u64, place: u64) -> Step {
+    walk(options, inode, block_size, place).unwrap_or_else(|refusal| Step {
         refusal,
         ..Step::default()
     })
 }
 
-fn walk(inode: &[u8], block_size: u64, place: u64) -> Result<Step, u32> {
-    let dir = read(inode, block_size)?;
+fn walk(options: &Options, inode: &[u8], block_size: u64, place: u64) -> Result<Step, u32> {
+    let dir = read(options, inode, block_size)?;
     if place == dir.size as u64 {
         return Ok(Step {
             seen: END,
@@ -193,13 +190,19 @@ fn walk(inode: &[u8], block_size: u64, place: u64) -> Result<Step, u32> {
     })
 }
 
-pub fn insert(inode: &[u8], block_size: u64, name: &[u8], number: u64) -> Change {
-    let dir = match insertable(inode, block_size, name, number) {
+pub fn insert(
+    options: &Options,
+    inode: &[u8],
+    block_size: u64,
+    name: &[u8],
+    number: u64,
+) -> Change {
+    let dir = match insertable(options, inode, block_size, name, number) {
         Ok(dir) => dir,
         Err(refusal) => return Change::refused(refusal, inode),
     };
-    let Some((index, tag, note)) = free_tag(&dir.entries, entry_size(name.len()), block_size)
-    else {
+    let need = entry_size(options, name.len());
+    let Some((index, tag, note)) = free_tag(options, &dir.entries, need, block_size) else {
         return Change::no_room(inode, "no tag");
     };
     let mut entries = dir.entries.clone();
@@ -218,21 +221,29 @@ pub fn insert(inode: &[u8], block_size: u64, name: &[u8], number: u64) -> Change
 }
 
 /// Every test before that of room.
-fn insertable(inode: &[u8], block_size: u64, name: &[u8], number: u64) -> Result<Dir, u32> {
-    let dir = read(inode, block_size)?;
-    want(legal_name(name) && legal_number(number), ASKED)?;
+fn insertable(
+    options: &Options,
+    inode: &[u8],
+    block_size: u64,
+    name: &[u8],
+    number: u64,
+) -> Result<Dir, u32> {
+    let dir = read(options, inode, block_size)?;
+    want(legal_name(options, name) && legal_number(number), ASKED)?;
     want(!is_dot(name), FIXED)?;
-    want(dir.entries.iter().all(|e| e.name != name), EXISTS)?;
+    let named = |entry: &Entry| same_name(options, &entry.name, name);
+    want(!dir.entries.iter().any(named), EXISTS)?;
     Ok(dir)
 }
 
 /// Where in the list a new entry that takes `need` goes, its tag, and whether that follows or fills a hole.
 fn free_tag(
+    options: &Options,
     entries: &[Entry],
     need: usize,
     block_size: u64,
 ) -> Option<(usize, usize, &'static str)> {
-    let end = tags_end(entries);
+    let end = tags_end(options, entries);
     // Slots for ".", "..", the entries and the new one, and the tail.
     let index = 8 * (entries.len() + 3) + 8;
     if (end + need + index) as u64 <= block_size {
@@ -241,30 +252,35 @@ fn free_tag(
     if (end + index) as u64 > block_size {
         return None;
     }
-    let mut low = FIRST_TAG;
+    let mut low = options.first_tag;
     for (at, entry) in entries.iter().enumerate() {
         if entry.tag - low >= need {
             return Some((at, low, "tag hole"));
         }
-        low = entry.tag_end();
+        low = entry.tag_end(options);
     }
     None
 }
 
-pub fn remove(inode: &[u8], block_size: u64, name: &[u8]) -> Change {
-    match removable(inode, block_size, name) {
+pub fn remove(options: &Options, inode: &[u8], block_size: u64, name: &[u8]) -> Change {
+    match removable(options, inode, block_size, name) {
         Ok((dir, entries)) => rewrite(inode, &dir, &entries),
         Err(refusal) => Change::refused(refusal, inode),
     }
 }
 
 /// The directory and the entries that are left.
-fn removable(inode: &[u8], block_size: u64, name: &[u8]) -> Result<(Dir, Vec<Entry>), u32> {
-    let dir = read(inode, block_size)?;
-    want(legal_name(name), ASKED)?;
+fn removable(
+    options: &Options,
+    inode: &[u8],
+    block_size: u64,
+    name: &[u8],
+) -> Result<(Dir, Vec<Entry>), u32> {
+    let dir = read(options, inode, block_size)?;
+    want(legal_name(options, name), ASKED)?;
     want(!is_dot(name), FIXED)?;
     let mut left = dir.entries.clone();
-    left.retain(|entry| entry.name != name);
+    left.retain(|entry| !same_name(options, &entry.name, name));
     want(left.len() < dir.entries.len(), ABSENT)?;
     // A wide parent needs wide numbers, and i8count says only that entries do.
     let last_wide_out = dir.i8count > 0 && wide_entries(&left) == 0;

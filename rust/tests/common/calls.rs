@@ -1,7 +1,7 @@
 //! Every call of the boundary, held to the model: the answer with all its fields, and every byte of every
 //! buffer and of the guards around it.
 
-use super::{hex, Cover, Guarded, Rng};
+use super::{hex, Cover, Guarded, Rng, V4};
 use pelunziwa::boundary as raw;
 use pelunziwa::model::{self, attr, block, inode, sfdir, Change};
 use std::fmt::Debug;
@@ -69,7 +69,7 @@ impl Lab {
     }
 
     pub fn inode_test(&mut self, inode: &[u8]) {
-        let want = inode::test(inode);
+        let want = inode::test(V4, inode);
         self.call(
             "inode_test",
             &(),
@@ -85,7 +85,7 @@ impl Lab {
 /// Short-form directories.
 impl Lab {
     pub fn sfdir_test(&mut self, inode: &[u8], block_size: u64) {
-        let want = sfdir::test(inode, block_size);
+        let want = sfdir::test(V4, inode, block_size);
         self.call(
             "sfdir_test",
             &block_size,
@@ -98,7 +98,7 @@ impl Lab {
     }
 
     pub fn sfdir_lookup(&mut self, inode: &[u8], block_size: u64, name: &[u8]) {
-        let want = sfdir::lookup(inode, block_size, name);
+        let want = sfdir::lookup(V4, inode, block_size, name);
         self.call(
             "sfdir_lookup",
             &block_size,
@@ -131,7 +131,7 @@ impl Lab {
         name: &[u8],
         number: u64,
     ) -> Change {
-        let want = sfdir::insert(inode, block_size, name, number);
+        let want = sfdir::insert(V4, inode, block_size, name, number);
         self.call(
             "sfdir_insert",
             &(block_size, number),
@@ -150,7 +150,7 @@ impl Lab {
     }
 
     pub fn sfdir_remove(&mut self, inode: &[u8], block_size: u64, name: &[u8]) -> Change {
-        let want = sfdir::remove(inode, block_size, name);
+        let want = sfdir::remove(V4, inode, block_size, name);
         self.call(
             "sfdir_remove",
             &block_size,
@@ -167,7 +167,7 @@ impl Lab {
     }
 
     pub fn sfdir_step(&mut self, inode: &[u8], block_size: u64, place: u64) -> model::Step {
-        let want = sfdir::step(inode, block_size, place);
+        let want = sfdir::step(V4, inode, block_size, place);
         self.call(
             "sfdir_step",
             &(block_size, place),
@@ -192,7 +192,7 @@ impl Lab {
 /// Short-form attributes.
 impl Lab {
     pub fn attr_test(&mut self, inode: &[u8]) {
-        let want = attr::test(inode);
+        let want = attr::test(V4, inode);
         self.call(
             "attr_test",
             &(),
@@ -205,7 +205,7 @@ impl Lab {
     }
 
     pub fn attr_lookup(&mut self, inode: &[u8], name: &[u8], flags: u32) {
-        let want = attr::lookup(inode, name, flags);
+        let want = attr::lookup(V4, inode, name, flags);
         self.call(
             "attr_lookup",
             &flags,
@@ -226,7 +226,7 @@ impl Lab {
     }
 
     pub fn attr_set(&mut self, inode: &[u8], name: &[u8], flags: u32, value: &[u8]) -> Change {
-        let want = attr::set(inode, name, flags, value);
+        let want = attr::set(V4, inode, name, flags, value);
         self.call(
             "attr_set",
             &flags,
@@ -254,7 +254,7 @@ impl Lab {
     }
 
     pub fn attr_remove(&mut self, inode: &[u8], name: &[u8], flags: u32) -> Change {
-        let want = attr::remove(inode, name, flags);
+        let want = attr::remove(V4, inode, name, flags);
         self.call(
             "attr_remove",
             &flags,
@@ -271,7 +271,7 @@ impl Lab {
     }
 
     pub fn attr_step(&mut self, inode: &[u8], place: u64) -> model::AttrStep {
-        let want = attr::step(inode, place);
+        let want = attr::step(V4, inode, place);
         self.call(
             "attr_step_at",
             &place,
@@ -288,7 +288,7 @@ impl Lab {
 /// Block directories.
 impl Lab {
     pub fn block_test(&mut self, block: &[u8]) {
-        let want = block::test(block);
+        let want = block::test(V4, block);
         self.call(
             "block_test",
             &(),
@@ -301,7 +301,7 @@ impl Lab {
     }
 
     pub fn block_lookup(&mut self, block: &[u8], name: &[u8]) {
-        let want = block::lookup(block, name);
+        let want = block::lookup(V4, block, name);
         self.call(
             "block_lookup",
             &(),
@@ -323,7 +323,7 @@ impl Lab {
     }
 
     pub fn block_insert(&mut self, block: &[u8], name: &[u8], number: u64) -> Change {
-        let want = block::insert(block, name, number);
+        let want = block::insert(V4, block, name, number);
         self.call(
             "block_insert",
             &number,
@@ -346,7 +346,7 @@ impl Lab {
     }
 
     pub fn block_remove(&mut self, block: &[u8], name: &[u8]) -> Change {
-        let want = block::remove(block, name);
+        let want = block::remove(V4, block, name);
         self.call(
             "block_remove",
             &(),
@@ -363,7 +363,7 @@ impl Lab {
     }
 
     pub fn block_step(&mut self, block: &[u8], place: u64) -> model::Step {
-        let want = block::step(block, place);
+        let want = block::step(V4, block, place);
         self.call(
             "block_step",
             &place,

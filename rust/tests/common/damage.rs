@@ -1,6 +1,6 @@
 //! Damage to a structure: wrong by one, swapped, copied, zeroed, flipped, cut and drawn out.
 
-use super::Rng;
+use super::{Rng, V4};
 use pelunziwa::model::{attr, block, entry_size, field, inode, put, sfdir};
 
 /// Places of like fields, each with its width.
@@ -24,7 +24,7 @@ pub fn block_fields(bytes: &[u8]) -> Vec<Fields> {
         slots.clone().map(|place| (place + 4, 4)).collect(),
         slots.map(|place| (place, 8)).collect(),
     ];
-    if let Ok(block) = block::read(bytes) {
+    if let Ok(block) = block::read(V4, bytes) {
         kinds.extend(record_fields(&block));
     }
     kinds
@@ -32,7 +32,7 @@ pub fn block_fields(bytes: &[u8]) -> Vec<Fields> {
 
 fn record_fields(block: &block::Block) -> Vec<Fields> {
     let live = || block.live();
-    let tag = |(at, _, name): (usize, u64, &[u8])| (at + entry_size(name.len()) - 2, 2);
+    let tag = |(at, _, name): (usize, u64, &[u8])| (at + entry_size(V4, name.len()) - 2, 2);
     let gaps = block.gaps();
     vec![
         live().map(|(at, _, _)| (at, 8)).collect(),
@@ -56,7 +56,7 @@ fn core_fields() -> Vec<Fields> {
 pub fn sfdir_fields(bytes: &[u8], block_size: u64) -> Vec<Fields> {
     let mut kinds = core_fields();
     kinds.extend([vec![(100, 1)], vec![(101, 1)], vec![(102, 4)]]);
-    let Ok(dir) = sfdir::read(bytes, block_size) else {
+    let Ok(dir) = sfdir::read(V4, bytes, block_size) else {
         return kinds;
     };
     let width = if dir.i8count == 0 { 4 } else { 8 };
@@ -72,7 +72,7 @@ pub fn sfdir_fields(bytes: &[u8], block_size: u64) -> Vec<Fields> {
 /// The structural fields of an attribute fork, by kind; those of the entries only if it is right.
 pub fn attr_fields(bytes: &[u8]) -> Vec<Fields> {
     let mut kinds = core_fields();
-    let Ok(attrs) = attr::read(bytes) else {
+    let Ok(attrs) = attr::read(V4, bytes) else {
         return kinds;
     };
     let fork = attrs.fork.start;
@@ -87,7 +87,7 @@ pub fn attr_fields(bytes: &[u8]) -> Vec<Fields> {
 
 /// The fields handed out of an inode.
 pub fn inode_fields(bytes: &[u8]) -> Vec<Fields> {
-    match inode::read(bytes) {
+    match inode::read(V4, bytes) {
         Ok(_) => core_fields(),
         Err(_) => Vec::new(),
     }

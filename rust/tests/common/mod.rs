@@ -9,8 +9,12 @@ pub mod damage;
 pub mod images;
 pub mod names;
 
+use pelunziwa::model::Options;
 use std::collections::BTreeMap;
 use std::env;
+
+/// The options that the library's calls, which take none, are held to.
+pub const V4: &Options = &Options::V4;
 
 /// The default number of rounds, times PELUNZIWA_ROUNDS.
 pub fn rounds(default: usize) -> usize {

@@ -1,6 +1,6 @@
 //! Names, legal and not, and names that collide in the hash by construction.
 
-use super::Rng;
+use super::{Rng, V4};
 use pelunziwa::model;
 
 /// A legal directory name of this length; any byte but 0 and "/".
@@ -45,7 +45,7 @@ pub fn twin(rng: &mut Rng, name: &[u8]) -> Option<Vec<u8>> {
     let mut other = name.to_vec();
     other[at] ^= 1;
     other[at + 1] ^= 0x80;
-    let good = model::legal_name(&other) && model::hash(&other) == model::hash(name);
+    let good = model::legal_name(V4, &other) && model::hash(&other) == model::hash(name);
     good.then_some(other)
 }
 
@@ -57,7 +57,7 @@ pub fn with_hash(rng: &mut Rng, hash: u32) -> Vec<u8> {
         let rest = hash ^ model::hash(&name).rotate_left(35 % 32);
         let suffix = [28, 21, 14, 7, 0].map(|shift| (rest >> shift & 0x7f) as u8);
         name.extend(suffix);
-        if model::legal_name(&name) {
+        if model::legal_name(V4, &name) {
             assert_eq!(model::hash(&name), hash);
             return name;
         }
