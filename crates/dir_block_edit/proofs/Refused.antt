@@ -16,7 +16,7 @@ use Rattle.dir_block_rules.specs.Verdict.{verdict}
 use Rattle.dir.specs.declared.Target.{Target}
 use Rattle.dir_block_rules.specs.Lookup.{sought}
 use Rattle.dir_block_rules.specs.Room.{has-room}
-use Rattle.dir_block_rules.specs.Change.{insert-code, insert-block, remove-code, remove-block}
+use Rattle.dir_block_rules.specs.Change.{insert-code, insert-bytes, remove-code, remove-bytes}
 use Rattle.dir_block_edit.specs.Refusal.{asked-of}
 
 -- ---- the request
@@ -57,8 +57,8 @@ clear legal fixed h =
 -- ---- the two calls
 
 module _ (e : Edition) (b n : List ℕ) (i : Target) where
-  pub insert-tested : (t : ℕ) → t ≡ verdict e b → (t ≡ 0 → ⊥) → (t ≡ insert-code e b n i) × (b ≡ insert-block e b n i)
-  unfolding insert-block insert-code
+  pub insert-tested : (t : ℕ) → t ≡ verdict e b → (t ≡ 0 → ⊥) → (t ≡ insert-code e b n i) × (b ≡ insert-bytes e b n i)
+  unfolding insert-bytes insert-code
   insert-tested t q z =
       let s : insert-code e b n i ≡ t = rw (ne-eqb (verdict e b) 0 (λ y. z (q ∙ y))) (sym q) in
       (sym s, sym (rw (ne-eqb (insert-code e b n i) 0 (λ y. z (sym s ∙ y)))))
@@ -68,16 +68,16 @@ module _ (e : Edition) (b n : List ℕ) (i : Target) where
     unfolding insert-code asked-of
     insert-chain = rw (eq-eqb (verdict e b) 0 (sym tq ∙ tz)) refl
 
-    pub insert-refused : (r : ℕ) (k : Bool) → k ≡ legal-target e i → r ≡ asked-of (legal-name e n && k) (fixed-name n) 0 → (r ≡ 0 → ⊥) → (r ≡ insert-code e b n i) × (b ≡ insert-block e b n i)
-    unfolding insert-block
+    pub insert-refused : (r : ℕ) (k : Bool) → k ≡ legal-target e i → r ≡ asked-of (legal-name e n && k) (fixed-name n) 0 → (r ≡ 0 → ⊥) → (r ≡ insert-code e b n i) × (b ≡ insert-bytes e b n i)
+    unfolding insert-bytes
     insert-refused r k w q z =
         let q′ : r ≡ asked-of (legal-name e n && legal-target e i) (fixed-name n) 0 = q ∙ ap (λ (x : Bool). asked-of (legal-name e n && x) (fixed-name n) 0) w in
         let s : insert-code e b n i ≡ r = insert-chain ∙ refused _ _ _ (λ y. z (q′ ∙ y)) ∙ sym q′ in
         (sym s, sym (rw (ne-eqb (insert-code e b n i) 0 (λ y. z (sym s ∙ y)))))
 
 module _ (e : Edition) (b n : List ℕ) where
-  pub remove-tested : (t : ℕ) → t ≡ verdict e b → (t ≡ 0 → ⊥) → (t ≡ remove-code e b n) × (b ≡ remove-block e b n)
-  unfolding remove-block remove-code
+  pub remove-tested : (t : ℕ) → t ≡ verdict e b → (t ≡ 0 → ⊥) → (t ≡ remove-code e b n) × (b ≡ remove-bytes e b n)
+  unfolding remove-bytes remove-code
   remove-tested t q z =
       let s : remove-code e b n ≡ t = rw (ne-eqb (verdict e b) 0 (λ y. z (q ∙ y))) (sym q) in
       (sym s, sym (rw (ne-eqb (remove-code e b n) 0 (λ y. z (sym s ∙ y)))))
@@ -87,8 +87,8 @@ module _ (e : Edition) (b n : List ℕ) where
     unfolding remove-code asked-of
     remove-chain = rw (eq-eqb (verdict e b) 0 (sym tq ∙ tz)) refl
 
-    pub remove-refused : (r : ℕ) → r ≡ asked-of (legal-name e n && true) (fixed-name n) 0 → (r ≡ 0 → ⊥) → (r ≡ remove-code e b n) × (b ≡ remove-block e b n)
-    unfolding remove-block
+    pub remove-refused : (r : ℕ) → r ≡ asked-of (legal-name e n && true) (fixed-name n) 0 → (r ≡ 0 → ⊥) → (r ≡ remove-code e b n) × (b ≡ remove-bytes e b n)
+    unfolding remove-bytes
     remove-refused r q z =
         let q′ : r ≡ asked-of (legal-name e n) (fixed-name n) 0 = q ∙ ap (λ (x : Bool). asked-of x (fixed-name n) 0) (and-true (legal-name e n)) in
         let s : remove-code e b n ≡ r = remove-chain ∙ refused _ _ _ (λ y. z (q′ ∙ y)) ∙ sym q′ in

@@ -19,7 +19,7 @@ use Rattle.dir_block_rules.specs.Lookup.{sought}
 use Rattle.dir.specs.Target.{legal-target}
 use Rattle.dir_block_rules.specs.Verdict.{pair}
 use Rattle.dir_block_rules.specs.Room.{has-room, room-of, other-gaps, longest}
-use Rattle.dir_block_rules.specs.Change.{index-writes, insert-slot, entry-writes, insert-writes, changed, insert-code, insert-block}
+use Rattle.dir_block_rules.specs.Change.{index-writes, insert-slot, entry-writes, insert-writes, changed, insert-code, insert-bytes}
 use Rattle.dir_block_rules.proofs.EachCall.{insert-code-is}
 use Rattle.dir_block_laws.specs.Tiled.{Ready, Tiled}
 use Rattle.dir_block_laws.specs.Pass.{Scanned, Inside}
@@ -77,14 +77,14 @@ module _ (e : Edition) (sane : Sane e) (b n : List ℕ) (i : Target) (r : Ready 
   chain : insert-code e b n i ≡ (EXISTS unless not (sought e b n .hit) then NOROOM unless has-room e b n then 0)
   chain = insert-code-is e sane b (r .are-bytes) (r .ok) n i ∙ rw (ln, li, fx)
 
-  pub insert-there : sought e b n .hit ≡ true → (14 ≡ insert-code e b n i) × (b ≡ insert-block e b n i)
-  unfolding insert-block
+  pub insert-there : sought e b n .hit ≡ true → (14 ≡ insert-code e b n i) × (b ≡ insert-bytes e b n i)
+  unfolding insert-bytes
   insert-there h = let k : insert-code e b n i ≡ 14 = chain ∙ rw h in (sym k, sym (rw k))
 
-  pub insert-no-room : sought e b n .hit ≡ false → false ≡ has-room e b n → (c : List ℕ) → c ≡ b → (15 ≡ insert-code e b n i) × (c ≡ insert-block e b n i)
-  unfolding insert-block
+  pub insert-no-room : sought e b n .hit ≡ false → false ≡ has-room e b n → (c : List ℕ) → c ≡ b → (15 ≡ insert-code e b n i) × (c ≡ insert-bytes e b n i)
+  unfolding insert-bytes
   insert-no-room h m c q = let k : insert-code e b n i ≡ 15 = chain ∙ rw (h, sym m) in (sym k, q ∙ sym (rw k))
 
-  pub insert-made : sought e b n .hit ≡ false → true ≡ has-room e b n → (c : List ℕ) → c ≡ changed e b (insert-writes e b n i) → (0 ≡ insert-code e b n i) × (c ≡ insert-block e b n i)
-  unfolding insert-block
+  pub insert-made : sought e b n .hit ≡ false → true ≡ has-room e b n → (c : List ℕ) → c ≡ changed e b (insert-writes e b n i) → (0 ≡ insert-code e b n i) × (c ≡ insert-bytes e b n i)
+  unfolding insert-bytes
   insert-made h m c q = let k : insert-code e b n i ≡ 0 = chain ∙ rw (h, sym m) in (sym k, q ∙ sym (rw k))

@@ -13,7 +13,7 @@ ghost use Rattle.dir_block_rules.specs.Record.{entry-bytes, gap-writes, gaps, s
 ghost use Rattle.dir_block_rules.specs.Block.{records, data-end, count-of, stale-of, slots, slot, is-stale, is-live};
 ghost use Rattle.dir_block_rules.specs.Lookup.{sought};
 ghost use Rattle.dir_block_rules.specs.Room.{has-room, room-of, other-gaps, longest};
-ghost use Rattle.dir_block_rules.specs.Change.{gap-start-before, gap-end-after, changed, remove-writes, remove-code, remove-block, index-writes, insert-slot, entry-writes, insert-code, insert-block};
+ghost use Rattle.dir_block_rules.specs.Change.{gap-start-before, gap-end-after, changed, remove-writes, remove-code, remove-bytes, index-writes, insert-slot, entry-writes, insert-code, insert-bytes};
 ghost use Rattle.dir_block_laws.specs.Tiled.{Ready, Tiled};
 ghost use Rattle.dir_block_laws.specs.SlotPlaces.{Spot};
 ghost use Rattle.dir_block_laws.specs.Pass.{Entry-at, Inside, Scanned};
@@ -70,7 +70,7 @@ fn joined_end(e: Edition, b: &[u8], end: usize, o: usize, u: usize) -> usize
     u + n
 }
 
-// The entry at `at`, whose slot has the place given, and the gaps beside it become one gap; the slot goes stale.
+// The entry at `at`, whose slot has the index given, and the gaps beside it become one gap; the slot goes stale.
 fn free_entry(e: Edition, b: &mut [u8], end: usize, slot: usize, at: usize, name: &[u8])
     requires { ⌜ Sane e × Ready e (now b) ⌝ }
     requires { ⌜ end ≡ data-end (now b) ⌝ }
@@ -104,7 +104,7 @@ fn remove_found(e: Edition, b: &mut [u8], end: usize, slot: usize, at: usize, na
 pub fn remove_ready(e: Edition, b: &mut [u8], name: &[u8]) -> usize
     requires { ⌜ Sane e × Ready e (now b) ⌝ }
     requires { ⌜ (legal-name e (now name) ≡ true) × (fixed-name (now name) ≡ false) ⌝ }
-    ensures { λ r. ⌜ (r ≡ remove-code e (now (b .entry)) (now (name .entry))) × (now (b .exit) ≡ remove-block e (now (b .entry)) (now (name .entry))) ⌝ }
+    ensures { λ r. ⌜ (r ≡ remove-code e (now (b .entry)) (now (name .entry))) × (now (b .exit) ≡ remove-bytes e (now (b .entry)) (now (name .entry))) ⌝ }
 {
     let n = b.len();
     let c = be::be32(&b[..], n - 8);
@@ -360,7 +360,7 @@ fn choose(
 pub fn insert_ready(e: Edition, b: &mut [u8], to: Target, name: &[u8]) -> usize
     requires { ⌜ Sane e × Ready e (now b) ⌝ }
     requires { ⌜ (legal-name e (now name) ≡ true) × ((legal-target e to ≡ true) × ((fixed-name (now name) ≡ false) × (bytes (now name) ≡ true))) ⌝ }
-    ensures { λ r. ⌜ (r ≡ insert-code e (now (b .entry)) (now (name .entry)) to) × (now (b .exit) ≡ insert-block e (now (b .entry)) (now (name .entry)) to) ⌝ }
+    ensures { λ r. ⌜ (r ≡ insert-code e (now (b .entry)) (now (name .entry)) to) × (now (b .exit) ≡ insert-bytes e (now (b .entry)) (now (name .entry)) to) ⌝ }
 {
     let n = b.len();
     let c = be::be32(&b[..], n - 8);
@@ -399,7 +399,7 @@ fn request(e: Edition, name: &[u8], number: bool) -> usize
 // Insert in a block of an edition: 0, or the number of the refusal. The block is tested first, then the request is judged.
 pub fn insert_in(e: Edition, b: &mut [u8], name: &[u8], to: Target) -> usize
     requires { ⌜ Sane e ⌝ }
-    ensures { λ r. ⌜ (r ≡ insert-code e (now (b .entry)) (now (name .entry)) to) × (now (b .exit) ≡ insert-block e (now (b .entry)) (now (name .entry)) to) ⌝ }
+    ensures { λ r. ⌜ (r ≡ insert-code e (now (b .entry)) (now (name .entry)) to) × (now (b .exit) ≡ insert-bytes e (now (b .entry)) (now (name .entry)) to) ⌝ }
 {
     let t = dir_block_test::code(e, &b[..]);
     if t != 0 {
@@ -416,7 +416,7 @@ pub fn insert_in(e: Edition, b: &mut [u8], name: &[u8], to: Target) -> usize
 // Removal in a block of an edition.
 pub fn remove_in(e: Edition, b: &mut [u8], name: &[u8]) -> usize
     requires { ⌜ Sane e ⌝ }
-    ensures { λ r. ⌜ (r ≡ remove-code e (now (b .entry)) (now (name .entry))) × (now (b .exit) ≡ remove-block e (now (b .entry)) (now (name .entry))) ⌝ }
+    ensures { λ r. ⌜ (r ≡ remove-code e (now (b .entry)) (now (name .entry))) × (now (b .exit) ≡ remove-bytes e (now (b .entry)) (now (name .entry))) ⌝ }
 {
     let k = dir_block_test::code(e, &b[..]);
     if k != 0 {
@@ -431,7 +431,7 @@ pub fn remove_in(e: Edition, b: &mut [u8], name: &[u8]) -> usize
 
 // Insert in a block of the V4 edition: 0, or the number of the refusal.
 pub fn insert(b: &mut [u8], name: &[u8], number: u64) -> usize
-    ensures { λ r. ⌜ (r ≡ insert-code v4 (now (b .entry)) (now (name .entry)) (target number 0)) × (now (b .exit) ≡ insert-block v4 (now (b .entry)) (now (name .entry)) (target number 0)) ⌝ }
+    ensures { λ r. ⌜ (r ≡ insert-code v4 (now (b .entry)) (now (name .entry)) (target number 0)) × (now (b .exit) ≡ insert-bytes v4 (now (b .entry)) (now (name .entry)) (target number 0)) ⌝ }
 {
     insert_in(
         V4::edition(),
@@ -446,7 +446,7 @@ pub fn insert(b: &mut [u8], name: &[u8], number: u64) -> usize
 
 // Removal in a block of the V4 edition.
 pub fn remove(b: &mut [u8], name: &[u8]) -> usize
-    ensures { λ r. ⌜ (r ≡ remove-code v4 (now (b .entry)) (now (name .entry))) × (now (b .exit) ≡ remove-block v4 (now (b .entry)) (now (name .entry))) ⌝ }
+    ensures { λ r. ⌜ (r ≡ remove-code v4 (now (b .entry)) (now (name .entry))) × (now (b .exit) ≡ remove-bytes v4 (now (b .entry)) (now (name .entry))) ⌝ }
 {
     remove_in(V4::edition(), b, name)
 }

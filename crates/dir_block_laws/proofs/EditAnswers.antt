@@ -9,7 +9,7 @@ use Rattle.be.specs.Codes.{_unless_then_}
 use Rattle.edition.specs.declared.Edition.{Edition}
 use Rattle.name.specs.Name.{legal-name, fixed-name}
 use Rattle.dir_block_rules.specs.Lookup.{sought}
-use Rattle.dir_block_rules.specs.Change.{changed, remove-code, remove-block, remove-writes}
+use Rattle.dir_block_rules.specs.Change.{changed, remove-code, remove-bytes, remove-writes}
 use Rattle.edition.specs.Edition.{Sane}
 use Rattle.dir_block_rules.proofs.EachCall.{remove-code-is}
 use Rattle.dir_block_laws.specs.Tiled.{Ready}
@@ -18,14 +18,14 @@ module _ (e : Edition) (sane : Sane e) (b n : List ℕ) (r : Ready e b) (l : leg
   remove-chain : remove-code e b n ≡ (ABSENT unless sought e b n .hit then 0)
   remove-chain = remove-code-is e sane b (r .are-bytes) (r .ok) n ∙ rw (l, x)
 
-  pub removed-done : (c : List ℕ) → sought e b n .hit ≡ true → c ≡ changed e b (remove-writes e b n) → (0 ≡ remove-code e b n) × (c ≡ remove-block e b n)
-  unfolding remove-block
+  pub removed-done : (c : List ℕ) → sought e b n .hit ≡ true → c ≡ changed e b (remove-writes e b n) → (0 ≡ remove-code e b n) × (c ≡ remove-bytes e b n)
+  unfolding remove-bytes
   removed-done c h q =
       let k : remove-code e b n ≡ 0 = remove-chain ∙ rw h in
       (sym k, q ∙ sym (rw k))
 
-  pub removed-absent : sought e b n .hit ≡ false → (13 ≡ remove-code e b n) × (b ≡ remove-block e b n)
-  unfolding remove-block
+  pub removed-absent : sought e b n .hit ≡ false → (13 ≡ remove-code e b n) × (b ≡ remove-bytes e b n)
+  unfolding remove-bytes
   removed-absent h =
       let k : remove-code e b n ≡ 13 = remove-chain ∙ rw h in
       (sym k, sym (rw k))

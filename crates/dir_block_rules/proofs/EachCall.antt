@@ -26,7 +26,7 @@ use Rattle.dir_block_rules.specs.Block.{records, stale-of}
 use Rattle.dir_block_rules.specs.Verdict.{Accepted, names-ok, name-ok, entry-at}
 use Rattle.dir_block_rules.specs.Lookup.{lookup, lookup-refusal, sought, target-at}
 use Rattle.dir_block_rules.specs.Room.{some-stale, room-of, longest, has-room}
-use Rattle.dir_block_rules.specs.Change.{insert-writes, insert-code, insert-block, remove-writes, remove-code, remove-block}
+use Rattle.dir_block_rules.specs.Change.{insert-writes, insert-code, insert-bytes, remove-writes, remove-code, remove-bytes}
 use Rattle.dir.specs.Calls.{done-or, Call, look-up, insert, remove, found, done, refuse, call-name}
 use Rattle.dir_block_rules.specs.Calls.{reply, after, book-of}
 use Rattle.dir.specs.Book.{held, Book, named, holds, target-held, SameBook, book-reply, book-after, entered, is-done}
@@ -135,8 +135,8 @@ module _ (e : Edition) (sane : Sane e) (b : List ℕ) (h : bytes b ≡ true) (a 
       let p4 : _ = passes (has-room e b n) 14 0 (p3 .1) in
       (and-left (legal-name e n) (legal-target e i) (p1 .0), and-right (legal-name e n) (legal-target e i) (p1 .0), not-true (fixed-name n) (p2 .0), not-true (sought e b n .hit) (p3 .0), p4 .0)
 
-  pub insert-done : (n : List ℕ) (i : Target) → bytes n ≡ true → insert-code e b n i ≡ 0 → Inserted e b n i (insert-block e b n i)
-  unfolding insert-block
+  pub insert-done : (n : List ℕ) (i : Target) → bytes n ≡ true → insert-code e b n i ≡ 0 → Inserted e b n i (insert-bytes e b n i)
+  unfolding insert-bytes
   insert-done n i nb q =
       let f : _ = insert-facts n i q in
       let ask : Asked e b n i = record { name-bytes = nb; name-legal = f .0; number-legal = f .1; not-fixed = f .2; absent = sym (hit-of e sane b h a n) ∙ f .3 } in
@@ -149,13 +149,13 @@ module _ (e : Edition) (sane : Sane e) (b : List ℕ) (h : bytes b ≡ true) (a 
       let p3 : _ = passes (sought e b n .hit) 12 0 (p2 .1) in
       (p1 .0, not-true (fixed-name n) (p2 .0), p3 .0)
 
-  pub remove-done : (n : List ℕ) → remove-code e b n ≡ 0 → Removed e b n (remove-block e b n)
-  unfolding remove-block
+  pub remove-done : (n : List ℕ) → remove-code e b n ≡ 0 → Removed e b n (remove-bytes e b n)
+  unfolding remove-bytes
   remove-done n q = let f : _ = remove-facts n q in rw q (removed-of e sane b h a n (f .2) (f .1))
 
   -- bytes stay bytes
   pub stays-bytes : (c : Call) → call-bytes c ≡ true → bytes (after e b c) ≡ true
-  unfolding after insert-block remove-block
+  unfolding after insert-bytes remove-bytes
   stays-bytes (look-up n) q = h
   stays-bytes (insert n i) q =
       by-cases (eqb (insert-code e b n i) 0)
@@ -236,32 +236,32 @@ module _ (e : Edition) (sane : Sane e) (b : List ℕ) (h : bytes b ≡ true) (a 
   refused-is c an q = rw (ap is-done (sym an) ∙ q) refl
 
   insert-right : (n : List ℕ) (i : Target) → bytes n ≡ true → Call-right e k b (insert n i)
-  unfolding after reply Reuse insert-block
+  unfolding after reply Reuse insert-bytes
   insert-right n i nb =
       let an : reply e b (insert n i) ≡ book-reply e k (has-room e b n) (insert n i) = insert-reply e sane b h a k m n i in
       by-cases (eqb (insert-code e b n i) 0)
       (λ z. let q : insert-code e b n i ≡ 0 = eqb-true (insert-code e b n i) 0 z in
-      let w : Inserted e b n i (insert-block e b n i) = insert-done e sane b h a n i nb q in
+      let w : Inserted e b n i (insert-bytes e b n i) = insert-done e sane b h a n i nb q in
       let bk : book-after e k (has-room e b n) (insert n i) ≡ held n (kept-of e i) ∷ k = done-is (insert n i) an (rw z refl) in
       record {
         answers = an;
         accepted = w .accepted;
         lengths = w .long;
-        listed = subst (λ (j : Book). SameBook (book-of e (insert-block e b n i)) j) (ap₂ (λ (x : List ℕ) (y : Target). held x y ∷ k) (w .named) (w .aimed) ∙ sym bk)
-            (book-inserted e b (insert-block e b n i) k m (w .before) (w .new) (w .behind) (w .old-entries) (w .new-entries-are));
-        adds-up = adds-up e sane (insert-block e b n i) (stays-bytes e sane b h a (insert n i) nb) (w .accepted);
+        listed = subst (λ (j : Book). SameBook (book-of e (insert-bytes e b n i)) j) (ap₂ (λ (x : List ℕ) (y : Target). held x y ∷ k) (w .named) (w .aimed) ∙ sym bk)
+            (book-inserted e b (insert-bytes e b n i) k m (w .before) (w .new) (w .behind) (w .old-entries) (w .new-entries-are));
+        adds-up = adds-up e sane (insert-bytes e b n i) (stays-bytes e sane b h a (insert n i) nb) (w .accepted);
         reuse = tt;
       })
       (λ z. unchanged e sane b h a k m (insert n i) an (rw z refl) (refused-is (insert n i) an (refused-not-done (insert-code e b n i) z)) tt)
 
   remove-right : (n : List ℕ) → bytes n ≡ true → Call-right e k b (remove n)
-  unfolding after reply Reuse remove-block
+  unfolding after reply Reuse remove-bytes
   remove-right n nb =
       let an : reply e b (remove n) ≡ book-reply e k (has-room e b n) (remove n) = remove-reply e sane b h a k m n (has-room e b n) in
       by-cases (eqb (remove-code e b n) 0)
       (λ z. let q : remove-code e b n ≡ 0 = eqb-true (remove-code e b n) 0 z in
-      let w : Removed e b n (remove-block e b n) = remove-done e sane b h a n q in
-      let c : List ℕ = remove-block e b n in
+      let w : Removed e b n (remove-bytes e b n) = remove-done e sane b h a n q in
+      let c : List ℕ = remove-bytes e b n in
       let cb : bytes c ≡ true = stays-bytes e sane b h a (remove n) nb in
       let bk : book-after e k (has-room e b n) (remove n) ≡ without-first (named e n) k = done-is (remove n) an (rw z refl) in
       let f : First-named e n k = first-named e n k (sym (hit-holds e sane b h a k m n) ∙ remove-facts e sane b h a n q .2) in

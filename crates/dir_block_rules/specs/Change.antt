@@ -125,8 +125,8 @@ module _ (e : Edition) (b n : List ℕ) (i : Target) where
       NOROOM unless has-room e b n then 0
 
   -- a refusal leaves every byte
-  unfoldable pub insert-block : List ℕ
-  insert-block = let new = changed e b insert-writes in cond (eqb insert-code 0) new b
+  unfoldable pub insert-bytes : List ℕ
+  insert-bytes = let new = changed e b insert-writes in cond (eqb insert-code 0) new b
 
 -- Removal joins the entry to the gaps on both sides: where the joined gap starts and ends, for freed bytes from o, and up to u
 unfoldable pub gap-start-before : ℕ → List Rec → ℕ
@@ -157,5 +157,5 @@ module _ (e : Edition) (b n : List ℕ) where
       ABSENT unless sought e b n .hit then 0
 
   -- a refusal leaves every byte
-  unfoldable pub remove-block : List ℕ
-  remove-block = let new = changed e b remove-writes in cond (eqb remove-code 0) new b
+  unfoldable pub remove-bytes : List ℕ
+  remove-bytes = let new = changed e b remove-writes in cond (eqb remove-code 0) new b

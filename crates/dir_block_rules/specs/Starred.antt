@@ -19,7 +19,7 @@ use Rattle.dir_block_rules.specs.Verdict.{best-pairs, pairs-in, verdict,
 use Rattle.dir.specs.Answers.{looked-code, looked-target, looked-compared}
 use Rattle.dir_block_rules.specs.Lookup.{seek, sought, up-to, names-compared, lookup, lookup-refusal}
 use Rattle.dir_block_rules.specs.Room.{longest, last-of, touching, room-of, has-room, case-a, case-b}
-use Rattle.dir_block_rules.specs.Change.{pair-bytes, best-of, with-best, sealed, changed, index-writes, insert-slot, writes-a, writes-b, writes-c, writes-d, insert-writes, insert-code, insert-block, gap-start-before, gap-end-after, remove-writes, remove-code, remove-block}
+use Rattle.dir_block_rules.specs.Change.{pair-bytes, best-of, with-best, sealed, changed, index-writes, insert-slot, writes-a, writes-b, writes-c, writes-d, insert-writes, insert-code, insert-bytes, gap-start-before, gap-end-after, remove-writes, remove-code, remove-bytes}
 
 -- a block of n bytes that holds only "." and "..", both with target i
 unfoldable pub fresh : Edition → ℕ → Target → List ℕ
@@ -47,7 +47,7 @@ answer b n =
 
 -- what an insert of n answers, and the block it leaves
 unfoldable pub inserted : List ℕ → List ℕ → List ℕ
-inserted b n = insert-code v4 b n (target 150 0) ∷ shape (insert-block v4 b n (target 150 0))
+inserted b n = insert-code v4 b n (target 150 0) ∷ shape (insert-bytes v4 b n (target 150 0))
 
 -- names: "a", and k bytes "b" or "c"
 abbrev pub a₁ : List ℕ
@@ -65,22 +65,22 @@ c1 = fresh v4 512 (target 128 0)
 
 -- C2: insert "a" (131)
 unfoldable pub c2 : List ℕ
-c2 = insert-block v4 c1 a₁ (target 131 0)
+c2 = insert-bytes v4 c1 a₁ (target 131 0)
 
 -- C3: remove it
 unfoldable pub c3 : List ℕ
-c3 = remove-block v4 c2 a₁
+c3 = remove-bytes v4 c2 a₁
 
 -- C4: C1 plus a 255-byte name
 unfoldable pub c4 : List ℕ
-c4 = insert-block v4 c1 (bs 255) (target 140 0)
+c4 = insert-bytes v4 c1 (bs 255) (target 140 0)
 
 -- C5: C1 plus names of 255, 1 and 117 bytes; then the last two removed
 unfoldable pub full : List ℕ
-full = insert-block v4 (insert-block v4 c4 a₁ (target 141 0)) (cs 117) (target 142 0)
+full = insert-bytes v4 (insert-bytes v4 c4 a₁ (target 141 0)) (cs 117) (target 142 0)
 
 unfoldable pub c5 : List ℕ
-c5 = remove-block v4 (remove-block v4 full a₁) (cs 117)
+c5 = remove-bytes v4 (remove-bytes v4 full a₁) (cs 117)
 
 -- the first case of the room rule that holds, (a) or (b): 1 or 2, else 0
 unfoldable pub by-case : List ℕ → List ℕ → ℕ
@@ -113,5 +113,5 @@ unfoldable pub rows : List Row
 rows = hash-rows ++ block-rows
 
 pub starred : every right rows ≡ true
-unfolding rows hash-rows block-rows block-size rol hash-byte hash-from places shape answer inserted c1 c2 c3 c4 c5 full by-case fresh best-pairs be be-from to-be slots-in slot-bytes pairs-in pair-bytes put written entry-size legal-name legal-number hash-of same-name fixed-name says cut whole apart entry-bytes pad gap-writes records slots count-of stale-of data-end verdict size-ok magic-ok span-ok tile-ok names-ok numbers-ok number-fits own-in legal-target legal-type index-ok rising best-ok once-ok seek sought names-compared up-to lookup lookup-refusal longest last-of touching room-of has-room best-of with-best sealed changed insert-slot writes-a writes-b writes-c writes-d insert-writes insert-code insert-block gap-start-before gap-end-after remove-writes remove-code remove-block
+unfolding rows hash-rows block-rows block-size rol hash-byte hash-from places shape answer inserted c1 c2 c3 c4 c5 full by-case fresh best-pairs be be-from to-be slots-in slot-bytes pairs-in pair-bytes put written entry-size legal-name legal-number hash-of same-name fixed-name says cut whole apart entry-bytes pad gap-writes records slots count-of stale-of data-end verdict size-ok magic-ok span-ok tile-ok names-ok numbers-ok number-fits own-in legal-target legal-type index-ok rising best-ok once-ok seek sought names-compared up-to lookup lookup-refusal longest last-of touching room-of has-room best-of with-best sealed changed insert-slot writes-a writes-b writes-c writes-d insert-writes insert-code insert-bytes gap-start-before gap-end-after remove-writes remove-code remove-bytes
 starred = refl

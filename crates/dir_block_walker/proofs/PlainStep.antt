@@ -36,7 +36,7 @@ use denote.Triple.Spec.{tripleOf}
 use denote.Triple.Clauses.{ensured, lasts}
 use Rattle.dir.specs.declared.Walked.{Walked}
 use Rattle.dir.specs.Answers.{walked-code}
-use Rattle.dir_block_rules.proofs.Walked as S
+use Rattle.dir.proofs.Walked as S
 use Rattle.dir_block_lookup.proofs.step as plain
 use Rattle.dir_block_walker.specs.declared.Walker.{Walker}
 use Rattle.dir_block_walker.specs.Place.{met, refusal}

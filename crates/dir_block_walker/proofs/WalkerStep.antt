@@ -21,7 +21,7 @@ use denote.Triple.Statement.{Contract}
 use denote.Triple.Spec.{tripleOf}
 use denote.Triple.Clauses.{ensured, lasts}
 use Rattle.dir.specs.declared.Walked.{Walked}
-use Rattle.dir_block_rules.proofs.Walked as S
+use Rattle.dir.proofs.Walked as S
 use Rattle.dir_block_walker.specs.declared.Walker.{Walker}
 use Rattle.dir_block_walker.proofs.Walker as T
 use Rattle.dir_block_walker.proofs.PlainStep.{Says}

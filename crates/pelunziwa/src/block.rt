@@ -4,7 +4,7 @@ ghost use Rattle.edition.specs.Edition.{v4};
 ghost use Rattle.dir_block_rules.specs.Verdict.{verdict};
 ghost use Rattle.dir.specs.Target.{target};
 ghost use Rattle.dir_block_rules.specs.Lookup.{lookup};
-ghost use Rattle.dir_block_rules.specs.Change.{insert-code, insert-block, remove-code, remove-block};
+ghost use Rattle.dir_block_rules.specs.Change.{insert-code, insert-bytes, remove-code, remove-bytes};
 ghost use Rattle.dir_block_rules.specs.Walk.{walk-step};
 ghost use Rattle.pelunziwa.specs.Answers.{as-found, as-seen, as-step};
 use crate::Found;
@@ -37,7 +37,7 @@ pub extern "C" fn pzw_block_lookup(block: &[u8], name: &[u8]) -> Found
 #[no_mangle]
 pub extern "C" fn pzw_block_insert(block: &mut [u8], name: &[u8], number: u64) -> u32
     ensures { λ r. ⌜ (r ≡ insert-code v4 (now (block .entry)) (now (name .entry)) (target number 0))
-        × (now (block .exit) ≡ insert-block v4 (now (block .entry)) (now (name .entry)) (target number 0)) ⌝ }
+        × (now (block .exit) ≡ insert-bytes v4 (now (block .entry)) (now (name .entry)) (target number 0)) ⌝ }
 {
     crate::code(dir_block_edit::insert(block, name, number))
 }
@@ -46,7 +46,7 @@ pub extern "C" fn pzw_block_insert(block: &mut [u8], name: &[u8], number: u64) -
 #[no_mangle]
 pub extern "C" fn pzw_block_remove(block: &mut [u8], name: &[u8]) -> u32
     ensures { λ r. ⌜ (r ≡ remove-code v4 (now (block .entry)) (now (name .entry)))
-        × (now (block .exit) ≡ remove-block v4 (now (block .entry)) (now (name .entry))) ⌝ }
+        × (now (block .exit) ≡ remove-bytes v4 (now (block .entry)) (now (name .entry))) ⌝ }
 {
     crate::code(dir_block_edit::remove(block, name))
 }

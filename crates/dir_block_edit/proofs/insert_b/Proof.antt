@@ -9,18 +9,18 @@ use borrow.Author.Needs.{needs}
 use Rattle.dir_block_edit.proofs.insert_b.Statement.{statement}
 use Rattle.dir_block_edit.proofs.insert_b.Tie as tie
 
-mul-place : tie.Need-mul-place
-mul-place c =
+mul-put-first : tie.Need-mul-put-first
+mul-put-first c =
     let p = c .before .before .before .before .before .before .before in
     omega (arith, slots-room _ (now (p .args .b)) (p .pre .0 .0) (p .pre .0 .1), p .pre .1, few-stale _ (p .pre .0 .0) (now (p .args .b)) (p .pre .0 .1) (p .args .end) (p .args .count) (p .args .stale) (p .args .p) (p .args .h) (p .args .u / 8) (p .pre .1 .0 .0) (p .pre .1 .0 .1 .0) (p .pre .1 .0 .1 .1 .0) (p .pre .1 .0 .1 .1 .1) (p .pre .1 .1 .0))
 
-add-place-2 : tie.Need-add-place-2
-add-place-2 c =
+add-put-first-2 : tie.Need-add-put-first-2
+add-put-first-2 c =
     let p = c .before .before .before .before .before .before .before in
     omega (arith, slots-room _ (now (p .args .b)) (p .pre .0 .0) (p .pre .0 .1), p .pre .1, few-stale _ (p .pre .0 .0) (now (p .args .b)) (p .pre .0 .1) (p .args .end) (p .args .count) (p .args .stale) (p .args .p) (p .args .h) (p .args .u / 8) (p .pre .1 .0 .0) (p .pre .1 .0 .1 .0) (p .pre .1 .0 .1 .1 .0) (p .pre .1 .0 .1 .1 .1) (p .pre .1 .1 .0))
 
-place-requires : tie.Need-place-requires
-place-requires c κs =
+put-first-requires : tie.Need-put-first-requires
+put-first-requires c κs =
     let p = c .before .before .before .before .before .before .before in
     (p .pre .0 .0, omega (arith, slots-room _ (now (p .args .b)) (p .pre .0 .0) (p .pre .0 .1), p .pre .1, few-stale _ (p .pre .0 .0) (now (p .args .b)) (p .pre .0 .1) (p .args .end) (p .args .count) (p .args .stale) (p .args .p) (p .args .h) (p .args .u / 8) (p .pre .1 .0 .0) (p .pre .1 .0 .1 .0) (p .pre .1 .0 .1 .1 .0) (p .pre .1 .0 .1 .1 .1) (p .pre .1 .1 .0)))
 
@@ -43,8 +43,8 @@ insert-b-spec =
     (λ c κs. search needs)
     (λ c. search needs)
     (λ c. search needs)
-    mul-place
-    add-place-2
-    place-requires
+    mul-put-first
+    add-put-first-2
+    put-first-requires
     (λ c. search needs)
     returns)

@@ -13,8 +13,8 @@ grow-requires c κs =
     let p = c .before .before .before in
     (p .pre .0, ((p .pre .1 .0 .0, (p .pre .1 .0 .1, omega (arith, p .pre .0 .0))), p .pre .1 .1 .0))
 
-place-requires : tie.Need-place-requires
-place-requires c κs =
+put-first-requires : tie.Need-put-first-requires
+put-first-requires c κs =
     let p = c .before .before .before .before .before .before .before in
     (p .pre .0 .0, omega (arith, slots-room _ (now (p .args .b)) (p .pre .0 .0) (p .pre .0 .1), p .pre .1))
 
@@ -42,7 +42,7 @@ insert-c-spec =
     (tie.spec
     grow-requires
     (λ c. search needs)
-    place-requires
+    put-first-requires
     (λ c. search needs)
     put-gap-requires
     (λ c. search needs)

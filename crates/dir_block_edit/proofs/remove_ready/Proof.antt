@@ -40,7 +40,7 @@ remove-found-requires c κs =
     let c₄ = c₂ .before .before in
     let c₇ = c₄ .before .before .before in
     let p = c₇ .before in
-    (p .pre .0, (end-read (now (p .args .b)) (c₄ .be32 .result) (count-read (now (p .args .b)) (c₄ .be32 .result) (c₄ .be32 .ensures .0)), ((ap (λ (s : Sought). s .hit) (c₂ .seek .ensures) ∙ c .before .if1 .taken, (ap (λ (s : Sought). s .place) (c₂ .seek .ensures), ap (λ (s : Sought). s .at) (c₂ .seek .ensures))), p .pre .1 .1)))
+    (p .pre .0, (end-read (now (p .args .b)) (c₄ .be32 .result) (count-read (now (p .args .b)) (c₄ .be32 .result) (c₄ .be32 .ensures .0)), ((ap (λ (s : Sought). s .hit) (c₂ .seek .ensures) ∙ c .before .if1 .taken, (ap (λ (s : Sought). s .index) (c₂ .seek .ensures), ap (λ (s : Sought). s .at) (c₂ .seek .ensures))), p .pre .1 .1)))
 
 returns : tie.Need-returns
 returns c =

@@ -53,8 +53,8 @@ use denote.Exit.{yes}
 use denote.Triple.Clauses.{ensured, lasts}
 use Rattle.edition.specs.Edition.{v4}
 use Rattle.dir.specs.declared.Walked.{Walked}
-use Rattle.dir_block_rules.proofs.Walked as S
-use Rattle.dir_block_rules.proofs.Walked.Laws as S′
+use Rattle.dir.proofs.Walked as S
+use Rattle.dir.proofs.Walked.Laws as S′
 use Rattle.dir_block_walker.specs.declared.Walker.{Walker}
 use Rattle.dir_block_walker.specs.Place.{moved, nth-place}
 use Rattle.dir_block_walker.proofs.Walker as T

@@ -37,8 +37,8 @@ use denote.Triple.Table.{entered, cited}
 use denote.Triple.Walked.{says, Stays, stay-none, stay-none-slice, walkOf, goes-none, goes-none-slice, Walks, ends-at, walked, walk-meets}
 use denote.Exit.{yes}
 use Rattle.dir.specs.declared.Walked.{Walked}
-use Rattle.dir_block_rules.proofs.Walked as S
-use Rattle.dir_block_rules.proofs.Walked.Laws as S′
+use Rattle.dir.proofs.Walked as S
+use Rattle.dir.proofs.Walked.Laws as S′
 use Rattle.dir_block_walker.specs.declared.Walker.{Walker}
 use Rattle.dir_block_walker.proofs.Walker.Laws as T′
 use Rattle.dir_block_walker.proofs.Made.{made, holds}
