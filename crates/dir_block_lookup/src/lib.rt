@@ -7,9 +7,8 @@ ghost use Rattle.be.specs.Bytes.{byte};
 ghost use Rattle.edition.specs.Edition.{v4, Sane};
 ghost use Rattle.name.specs.Name.{legal-name, same-name};
 ghost use Rattle.dir_block_rules.specs.Block.{records, data-end, count-of, slots};
-ghost use Rattle.dir.specs.Answers.{looked-code, looked-target, looked-compared, walked-code, walked-next, walked-seen};
-ghost use Rattle.dir_block_rules.specs.Lookup.{sought, name-at, target-at, lookup, lookup-code, lookup-target, lookup-compared};
-ghost use Rattle.dir_block_rules.specs.Walk.{is-place, walk-step, step-code, step-next, step-seen};
+ghost use Rattle.dir_block_rules.specs.Lookup.{sought, name-at, target-at, lookup, Lookup-promise};
+ghost use Rattle.dir_block_rules.specs.Walk.{is-place, walk-step, Step-promise};
 ghost use Rattle.dir_block_laws.specs.Pass.{Place, Steps};
 ghost use Rattle.dir_block_laws.specs.Tiled.{Ready};
 ghost use Rattle.dir_block_laws.specs.SlotPlaces.{all-below, all-from};
@@ -160,10 +159,7 @@ fn lookup_in(e: Edition, b: &[u8], name: &[u8]) -> Looked
 
 // The lookup of a name in a block of the V4 edition.
 pub fn lookup(b: &[u8], name: &[u8]) -> Looked
-    ensures { λ r. ⌜ (r ≡ lookup v4 (now (b .entry)) (now (name .entry)))
-        × (looked-code r ≡ lookup-code v4 (now (b .entry)) (now (name .entry)))
-        × (looked-target r ≡ lookup-target v4 (now (b .entry)) (now (name .entry)))
-        × (looked-compared r ≡ lookup-compared v4 (now (b .entry)) (now (name .entry))) ⌝ }
+    ensures { λ r. ⌜ Lookup-promise v4 (now (b .entry)) (now (name .entry)) r ⌝ }
 {
     lookup_in(V4::edition(), b, name)
 }
@@ -234,10 +230,7 @@ fn step_in(e: Edition, b: &[u8], p: usize) -> Walked
 
 // One step of the walk over a block of the V4 edition.
 pub fn step(b: &[u8], p: usize) -> Walked
-    ensures { λ r. ⌜ (r ≡ walk-step v4 (now (b .entry)) p)
-        × (walked-code r ≡ step-code v4 (now (b .entry)) p)
-        × (walked-next r ≡ step-next v4 (now (b .entry)) p)
-        × (walked-seen r ≡ step-seen v4 (now (b .entry)) p) ⌝ }
+    ensures { λ r. ⌜ Step-promise v4 (now (b .entry)) p r ⌝ }
 {
     step_in(V4::edition(), b, p)
 }

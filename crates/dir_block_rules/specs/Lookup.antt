@@ -2,6 +2,7 @@
 -- Assumes nothing.
 use Prim.Native.Nat.{ℕ, suc, _+_, _*_}
 use mathlib.Core.Bool.{Bool, true, false, cond, _&&_}
+use mathlib.Core.Path.{_≡_}
 use mathlib.Core.List.{List, [], _∷_}
 use lib.Dec.{eqb}
 use Rattle.refusal.specs.Refusal.{ASKED, ABSENT}
@@ -14,6 +15,7 @@ use Rattle.dir.specs.declared.Looked.{Looked}
 use Rattle.dir.specs.declared.Looked.the-variants.{Found, Absent, Refused}
 use Rattle.dir.specs.declared.Target.{Target}
 use Rattle.dir.specs.Target.{target, no-target}
+use Rattle.dir.specs.Answers.{looked-code, looked-target, looked-compared}
 use Rattle.dir_block_rules.specs.Block.{Slot, slots, is-live}
 use Rattle.dir_block_rules.specs.Verdict.{verdict}
 
@@ -99,3 +101,8 @@ looked-of e b n =
 
 unfoldable pub lookup : Edition → List ℕ → List ℕ → Looked
 lookup e b n = cond (eqb (lookup-refusal e b n) 0) (looked-of e b n) (Refused (lookup-refusal e b n))
+
+-- what a lookup promises of its answer: the answer itself, and its number and values
+abbrev pub Lookup-promise : Edition → List ℕ → List ℕ → Looked → Type 0
+Lookup-promise e b n r =
+    (r ≡ lookup e b n) × (looked-code r ≡ lookup-code e b n) × (looked-target r ≡ lookup-target e b n) × (looked-compared r ≡ lookup-compared e b n)

@@ -2,6 +2,7 @@
 -- Assumes nothing.
 use Prim.Native.Nat.{ℕ, zero, suc, _+_}
 use mathlib.Core.Bool.{Bool, cond, _||_}
+use mathlib.Core.Path.{_≡_}
 use mathlib.Core.List.{List, [], _∷_}
 use lib.Dec.{eqb}
 use Rattle.refusal.specs.Refusal.{ASKED}
@@ -14,7 +15,7 @@ use Rattle.dir.specs.declared.Seen.the-variants.{Live, Gap, End}
 use Rattle.dir.specs.declared.Step.{Step}
 use Rattle.dir.specs.declared.Walked.{Walked}
 use Rattle.dir.specs.declared.Walked.the-variants.{Stepped, Refused}
-use Rattle.dir.specs.Answers.{walked-next}
+use Rattle.dir.specs.Answers.{walked-code, walked-next, walked-seen}
 use Rattle.dir_block_rules.specs.Record.{Rec, rec, size, is-gap, namelen, target-of}
 use Rattle.dir_block_rules.specs.Block.{records, data-end}
 use Rattle.dir_block_rules.specs.Verdict.{verdict}
@@ -62,6 +63,11 @@ step-seen e b p = cond (eqb (step-code e b p) 0) (step-from e b p .seen) End
 -- one step: live entry, gap or end, together with where the walk now stands
 unfoldable pub walk-step : Edition → List ℕ → ℕ → Walked
 walk-step e b p = cond (eqb (step-code e b p) 0) (Stepped (step-from e b p)) (Refused (step-code e b p))
+
+-- what a step promises of its answer: the answer itself, and its number and values
+abbrev pub Step-promise : Edition → List ℕ → ℕ → Walked → Type 0
+Step-promise e b p r =
+    (r ≡ walk-step e b p) × (walked-code r ≡ step-code e b p) × (walked-next r ≡ step-next e b p) × (walked-seen r ≡ step-seen e b p)
 
 -- k steps, each from where the one before stands
 unfoldable pub walk : Edition → List ℕ → ℕ → ℕ → List Walked

@@ -35,17 +35,12 @@ use denote.Triple.Entry.{Vals, onEntry}
 use denote.Triple.Spec.{tripleOf}
 use denote.Triple.Clauses.{ensured, lasts}
 use Rattle.dir.specs.declared.Walked.{Walked}
-use Rattle.dir.specs.Answers.{walked-code}
 use Rattle.dir.proofs.Walked as S
 use Rattle.dir_block_lookup.proofs.step as plain
 use Rattle.dir_block_walker.specs.declared.Walker.{Walker}
-use Rattle.dir_block_walker.specs.Place.{met, refusal}
+use Rattle.dir_block_walker.specs.Place.{Says}
 use Rattle.dir_block_walker.proofs.Walker as T
 use Rattle.dir_block_walker.proofs.Walker.Laws as T′
-
--- an answer is what the walker meets, with its number
-abbrev pub Says : Walker → Walked → Type 0
-Says w r = (r ≡ met w) × (walked-code r ≡ refusal w)
 
 module _ {M : Type 1} (𝓤 : URA M) (H : Heap 𝓤) (A : Atoms 𝓤) (mem : Memory → SProp 𝓤) (run : Routine → Fun 𝓤) where
   abbrev pub Step-at : Contract 𝓤

@@ -24,7 +24,7 @@ use Rattle.dir.specs.declared.Walked.{Walked}
 use Rattle.dir.proofs.Walked as S
 use Rattle.dir_block_walker.specs.declared.Walker.{Walker}
 use Rattle.dir_block_walker.proofs.Walker as T
-use Rattle.dir_block_walker.proofs.PlainStep.{Says}
+use Rattle.dir_block_walker.specs.Place.{Says}
 use Rattle.dir_block_walker.proofs.step as step
 
 -- the walker's type, as the callee's signature has it

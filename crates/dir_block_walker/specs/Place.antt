@@ -6,16 +6,16 @@ use denote.Ref.{now}
 use Rattle.edition.specs.Edition.{v4}
 use Rattle.dir.specs.declared.Walked.{Walked}
 use Rattle.dir.specs.declared.Walked.the-variants.{Stepped, Refused}
-use Rattle.dir_block_rules.specs.Walk.{walk-step, step-code}
+use Rattle.dir_block_rules.specs.Walk.{walk-step, Step-promise}
 use Rattle.dir_block_walker.specs.declared.Walker.{Walker}
 
 -- the plain walk's step from the walker's place
 abbrev pub met : Walker → Walked
 met w = walk-step v4 (now (w .block)) (w .place)
 
--- the number of that step: 0, or its refusal's
-abbrev pub refusal : Walker → ℕ
-refusal w = step-code v4 (now (w .block)) (w .place)
+-- and what that step promises of its answer
+abbrev pub Says : Walker → Walked → Type 0
+Says w r = Step-promise v4 (now (w .block)) (w .place) r
 
 -- a step leads on; at the data's end it leads where it stood, and a refusal leaves the walker there
 abbrev pub place-after : ℕ → Walked → ℕ

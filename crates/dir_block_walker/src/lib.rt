@@ -2,9 +2,8 @@
 // apart and calls the plain walk.
 ghost use mathlib.Core.Path.{_≡_};
 ghost use Rattle.edition.specs.Edition.{v4};
-ghost use Rattle.dir.specs.Answers.{walked-code};
-ghost use Rattle.dir_block_rules.specs.Walk.{walk-step, step-code};
-ghost use Rattle.dir_block_walker.specs.Place.{met, refusal, place-after, moved, nth-place};
+ghost use Rattle.dir_block_rules.specs.Walk.{Step-promise};
+ghost use Rattle.dir_block_walker.specs.Place.{Says, place-after, moved, nth-place};
 use dir::Walked;
 use edition::V4;
 
@@ -26,7 +25,7 @@ pub fn start<'a>(block: &'a [u8]) -> Walker<'a>
 
 // What stands at the walker's place. The walker stays.
 pub fn step<'a>(w: Walker<'a>) -> Walked
-    ensures { λ r. ⌜ (r ≡ met (w .entry)) × (walked-code r ≡ refusal (w .entry)) ⌝ }
+    ensures { λ r. ⌜ Says (w .entry) r ⌝ }
 {
     dir_block_lookup::step(w.block, w.place)
 }
@@ -43,7 +42,7 @@ fn place_after(p: usize, walked: Walked) -> usize
 
 // What stands at the walker's place, and the walker moves on: at the end and after a refusal it stays.
 pub fn advance<'s, 'a>(w: &'s mut Walker<'a>) -> Walked
-    ensures { λ r. ⌜ ((r ≡ met (now (w .entry))) × (walked-code r ≡ refusal (now (w .entry)))) × (now (w .exit) ≡ moved (now (w .entry))) ⌝ }
+    ensures { λ r. ⌜ Says (now (w .entry)) r × (now (w .exit) ≡ moved (now (w .entry))) ⌝ }
 {
     let p = w.place;
     let walked = dir_block_lookup::step(w.block, p);
@@ -53,14 +52,14 @@ pub fn advance<'s, 'a>(w: &'s mut Walker<'a>) -> Walked
 
 // One step of a walker that stands at a place.
 pub fn step_from(block: &[u8], place: usize) -> Walked
-    ensures { λ r. ⌜ (r ≡ walk-step v4 (now (block .entry)) place) × (walked-code r ≡ step-code v4 (now (block .entry)) place) ⌝ }
+    ensures { λ r. ⌜ Step-promise v4 (now (block .entry)) place r ⌝ }
 {
     step(Walker { block, place })
 }
 
 // What a walker meets after n steps: it keeps its place between them.
 pub fn nth(block: &[u8], n: usize) -> Walked
-    ensures { λ r. ⌜ (r ≡ walk-step v4 (now (block .entry)) (nth-place (now (block .entry)) n)) × (walked-code r ≡ step-code v4 (now (block .entry)) (nth-place (now (block .entry)) n)) ⌝ }
+    ensures { λ r. ⌜ Step-promise v4 (now (block .entry)) (nth-place (now (block .entry)) n) r ⌝ }
 {
     let mut w = start(block);
     let mut i = 0;

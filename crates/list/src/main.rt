@@ -59,7 +59,7 @@ fn line(e: Edition, b: &[u8], tag: usize, n: Entry)
     let name = &b[from..end];
     number(tag as u64);
     text(b" ");
-    number(n.number);
+    number(n.target.inode);
     text(b" ");
     io::print_hex(STDOUT_FILENO, name::hash(e, name) as u64, 8);
     text(b" ");

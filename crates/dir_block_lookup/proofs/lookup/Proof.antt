@@ -6,14 +6,14 @@ use Rattle.edition.specs.declared.Edition.{Edition}
 use Rattle.edition.specs.Edition.{v4}
 use Rattle.dir.specs.declared.Looked.{Looked}
 use Rattle.dir.specs.Answers.{looked-code, looked-target, looked-compared}
-use Rattle.dir_block_rules.specs.Lookup.{lookup, lookup-code, lookup-target, lookup-compared}
+use Rattle.dir_block_rules.specs.Lookup.{lookup, Lookup-promise}
 use Rattle.dir_block_rules.proofs.LookupRight.{lookup-is, target-is, compared-is}
 use Rattle.dir_block_lookup.proofs.lookup.Statement.{statement}
 use Rattle.dir_block_lookup.proofs.lookup.Tie as tie
 
 -- of the edition that was made
 made : {e : Edition} {r : Looked} (b n : List ℕ) → r ≡ lookup e b n → e ≡ v4
-    → (r ≡ lookup v4 b n) × (looked-code r ≡ lookup-code v4 b n) × (looked-target r ≡ lookup-target v4 b n) × (looked-compared r ≡ lookup-compared v4 b n)
+    → Lookup-promise v4 b n r
 made b n h q =
     let k = rw q at h in
     (k, ap looked-code k ∙ lookup-is v4 b n, ap looked-target k ∙ target-is v4 b n, ap looked-compared k ∙ compared-is v4 b n)

@@ -51,10 +51,10 @@ use Rattle.dir_block_lookup.proofs.step.Symbol as plain-def
 use Rattle.dir_block_lookup.proofs.step.Symbol.{name as #dir_block_lookup·step}
 use Rattle.dir_block_lookup.proofs.step.Met as plain-thm
 use Rattle.dir_block_walker.specs.declared.Walker.{Walker}
-use Rattle.dir_block_walker.specs.Place.{place-after}
+use Rattle.dir_block_walker.specs.Place.{Says, place-after}
 use Rattle.dir_block_walker.proofs.Walker as T
 use Rattle.dir_block_walker.proofs.Walker.Laws as T′
-use Rattle.dir_block_walker.proofs.PlainStep.{Says, Step-at, to, goes, gives}
+use Rattle.dir_block_walker.proofs.PlainStep.{Step-at, to, goes, gives}
 use Rattle.dir_block_walker.proofs.place_after as after
 use Rattle.dir_block_walker.proofs.place_after.Symbol as after-def
 use Rattle.dir_block_walker.proofs.place_after.Symbol.{name as #dir_block_walker·place-after}

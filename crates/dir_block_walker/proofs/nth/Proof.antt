@@ -56,12 +56,11 @@ use Rattle.dir.specs.declared.Walked.{Walked}
 use Rattle.dir.proofs.Walked as S
 use Rattle.dir.proofs.Walked.Laws as S′
 use Rattle.dir_block_walker.specs.declared.Walker.{Walker}
-use Rattle.dir_block_walker.specs.Place.{moved, nth-place}
+use Rattle.dir_block_walker.specs.Place.{Says, moved, nth-place}
 use Rattle.dir_block_walker.proofs.Walker as T
 use Rattle.dir_block_walker.proofs.Walker.Laws as T′
 use Rattle.dir_block_walker.proofs.Made.{made}
 use Rattle.dir_block_walker.proofs.Within.{Rest, begins, ends}
-use Rattle.dir_block_walker.proofs.PlainStep.{Says}
 use Rattle.dir_block_walker.proofs.WalkerStep.{B, Stepping, to, goes, gives}
 use Rattle.dir_block_walker.proofs.start as start
 use Rattle.dir_block_walker.proofs.start.Symbol as start-def

@@ -42,7 +42,8 @@ use Rattle.dir_block_lookup.proofs.step.Met as plain-thm
 use Rattle.dir_block_walker.specs.declared.Walker.{Walker}
 use Rattle.dir_block_walker.proofs.Walker as T
 use Rattle.dir_block_walker.proofs.Walker.Laws as T′
-use Rattle.dir_block_walker.proofs.PlainStep.{Says, Step-at, to, goes, gives}
+use Rattle.dir_block_walker.specs.Place.{Says}
+use Rattle.dir_block_walker.proofs.PlainStep.{Step-at, to, goes, gives}
 use Rattle.dir_block_walker.proofs.step.Key.{name as #dir_block_walker·step}
 use Rattle.dir_block_walker.proofs.step as step
 use Rattle.dir_block_walker.proofs.step.Statement as stated

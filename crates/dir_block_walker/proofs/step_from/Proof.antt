@@ -42,7 +42,7 @@ use Rattle.dir.proofs.Walked.Laws as S′
 use Rattle.dir_block_walker.specs.declared.Walker.{Walker}
 use Rattle.dir_block_walker.proofs.Walker.Laws as T′
 use Rattle.dir_block_walker.proofs.Made.{made, holds}
-use Rattle.dir_block_walker.proofs.PlainStep.{Says}
+use Rattle.dir_block_walker.specs.Place.{Says}
 use Rattle.dir_block_walker.proofs.WalkerStep.{B, Stepping, to, goes, gives}
 use Rattle.dir_block_walker.proofs.step.Symbol as step-def
 use Rattle.dir_block_walker.proofs.step.Symbol.{name as #dir_block_walker·step}
