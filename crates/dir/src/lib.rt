@@ -6,7 +6,7 @@ ghost use Prim.Native.Nat.{_+_, _≤_};
 ghost use lib.ListN.{length};
 ghost use Rattle.be.specs.Bytes.{field, to-be, put};
 ghost use Rattle.edition.specs.Edition.{Sane};
-ghost use Rattle.dir.specs.Target.{legal-type, legal-target};
+ghost use Rattle.dir.specs.Target.{legal-type, legal-target, kept-of};
 use edition::Edition;
 
 // What an entry's name stands for: an inode number and a file type, 0 where the edition has none.
@@ -68,6 +68,19 @@ pub fn put_kind(e: Edition, b: &mut [u8], o: usize, v: usize)
         return;
     }
     be::put8(b, o, v);
+}
+
+// What an entry keeps of a target: an edition without a type byte ignores the type.
+pub fn kept(e: Edition, t: Target) -> Target
+    ensures { λ r. ⌜ r ≡ kept-of e t ⌝ }
+{
+    if e.ftype == 0 {
+        return Target {
+            inode: t.inode,
+            kind: 0,
+        };
+    }
+    t
 }
 
 // Whether a file type is legal: 1 to 8 where the edition has one, else any.

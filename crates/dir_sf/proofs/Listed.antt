@@ -9,7 +9,7 @@ use lib.ListN.{length, take, drop}
 use lib.Seq.{drop-drop}
 use Rattle.be.specs.Bytes.{byte, field, put}
 use Rattle.edition.specs.declared.Edition.{Edition}
-use Rattle.dir_sf.specs.Entry.{Entry, width-of, entries-in, enough, start-of, entries-bytes}
+use Rattle.dir_sf.specs.Entry.{SfEntry, width-of, entries-in, enough, start-of, entries-bytes}
 use Rattle.dir_sf.specs.Fork.{Readable, count-of, stored-wides, used-width, parent, list-of, entries, place-of}
 use Rattle.dir_sf.proofs.Run.{Run, run-at, run-on, run-one, enough-fewer, entries-take, entries-drop, length-entries-in}
 
@@ -93,11 +93,11 @@ module _ (e : Edition) (u : List ℕ) (wides index at : ℕ) (b : wides ≡ byte
 
     pub others-bytes : (after o : ℕ) (t t₁ : List ℕ) → t₁ ≡ put t o (entries-bytes e (width-of after) (entries-in e (width-of wides) (k - index) (drop at u)))
         → t₁ ≡ put t o (entries-bytes e (width-of after) (drop index (entries e u)))
-    others-bytes after o t t₁ h = h ∙ ap (λ (xs : List Entry). put t o (entries-bytes e (width-of after) xs)) others-is
+    others-bytes after o t t₁ h = h ∙ ap (λ (xs : List SfEntry). put t o (entries-bytes e (width-of after) xs)) others-is
 
     pub others-end : (after o z : ℕ) → z ≡ o + length (entries-bytes e (width-of after) (entries-in e (width-of wides) (k - index) (drop at u)))
         → z ≡ o + length (entries-bytes e (width-of after) (drop index (entries e u)))
-    others-end after o z h = h ∙ ap (λ (xs : List Entry). o + length (entries-bytes e (width-of after) xs)) others-is
+    others-end after o z h = h ∙ ap (λ (xs : List SfEntry). o + length (entries-bytes e (width-of after) xs)) others-is
 
 -- the entry at a place, and the next one
 module _ (e : Edition) (u : List ℕ) (wides index at : ℕ) (b : wides ≡ byte 1 u) (r : Readable e u) (l : index < count-of u) (q : at ≡ place-of e index u) where
@@ -127,8 +127,8 @@ module _ (e : Edition) (u : List ℕ) (wides w index : ℕ) (b : wides ≡ byte 
 
   pub first-bytes : (after o : ℕ) (t t₁ : List ℕ) → t₁ ≡ put t o (entries-bytes e (width-of after) (entries-in e (width-of wides) index (drop (2 + w) u)))
       → t₁ ≡ put t o (entries-bytes e (width-of after) (take index (entries e u)))
-  first-bytes after o t t₁ h = h ∙ ap (λ (xs : List Entry). put t o (entries-bytes e (width-of after) xs)) first-is
+  first-bytes after o t t₁ h = h ∙ ap (λ (xs : List SfEntry). put t o (entries-bytes e (width-of after) xs)) first-is
 
   pub first-end : (after o z : ℕ) → z ≡ o + length (entries-bytes e (width-of after) (entries-in e (width-of wides) index (drop (2 + w) u)))
       → z ≡ o + length (entries-bytes e (width-of after) (take index (entries e u)))
-  first-end after o z h = h ∙ ap (λ (xs : List Entry). o + length (entries-bytes e (width-of after) xs)) first-is
+  first-end after o z h = h ∙ ap (λ (xs : List SfEntry). o + length (entries-bytes e (width-of after) xs)) first-is

@@ -10,40 +10,42 @@ use lib.Dec.{ltb}
 use lib.ListN.{length, drop}
 use lib.Seq.{drop-drop}
 use borrow.Author.Tests.{lt-ltb, le-ltb, ltb-true, not-true, not-false}
-use Rattle.refusal.specs.Refusal.{ASKED, FIXED, ABSENT}
+use Rattle.refusal.specs.Refusal.{ASKED, FIXED}
 use Rattle.be.specs.Lists.{same}
 use Rattle.be.specs.Bytes.{byte, field}
 use Rattle.be.proofs.Bools.{by-cases}
 use Rattle.edition.specs.declared.Edition.{Edition}
 use Rattle.name.specs.Name.{legal-name, same-name}
-use Rattle.dir_sf.specs.declared.Looked.the-variants.{Found, Refused}
-use Rattle.dir_sf.specs.Entry.{Entry, width-of, long-in, entry-in, entries-in, enough, start-of}
+use Rattle.dir.specs.declared.Looked.the-variants.{Found, Absent, Refused}
+use Rattle.dir.specs.declared.Target.{Target}
+use Rattle.dir.specs.Target.{target, no-target, kept-of}
+use Rattle.dir_sf.specs.Entry.{SfEntry, width-of, long-in, entry-in, entries-in, enough, start-of}
 use Rattle.dir_sf.specs.Fork.{Readable, entries, holds, count-of}
-use Rattle.dir_sf.specs.Change.{Hits, seek, number-in, lookup-code, lookup-inode}
-use Rattle.dir_sf.specs.Inode.{as-looked, looked}
-use Rattle.dir_sf.proofs.Names.{absent-number}
+use Rattle.dir_sf.specs.Change.{Hits, seek, target-in, target-for}
+use Rattle.dir_sf.specs.Inode.{looked}
+use Rattle.dir_sf.proofs.Names.{absent-target}
 use Rattle.dir_sf.proofs.Tests.{seek-holds}
 use Rattle.dir_sf.proofs.Listed.{header-in, list-enough, entries-is, place-is, count-is}
-use Rattle.dir_sf.proofs.Run.{run-at, run-one, length-entries-in, inode-at-is}
+use Rattle.dir_sf.proofs.Run.{run-at, run-one, length-entries-in, target-at-is}
 
-seek-le : (e : Edition) (n : List ℕ) (xs : List Entry) → seek e n xs ≤ length xs
+seek-le : (e : Edition) (n : List ℕ) (xs : List SfEntry) → seek e n xs ≤ length xs
 unfolding seek
 seek-le e n [] = omega arith
 seek-le e n (x ∷ xs) = by-cases (same-name e n (x .name)) (λ q. rw q (omega arith)) (λ q. rw q (omega (arith, seek-le e n xs)))
 
--- the number of the entry that the search finds
-number-seek : (e : Edition) (n : List ℕ) (w k : ℕ) (d : List ℕ) → seek e n (entries-in e w k d) < k
-    → number-in e n (entries-in e w k d) ≡ entry-in e w (drop (start-of e w (seek e n (entries-in e w k d)) d) d) .inode
-unfolding entries-in seek number-in start-of
-number-seek e n w zero d h = absurd (omega arith)
-number-seek e n w (suc k) d h =
+-- what the entry that the search finds stands for
+target-seek : (e : Edition) (n : List ℕ) (w k : ℕ) (d : List ℕ) → seek e n (entries-in e w k d) < k
+    → target-in e n (entries-in e w k d) ≡ entry-in e w (drop (start-of e w (seek e n (entries-in e w k d)) d) d) .target
+unfolding entries-in seek target-in start-of
+target-seek e n w zero d h = absurd (omega arith)
+target-seek e n w (suc k) d h =
     by-cases (same-name e n (entry-in e w d .name))
     (λ q. rw q refl)
     (λ q.
     let d' : List ℕ = drop (long-in e w d) d in
     let j : ℕ = seek e n (entries-in e w k d') in
     let l : suc j < suc k = rw q at h in
-    rw (q, ← drop-drop (start-of e w j d') (long-in e w d) d) (number-seek e n w k d' (omega arith)))
+    rw (q, ← drop-drop (start-of e w j d') (long-in e w d) d) (target-seek e n w k d' (omega arith)))
 
 module _ (e : Edition) (u n : List ℕ) (k wides w i q : ℕ) (a : k ≡ byte 0 u) (b : wides ≡ byte 1 u) (c : w ≡ width-of wides)
     (s : i ≡ seek e n (entries-in e (width-of wides) k (drop (2 + w) u))) (pl : q ≡ 2 + w + start-of e (width-of wides) i (drop (2 + w) u)) where
@@ -58,10 +60,10 @@ module _ (e : Edition) (u n : List ℕ) (k wides w i q : ℕ) (a : k ≡ byte 0 
       ap (holds e n) es ∙ seek-holds e n (entries-in e (width-of wides) k (drop (2 + w) u))
       ∙ ap₂ (λ (x y : ℕ). ltb x y) (sym s) (length-entries-in e (width-of wides) k (drop (2 + w) u))
 
-  pub hit-none : i ≡ k → Hits e n u (record { held = false; index = i; at = q; number = 0 })
+  pub hit-none : i ≡ k → Hits e n u (record { held = false; index = i; at = q; target = no-target })
   hit-none f =
       let z : holds e n (entries e u) ≡ false = held ∙ le-ltb i k (omega arith) in
-      record { held-is = sym z; index-is = index; at-is = place-is e u wides w i q b c pl; number-is = sym (absent-number e n (entries e u) z) }
+      record { held-is = sym z; index-is = index; at-is = place-is e u wides w i q b c pl; target-is = sym (absent-target e n (entries e u) z) }
 
   module _ (f : i ≡ k → ⊥) where
     inside : i < k
@@ -73,20 +75,21 @@ module _ (e : Edition) (u n : List ℕ) (k wides w i q : ℕ) (a : k ≡ byte 0 
         run-one e (width-of wides) u (2 + w) k i q
         (run-at e (width-of wides) u (2 + w) k i q (header-in u wides w (r .header) b c) (list-enough e u k wides w a b c (r .listed)) (omega (arith, inside)) pl) inside
 
-    pub hit-one : (m j : ℕ) → m ≡ byte q u → j ≡ field (q + 3 + m + e .ftype) (width-of wides) u → Hits e n u (record { held = true; index = i; at = q; number = j })
+    pub hit-one : (m : ℕ) (j : Target) → m ≡ byte q u → j ≡ target (field (q + 3 + m + e .ftype) (width-of wides) u) (field (q + 3 + m) (e .ftype) u)
+        → Hits e n u (record { held = true; index = i; at = q; target = j })
     hit-one m j h r =
         let W : ℕ = width-of wides in
         let d : List ℕ = drop (2 + w) u in
         let z : drop (start-of e W i d) d ≡ drop q u = drop-drop (start-of e W i d) (2 + w) u ∙ ap (λ (y : ℕ). drop y u) (sym pl) in
-        let x : number-in e n (entries-in e W k d) ≡ entry-in e W (drop (start-of e W i d) d) .inode =
-        number-seek e n W k d (rw (← s) inside) ∙ ap (λ (y : ℕ). entry-in e W (drop (start-of e W y d) d) .inode) (sym s) in
-        let v : entry-in e W (drop (start-of e W i d) d) .inode ≡ j =
-        ap (λ (y : List ℕ). entry-in e W y .inode) z ∙ inode-at-is e W u q ∙ ap (λ (y : ℕ). field (q + 3 + y + e .ftype) W u) (sym h) ∙ sym r in
+        let x : target-in e n (entries-in e W k d) ≡ entry-in e W (drop (start-of e W i d) d) .target =
+        target-seek e n W k d (rw (← s) inside) ∙ ap (λ (y : ℕ). entry-in e W (drop (start-of e W y d) d) .target) (sym s) in
+        let v : entry-in e W (drop (start-of e W i d) d) .target ≡ j =
+        ap (λ (y : List ℕ). entry-in e W y .target) z ∙ target-at-is e W u q m h ∙ sym r in
         record {
           held-is = sym (held ∙ lt-ltb i k inside);
           index-is = index;
           at-is = place-is e u wides w i q b c pl;
-          number-is = sym (ap (number-in e n) es ∙ x ∙ v);
+          target-is = sym (ap (target-in e n) es ∙ x ∙ v);
         }
 
 -- what the search found is one of the entries
@@ -97,25 +100,25 @@ hit-index e n u i s h =
 
 -- ---- the answer, test by test
 
-module _ (e : Edition) (n : List ℕ) (p : ℕ) (xs : List Entry) (t₁ : Bool) (h₁ : t₁ ≡ legal-name e n) where
-  pub look-11 : not t₁ ≡ true → Refused ASKED ≡ looked e n p xs
-  unfolding looked as-looked lookup-code
-  look-11 f = sym (rw (sym h₁ ∙ not-true t₁ f) refl)
+module _ (e : Edition) (n : List ℕ) (p : ℕ) (xs : List SfEntry) (t₁ : Bool) (h₁ : t₁ ≡ legal-name e n) where
+  pub look-asked : not t₁ ≡ true → Refused ASKED ≡ looked e n p xs
+  unfolding looked
+  look-asked f = sym (rw (sym h₁ ∙ not-true t₁ f) refl)
 
   module _ (g₁ : not t₁ ≡ false) (t₂ : Bool) (h₂ : t₂ ≡ same n (46 ∷ [])) where
-    pub look-12 : t₂ ≡ true → Refused FIXED ≡ looked e n p xs
-    unfolding looked as-looked lookup-code
-    look-12 f = sym (rw (sym h₁ ∙ not-false t₁ g₁, sym h₂ ∙ f) refl)
+    pub look-fixed : t₂ ≡ true → Refused FIXED ≡ looked e n p xs
+    unfolding looked
+    look-fixed f = sym (rw (sym h₁ ∙ not-false t₁ g₁, sym h₂ ∙ f) refl)
 
     module _ (g₂ : t₂ ≡ false) (t₃ : Bool) (h₃ : t₃ ≡ same n (46 ∷ 46 ∷ [])) where
-      pub look-parent : (j : ℕ) → t₃ ≡ true → j ≡ p → Found j ≡ looked e n p xs
-      unfolding looked as-looked lookup-code lookup-inode
-      look-parent j f q = sym (rw (sym h₁ ∙ not-false t₁ g₁, sym h₂ ∙ g₂, sym h₃ ∙ f, q) refl)
+      pub look-parent : (q : ℕ) (j : Target) → t₃ ≡ true → q ≡ p → j ≡ kept-of e (target q 2) → Found j 0 ≡ looked e n p xs
+      unfolding looked target-for
+      look-parent q j f h k = sym (rw (sym h₁ ∙ not-false t₁ g₁, sym h₂ ∙ g₂, sym h₃ ∙ f, k, h) refl)
 
-      pub look-13 : (t₄ : Bool) → t₃ ≡ false → t₄ ≡ holds e n xs → t₄ ≡ false → Refused ABSENT ≡ looked e n p xs
-      unfolding looked as-looked lookup-code
-      look-13 t₄ f h q = sym (rw (sym h₁ ∙ not-false t₁ g₁, sym h₂ ∙ g₂, sym h₃ ∙ f, sym h ∙ q) refl)
+      pub look-absent : (t₄ : Bool) → t₃ ≡ false → t₄ ≡ holds e n xs → t₄ ≡ false → Absent 0 ≡ looked e n p xs
+      unfolding looked
+      look-absent t₄ f h q = sym (rw (sym h₁ ∙ not-false t₁ g₁, sym h₂ ∙ g₂, sym h₃ ∙ f, sym h ∙ q) refl)
 
-      pub look-found : (t₄ : Bool) (j : ℕ) → t₃ ≡ false → t₄ ≡ holds e n xs → t₄ ≡ true → j ≡ number-in e n xs → Found j ≡ looked e n p xs
-      unfolding looked as-looked lookup-code lookup-inode
+      pub look-found : (t₄ : Bool) (j : Target) → t₃ ≡ false → t₄ ≡ holds e n xs → t₄ ≡ true → j ≡ target-in e n xs → Found j 0 ≡ looked e n p xs
+      unfolding looked target-for
       look-found t₄ j f h q k = sym (rw (sym h₁ ∙ not-false t₁ g₁, sym h₂ ∙ g₂, sym h₃ ∙ f, sym h ∙ q, k) refl)

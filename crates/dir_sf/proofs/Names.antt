@@ -1,4 +1,4 @@
--- Laws of the names asked for and stored: `same-name`, `holds`, `number-in`.
+-- Laws of the names asked for and stored: `same-name`, `holds`, `target-in`.
 -- Assumes nothing.
 use Prim.Native.Nat.{ℕ}
 use mathlib.Core.Bool.{Bool, true, false, not, _||_, true≢false}
@@ -9,9 +9,10 @@ use Rattle.edition.specs.declared.Edition.{Edition}
 use Rattle.name.specs.Name.{same-name}
 use Rattle.name.proofs.Same.{same-name-trans}
 use Rattle.be.proofs.Bools.{and-left, and-right, by-cases, clash, or-right, neither}
-use Rattle.dir_sf.specs.Entry.{Entry}
+use Rattle.dir.specs.Target.{no-target}
+use Rattle.dir_sf.specs.Entry.{SfEntry}
 use Rattle.dir_sf.specs.Fork.{holds, once-ok}
-use Rattle.dir_sf.specs.Change.{number-in}
+use Rattle.dir_sf.specs.Change.{target-in}
 
 -- a test that would follow fails where its consequence does
 pub fails : (a b : Bool) → (a ≡ true → b ≡ true) → b ≡ false → a ≡ false
@@ -19,7 +20,7 @@ fails true b f h = absurd (clash (f refl) h)
 fails false b f h = refl
 
 -- two names that are the same are held alike
-pub holds-same : (e : Edition) (m n : List ℕ) (xs : List Entry) → same-name e m n ≡ true → holds e n xs ≡ true → holds e m xs ≡ true
+pub holds-same : (e : Edition) (m n : List ℕ) (xs : List SfEntry) → same-name e m n ≡ true → holds e n xs ≡ true → holds e m xs ≡ true
 unfolding holds
 holds-same e m n [] s h = h
 holds-same e m n (x ∷ xs) s h =
@@ -27,25 +28,25 @@ holds-same e m n (x ∷ xs) s h =
     (λ q. rw (same-name-trans e m n (x .name) s q) refl)
     (λ q. or-right (same-name e m (x .name)) _ (holds-same e m n xs s (rw q at h)))
 
-pub absent-same : (e : Edition) (m n : List ℕ) (xs : List Entry) → same-name e m n ≡ true → holds e m xs ≡ false → holds e n xs ≡ false
+pub absent-same : (e : Edition) (m n : List ℕ) (xs : List SfEntry) → same-name e m n ≡ true → holds e m xs ≡ false → holds e n xs ≡ false
 absent-same e m n xs s h = fails (holds e n xs) (holds e m xs) (holds-same e m n xs s) h
 
--- a name that no entry bears has no number
-pub absent-number : (e : Edition) (n : List ℕ) (xs : List Entry) → holds e n xs ≡ false → number-in e n xs ≡ 0
-unfolding holds number-in
-absent-number e n [] h = refl
-absent-number e n (x ∷ xs) h =
+-- a name that no entry bears stands for nothing
+pub absent-target : (e : Edition) (n : List ℕ) (xs : List SfEntry) → holds e n xs ≡ false → target-in e n xs ≡ no-target
+unfolding holds target-in
+absent-target e n [] h = refl
+absent-target e n (x ∷ xs) h =
     let o = neither (same-name e n (x .name)) _ h in
-    rw (o .0) (absent-number e n xs (o .1))
+    rw (o .0) (absent-target e n xs (o .1))
 
-pub once-head : (e : Edition) (x : Entry) (xs : List Entry) → once-ok e (x ∷ xs) ≡ true → holds e (x .name) xs ≡ false
+pub once-head : (e : Edition) (x : SfEntry) (xs : List SfEntry) → once-ok e (x ∷ xs) ≡ true → holds e (x .name) xs ≡ false
 unfolding once-ok
 once-head e x xs h = not-true _ (and-left (not (holds e (x .name) xs)) _ h)
 
-pub once-tail : (e : Edition) (x : Entry) (xs : List Entry) → once-ok e (x ∷ xs) ≡ true → once-ok e xs ≡ true
+pub once-tail : (e : Edition) (x : SfEntry) (xs : List SfEntry) → once-ok e (x ∷ xs) ≡ true → once-ok e xs ≡ true
 unfolding once-ok
 once-tail e x xs h = and-right (not (holds e (x .name) xs)) _ h
 
-pub once-cons : (e : Edition) (x : Entry) (xs : List Entry) → holds e (x .name) xs ≡ false → once-ok e xs ≡ true → once-ok e (x ∷ xs) ≡ true
+pub once-cons : (e : Edition) (x : SfEntry) (xs : List SfEntry) → holds e (x .name) xs ≡ false → once-ok e xs ≡ true → once-ok e (x ∷ xs) ≡ true
 unfolding once-ok
 once-cons e x xs h k = rw h k

@@ -5,7 +5,7 @@ use native.Mathlib.Nat.{add-zero}
 use native.Mathlib.Numerals.{add-one}
 use native.Mathlib.Omega.{arith}
 use mathlib.Core.Bool.{true}
-use mathlib.Core.Path.{_≡_, refl, sym, _∙_, ap, subst}
+use mathlib.Core.Path.{_≡_, refl, sym, _∙_, ap, ap₂, subst}
 use mathlib.Core.List.{List, [], _∷_, _++_}
 use lib.Dec.{leb}
 use lib.ListN.{length, take, drop, getD, length-drop}
@@ -14,7 +14,8 @@ use borrow.Author.Tests.{leb-true}
 use Rattle.be.specs.Bytes.{part, field}
 use Rattle.be.proofs.Bools.{and-left, and-right, and-both}
 use Rattle.edition.specs.declared.Edition.{Edition}
-use Rattle.dir_sf.specs.Entry.{Entry, long-in, entry-in, entries-in, filled, enough, start-of}
+use Rattle.dir.specs.Target.{target}
+use Rattle.dir_sf.specs.Entry.{SfEntry, long-in, entry-in, entries-in, filled, enough, start-of}
 
 pub length-entries-in : (e : Edition) (w k : ℕ) (d : List ℕ) → length (entries-in e w k d) ≡ k
 unfolding entries-in
@@ -38,7 +39,7 @@ entries-snoc e w i d = rw add-one (go e w i d)
     go : (e : Edition) (w i : ℕ) (d : List ℕ) → entries-in e w (suc i) d ≡ entries-in e w i d ++ (entry-in e w (drop (start-of e w i d) d) ∷ [])
     go e w zero d = refl
     go e w (suc i) d =
-        ap (λ (l : List Entry). entry-in e w d ∷ l)
+        ap (λ (l : List SfEntry). entry-in e w d ∷ l)
         (go e w i (drop (long-in e w d) d)
         ∙ ap (λ (l : List ℕ). entries-in e w i (drop (long-in e w d) d) ++ (entry-in e w l ∷ [])) (drop-drop (start-of e w i (drop (long-in e w d) d)) (long-in e w d) d))
 
@@ -126,17 +127,23 @@ pub name-at-is : (e : Edition) (w : ℕ) (u : List ℕ) (p : ℕ) → entry-in e
 unfolding entry-in
 name-at-is e w u p = rw (drop-drop 3 p u, name-byte u p) refl
 
-pub inode-at-is : (e : Edition) (w : ℕ) (u : List ℕ) (p : ℕ) → entry-in e w (drop p u) .inode ≡ field (p + 3 + getD u p 0 + e .ftype) w u
+pub inode-at-is : (e : Edition) (w : ℕ) (u : List ℕ) (p : ℕ) → entry-in e w (drop p u) .target .inode ≡ field (p + 3 + getD u p 0 + e .ftype) w u
 unfolding entry-in
 inode-at-is e w u p =
     let q : p + (3 + getD (drop p u) 0 0 + e .ftype) ≡ p + 3 + getD u p 0 + e .ftype = omega (arith, name-byte u p) in
     rw (drop-drop (3 + getD (drop p u) 0 0 + e .ftype) p u, q) refl
 
-pub kind-at-is : (e : Edition) (w : ℕ) (u : List ℕ) (p : ℕ) → entry-in e w (drop p u) .kind ≡ field (p + 3 + getD u p 0) (e .ftype) u
+pub kind-at-is : (e : Edition) (w : ℕ) (u : List ℕ) (p : ℕ) → entry-in e w (drop p u) .target .kind ≡ field (p + 3 + getD u p 0) (e .ftype) u
 unfolding entry-in
 kind-at-is e w u p =
     let q : p + (3 + getD (drop p u) 0 0) ≡ p + 3 + getD u p 0 = omega (arith, name-byte u p) in
     rw (drop-drop (3 + getD (drop p u) 0 0) p u, q) refl
+
+pub target-at-is : (e : Edition) (w : ℕ) (u : List ℕ) (p n : ℕ) → n ≡ getD u p 0
+    → entry-in e w (drop p u) .target ≡ target (field (p + 3 + n + e .ftype) w u) (field (p + 3 + n) (e .ftype) u)
+target-at-is e w u p n h =
+    ap₂ (λ (i k : ℕ). target i k) (inode-at-is e w u p ∙ ap (λ (m : ℕ). field (p + 3 + m + e .ftype) w u) (sym h))
+    (kind-at-is e w u p ∙ ap (λ (m : ℕ). field (p + 3 + m) (e .ftype) u) (sym h))
 
 -- entries that fill the bytes lie in them, and so do fewer
 pub filled-enough : (e : Edition) (w k : ℕ) (d : List ℕ) → filled e w k d ≡ true → enough e w k d ≡ true
@@ -167,7 +174,7 @@ pub entries-take : (e : Edition) (w j k : ℕ) (d : List ℕ) → j ≤ k → ta
 unfolding entries-in
 entries-take e w zero k d h = refl
 entries-take e w (suc j) zero d h = absurd (omega arith)
-entries-take e w (suc j) (suc k) d h = ap (λ (l : List Entry). entry-in e w d ∷ l) (entries-take e w j k (drop (long-in e w d) d) (omega arith))
+entries-take e w (suc j) (suc k) d h = ap (λ (l : List SfEntry). entry-in e w d ∷ l) (entries-take e w j k (drop (long-in e w d) d) (omega arith))
 
 pub entries-drop : (e : Edition) (w j k : ℕ) (d : List ℕ) → j ≤ k → drop j (entries-in e w k d) ≡ entries-in e w (k - j) (drop (start-of e w j d) d)
 unfolding entries-in start-of

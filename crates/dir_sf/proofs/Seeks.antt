@@ -9,7 +9,7 @@ use mathlib.Core.List.{List, _∷_}
 use lib.ListN.{length, take, drop, getD}
 use Rattle.edition.specs.declared.Edition.{Edition}
 use Rattle.name.specs.Name.{same-name}
-use Rattle.dir_sf.specs.Entry.{Entry, entry-in, entries-in, enough, start-of}
+use Rattle.dir_sf.specs.Entry.{SfEntry, entry-in, entries-in, enough, start-of}
 use Rattle.dir_sf.specs.Change.{seek}
 use Rattle.dir_sf.proofs.Run.{Run, run-start, run-on, run-rest, run-over, run-whole, name-at-is}
 
@@ -21,7 +21,7 @@ pub seek-start : (e : Edition) (w : ℕ) (u : List ℕ) (at k : ℕ) (name : Lis
 seek-start e w u at k name h f =
     record { run = run-start e w u at k h f; rest = ap (seek e name) (run-whole e w u at k) ∙ sym (zero-add _) }
 
-seek-cons : (e : Edition) (name : List ℕ) (x : Entry) (xs : List Entry) (t : Bool) → same-name e name (x .name) ≡ t → seek e name (x ∷ xs) ≡ cond t 0 (suc (seek e name xs))
+seek-cons : (e : Edition) (name : List ℕ) (x : SfEntry) (xs : List SfEntry) (t : Bool) → same-name e name (x .name) ≡ t → seek e name (x ∷ xs) ≡ cond t 0 (suc (seek e name xs))
 unfolding seek
 seek-cons e name x xs t h = rw h refl
 

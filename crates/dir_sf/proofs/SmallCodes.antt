@@ -7,10 +7,11 @@ use Rattle.refusal.specs.Refusal.{HIGHEST}
 use Rattle.be.proofs.Codes.{unless-le}
 use Rattle.edition.specs.declared.Edition.{Edition}
 use Rattle.dinode.proofs.SmallCodes.{directory-small}
+use Rattle.dir.specs.declared.Target.{Target}
 use Rattle.dir_sf.specs.Fork.{used-verdict, fork-verdict}
-use Rattle.dir_sf.specs.Change.{lookup-code, insert-code, remove-code}
-use Rattle.dir_sf.specs.Inode.{verdict, lookup-number, insert-number, remove-number}
-use Rattle.dir_sf.specs.Walk.{step-number}
+use Rattle.dir_sf.specs.Change.{lookup-request, insert-request, remove-request}
+use Rattle.dir_sf.specs.Inode.{verdict, lookup-code, insert-code, remove-code}
+use Rattle.dir_sf.specs.Walk.{step-code}
 
 fork-small : (e : Edition) (told : ℕ) (f : List ℕ) (size : ℕ) → fork-verdict e told f size ≤ HIGHEST
 unfolding fork-verdict used-verdict
@@ -21,18 +22,18 @@ module _ (e : Edition) (told : ℕ) (b : List ℕ) where
   unfolding verdict
   verdict-small = search (unless-le, directory-small, fork-small, leb-true)
 
-  pub lookup-small : (n : List ℕ) → lookup-number e told b n ≤ HIGHEST
-  unfolding lookup-number lookup-code
+  pub lookup-small : (n : List ℕ) → lookup-code e told b n ≤ HIGHEST
+  unfolding lookup-code lookup-request
   lookup-small n = search (unless-le, verdict-small, leb-true) depth 8
 
-  pub insert-small : (n : List ℕ) (kind i : ℕ) → insert-number e told b n kind i ≤ HIGHEST
-  unfolding insert-number insert-code
-  insert-small n kind i = search (unless-le, verdict-small, leb-true) depth 8
+  pub insert-small : (n : List ℕ) (t : Target) → insert-code e told b n t ≤ HIGHEST
+  unfolding insert-code insert-request
+  insert-small n t = search (unless-le, verdict-small, leb-true) depth 8
 
-  pub remove-small : (n : List ℕ) → remove-number e told b n ≤ HIGHEST
-  unfolding remove-number remove-code
+  pub remove-small : (n : List ℕ) → remove-code e told b n ≤ HIGHEST
+  unfolding remove-code remove-request
   remove-small n = search (unless-le, verdict-small, leb-true) depth 8
 
-  pub step-small : (place : ℕ) → step-number e told b place ≤ HIGHEST
-  unfolding step-number
+  pub step-small : (place : ℕ) → step-code e told b place ≤ HIGHEST
+  unfolding step-code
   step-small place = search (unless-le, verdict-small, leb-true)

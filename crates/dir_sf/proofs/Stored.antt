@@ -6,25 +6,21 @@ use mathlib.Core.Path.{_≡_, refl, sym, _∙_}
 use mathlib.Core.List.{List, [], _∷_, _++_}
 use lib.Dec.{eqb}
 use borrow.Author.Tests.{eqb-true, not-true}
-use Rattle.refusal.specs.Refusal.{ABSENT}
 use Rattle.be.specs.Lists.{every, same}
 use Rattle.be.proofs.Bools.{by-cases, and-left, and-right, or-right, neither}
 use Rattle.edition.specs.declared.Edition.{Edition}
 use Rattle.edition.specs.Edition.{Sane}
 use Rattle.name.specs.Name.{legal-name, same-name, fixed-name, dot, dotdot}
 use Rattle.name.proofs.Same.{same-name-refl, same-name-sym}
-use Rattle.dir_sf.specs.declared.Looked.the-variants.{Found, Refused}
-use Rattle.dir_sf.specs.Entry.{Entry}
+use Rattle.dir.specs.declared.Looked.the-variants.{Found, Absent}
+use Rattle.dir.specs.Target.{target, kept-of}
+use Rattle.dir_sf.specs.Entry.{SfEntry}
 use Rattle.dir_sf.specs.Fork.{parent, entries, holds, once-ok, names-ok, name-ok}
-use Rattle.dir_sf.specs.Change.{number-in, lookup-code, lookup-inode}
-use Rattle.dir_sf.specs.Inode.{used, verdict, as-looked, looked, looked-code, looked-target, lookup-answer}
-use Rattle.dir_sf.specs.Laws.{Looked-says, Lookup-stored, Lookup-absent, Lookup-parent}
+use Rattle.dir_sf.specs.Change.{target-in, target-for}
+use Rattle.dir_sf.specs.Inode.{used, verdict, looked, lookup}
+use Rattle.dir_sf.specs.Laws.{Lookup-stored, Lookup-absent, Lookup-parent}
 use Rattle.dir_sf.proofs.Names.{fails, once-head, once-tail}
 use Rattle.dir_sf.proofs.Tested.{used-passes, names-known, once-known}
-
-pub looked-says : Looked-says
-unfolding Looked-says as-looked
-looked-says code i = (by-cases (eqb code 0) (λ q. rw q (sym (eqb-true code 0 q))) (λ q. rw q refl), refl)
 
 -- not "." and not ".."
 not-fixed : (n : List ℕ) → fixed-name n ≡ false → (same n dot ≡ false) × (same n dotdot ≡ false)
@@ -32,25 +28,25 @@ unfolding fixed-name
 not-fixed n h = neither (same n dot) (same n dotdot) h
 
 -- a name among the entries
-held-at : (e : Edition) (ys zs : List Entry) (x : Entry) → holds e (x .name) (ys ++ (x ∷ zs)) ≡ true
+held-at : (e : Edition) (ys zs : List SfEntry) (x : SfEntry) → holds e (x .name) (ys ++ (x ∷ zs)) ≡ true
 unfolding holds
 held-at e [] zs x = rw (same-name-refl e (x .name)) refl
 held-at e (y ∷ ys) zs x = or-right (same-name e (x .name) (y .name)) _ (held-at e ys zs x)
 
--- stands there once, so that its number is the first found
-apart : (e : Edition) (n : List ℕ) (ys zs : List Entry) (x : Entry) → holds e n (ys ++ (x ∷ zs)) ≡ false → same-name e n (x .name) ≡ false
+-- stands there once, so that it is the first found
+apart : (e : Edition) (n : List ℕ) (ys zs : List SfEntry) (x : SfEntry) → holds e n (ys ++ (x ∷ zs)) ≡ false → same-name e n (x .name) ≡ false
 unfolding holds
 apart e n [] zs x h = neither (same-name e n (x .name)) _ h .0
 apart e n (y ∷ ys) zs x h = apart e n ys zs x (neither (same-name e n (y .name)) _ h .1)
 
-number-at : (e : Edition) (ys zs : List Entry) (x : Entry) → once-ok e (ys ++ (x ∷ zs)) ≡ true → number-in e (x .name) (ys ++ (x ∷ zs)) ≡ x .inode
-unfolding number-in
-number-at e [] zs x h = rw (same-name-refl e (x .name)) refl
-number-at e (y ∷ ys) zs x h =
+target-at : (e : Edition) (ys zs : List SfEntry) (x : SfEntry) → once-ok e (ys ++ (x ∷ zs)) ≡ true → target-in e (x .name) (ys ++ (x ∷ zs)) ≡ x .target
+unfolding target-in
+target-at e [] zs x h = rw (same-name-refl e (x .name)) refl
+target-at e (y ∷ ys) zs x h =
     let a : same-name e (y .name) (x .name) ≡ false = apart e (y .name) ys zs x (once-head e y (ys ++ (x ∷ zs)) h) in
-    rw (fails (same-name e (x .name) (y .name)) (same-name e (y .name) (x .name)) (same-name-sym e (x .name) (y .name)) a) (number-at e ys zs x (once-tail e y (ys ++ (x ∷ zs)) h))
+    rw (fails (same-name e (x .name) (y .name)) (same-name e (y .name) (x .name)) (same-name-sym e (x .name) (y .name)) a) (target-at e ys zs x (once-tail e y (ys ++ (x ∷ zs)) h))
 
-name-at : (e : Edition) (ys zs : List Entry) (x : Entry) → every (name-ok e) (ys ++ (x ∷ zs)) ≡ true → name-ok e x ≡ true
+name-at : (e : Edition) (ys zs : List SfEntry) (x : SfEntry) → every (name-ok e) (ys ++ (x ∷ zs)) ≡ true → name-ok e x ≡ true
 name-at e [] zs x h = and-left (name-ok e x) _ h
 name-at e (y ∷ ys) zs x h = name-at e ys zs x (and-right (name-ok e y) _ h)
 
@@ -61,22 +57,22 @@ dotdot-legal e = refl
 
 module _ (e : Edition) (sane : Sane e) (told : ℕ) (b : List ℕ) (v : verdict e told b ≡ 0) where
   absent : (n : List ℕ) → legal-name e n ≡ true → fixed-name n ≡ false
-      → lookup-answer e told b n ≡ cond (holds e n (entries e (used e b))) (Found (number-in e n (entries e (used e b)))) (Refused ABSENT)
-  unfolding lookup-answer looked as-looked lookup-code lookup-inode
+      → lookup e told b n ≡ cond (holds e n (entries e (used e b))) (Found (target-in e n (entries e (used e b))) 0) (Absent 0)
+  unfolding lookup looked target-for
   absent n h f =
       let d = not-fixed n f in
       rw (v, h, d .0, d .1) (by-cases (holds e n (entries e (used e b))) (λ q. rw q refl) (λ q. rw q refl))
 
-  stored : (ys zs : List Entry) (x : Entry) → entries e (used e b) ≡ ys ++ (x ∷ zs) → lookup-answer e told b (x .name) ≡ Found (x .inode)
+  stored : (ys zs : List SfEntry) (x : SfEntry) → entries e (used e b) ≡ ys ++ (x ∷ zs) → lookup e told b (x .name) ≡ Found (x .target) 0
   unfolding names-ok
   stored ys zs x q =
       let o : once-ok e (ys ++ (x ∷ zs)) ≡ true = rw q at (once-known e told (used e b) (used-passes e sane told b v)) in
       let m : name-ok e x ≡ true = name-at e ys zs x (rw q at (names-known e told (used e b) (used-passes e sane told b v))) in
       absent (x .name) (and-left _ _ m) (not-true _ (and-right (legal-name e (x .name)) _ m))
-      ∙ rw (q, held-at e ys zs x, number-at e ys zs x o) refl
+      ∙ rw (q, held-at e ys zs x, target-at e ys zs x o) refl
 
-  to-parent : lookup-answer e told b dotdot ≡ Found (parent (used e b))
-  unfolding lookup-answer looked as-looked lookup-code lookup-inode
+  to-parent : lookup e told b dotdot ≡ Found (kept-of e (target (parent (used e b)) 2)) 0
+  unfolding lookup looked target-for
   to-parent = rw (v, dotdot-legal e) refl
 
 module _ (e : Edition) (sane : Sane e) where

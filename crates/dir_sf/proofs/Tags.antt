@@ -9,16 +9,16 @@ use lib.Dec.{eqb, leb}
 use borrow.Author.Tests.{le-leb, leb-true, eqb-true, eq-eqb}
 use Rattle.be.proofs.Bools.{and-left, and-right, and-both}
 use Rattle.edition.specs.declared.Edition.{Edition}
-use Rattle.dir_sf.specs.Entry.{Entry, next-tag, tags-ok}
+use Rattle.dir_sf.specs.Entry.{SfEntry, next-tag, tags-ok}
 
 -- the parts of the first entry's test
-pub record Tagged (e : Edition) (low : ℕ) (x : Entry) (xs : List Entry) : Type 0 where
+pub record Tagged (e : Edition) (low : ℕ) (x : SfEntry) (xs : List SfEntry) : Type 0 where
   pub eights : x .tag % 8 ≡ 0
   pub least : low ≤ x .tag
   pub grows : x .tag ≤ next-tag e x
   pub rest : tags-ok e (next-tag e x) xs ≡ true
 
-pub tagged : (e : Edition) (low : ℕ) (x : Entry) (xs : List Entry) → tags-ok e low (x ∷ xs) ≡ true → Tagged e low x xs
+pub tagged : (e : Edition) (low : ℕ) (x : SfEntry) (xs : List SfEntry) → tags-ok e low (x ∷ xs) ≡ true → Tagged e low x xs
 unfolding tags-ok next-tag
 tagged e low x xs t =
     record {
@@ -28,7 +28,7 @@ tagged e low x xs t =
       rest = and-right (eqb (x .tag % 8) 0 && leb low (x .tag)) _ t;
     }
 
-pub untagged : (e : Edition) (low : ℕ) (x : Entry) (xs : List Entry) → x .tag % 8 ≡ 0 → low ≤ x .tag → tags-ok e (next-tag e x) xs ≡ true
+pub untagged : (e : Edition) (low : ℕ) (x : SfEntry) (xs : List SfEntry) → x .tag % 8 ≡ 0 → low ≤ x .tag → tags-ok e (next-tag e x) xs ≡ true
     → tags-ok e low (x ∷ xs) ≡ true
 unfolding tags-ok
 untagged e low x xs m l r = and-both _ _ (and-both _ _ (eq-eqb _ _ m) (le-leb _ _ l)) r

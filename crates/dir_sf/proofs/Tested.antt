@@ -2,25 +2,32 @@
 -- Assumes nothing.
 use Prim.Native.Nat.{ℕ, _+_, _-_, _≤_}
 use native.Mathlib.Omega.{arith}
-use mathlib.Core.Bool.{true}
+use mathlib.Core.Bool.{Bool, true, false, not, cond, _||_}
 use mathlib.Core.Path.{_≡_, refl, sym, _∙_, ap}
 use mathlib.Core.List.{List}
 use lib.Dec.{eqb, leb}
 use lib.ListN.{length, take, drop, length-take, length-drop}
 use lib.Seq.{take-take, getD-take}
 use borrow.Author.Tests.{eqb-true, eq-eqb, ne-eqb, leb-true}
+use Rattle.refusal.specs.Refusal.{ASKED, FIXED, ABSENT}
+use Rattle.be.specs.Lists.{same}
+use Rattle.be.specs.Codes.{_unless_then_}
 use Rattle.be.specs.Bytes.{field}
 use Rattle.be.proofs.Bools.{and-left, and-right, by-cases}
 use Rattle.be.proofs.Codes.{passes, both}
 use Rattle.edition.specs.declared.Edition.{Edition}
 use Rattle.edition.specs.Edition.{block-size, Sane}
 use Rattle.dinode.specs.Core.{directory-code, data-length, data-fork}
-use Rattle.dir_sf.specs.declared.Looked.{Looked}
-use Rattle.dir_sf.specs.declared.Looked.the-variants.{Refused}
-use Rattle.dir_sf.specs.Entry.{width-of, enough, filled, tags-ok, wides-of}
-use Rattle.dir_sf.specs.Fork.{Readable, count-of, stored-wides, used-width, list-of, parent, entries, span-ok, tile-ok, names-ok, numbers-ok, once-ok, used-verdict, fork-verdict}
-use Rattle.dir_sf.specs.Change.{lookup-code}
-use Rattle.dir_sf.specs.Inode.{verdict, used, as-looked, looked, looked-code, lookup-answer, lookup-number}
+use Rattle.dir.specs.declared.Looked.{Looked}
+use Rattle.dir.specs.declared.Looked.the-variants.{Found, Absent, Refused}
+use Rattle.dir.specs.declared.Target.{Target}
+use Rattle.dir.specs.Target.{no-target}
+use Rattle.dir.specs.Answers.{looked-code, looked-target, looked-compared}
+use Rattle.name.specs.Name.{legal-name, dot, dotdot}
+use Rattle.dir_sf.specs.Entry.{SfEntry, width-of, enough, filled, tags-ok, wides-of}
+use Rattle.dir_sf.specs.Fork.{Readable, count-of, stored-wides, used-width, list-of, parent, entries, holds, span-ok, tile-ok, names-ok, numbers-ok, once-ok, used-verdict, fork-verdict}
+use Rattle.dir_sf.specs.Change.{lookup-request, target-for}
+use Rattle.dir_sf.specs.Inode.{verdict, used, looked, lookup, lookup-code, lookup-target, Lookup-promise}
 use Rattle.dir_sf.proofs.Leaves.{width-least}
 use Rattle.dir_sf.proofs.Run.{filled-enough}
 use Rattle.dir_sf.proofs.Inodes.{bounded, size-in}
@@ -127,13 +134,13 @@ module _ (e : Edition) (sane : Sane e) (told : ℕ) (b : List ℕ) (h : verdict 
   pub used-readable : Readable e (used e b)
   used-readable = record { header = used-header; listed = used-enough; wides = used-wides }
 
-pub lookup-refused : (e : Edition) (told c : ℕ) (b n : List ℕ) → c ≡ verdict e told b → (c ≡ 0 → ⊥) → Refused c ≡ lookup-answer e told b n
-unfolding lookup-answer
+pub lookup-refused : (e : Edition) (told c : ℕ) (b n : List ℕ) → c ≡ verdict e told b → (c ≡ 0 → ⊥) → Refused c ≡ lookup e told b n
+unfolding lookup
 lookup-refused e told c b n h f = sym (rw (ne-eqb (verdict e told b) 0 (λ q. f (h ∙ q)), ← h) refl)
 
 pub lookup-looked : (e : Edition) (sane : Sane e) (told c z : ℕ) (b n : List ℕ) (r : Looked) → c ≡ verdict e told b → c ≡ 0 → z ≡ field 56 8 b
-    → r ≡ looked e n (parent (take (e .literal + z - e .literal) (drop (e .literal) b))) (entries e (take (e .literal + z - e .literal) (drop (e .literal) b))) → r ≡ lookup-answer e told b n
-unfolding lookup-answer
+    → r ≡ looked e n (parent (take (e .literal + z - e .literal) (drop (e .literal) b))) (entries e (take (e .literal + z - e .literal) (drop (e .literal) b))) → r ≡ lookup e told b n
+unfolding lookup
 lookup-looked e sane told c z b n r h f q k =
     let v : verdict e told b ≡ 0 = sym h ∙ f in
     k ∙ ap (λ (u : List ℕ). looked e n (parent u) (entries e u)) (used-is e sane told b v z q) ∙ sym (rw (eq-eqb _ _ v) refl)
@@ -146,16 +153,28 @@ pub lent-readable : (e : Edition) (sane : Sane e) (told c z : ℕ) (b : List ℕ
     → Readable e (take (e .literal + z - e .literal) (drop (e .literal) b))
 lent-readable e sane told c z b h f q = rw (used-is e sane told b (sym h ∙ f) z q) (used-readable e sane told b (sym h ∙ f))
 
--- a lookup's number
-lookup-is : (e : Edition) (told : ℕ) (b n : List ℕ) → looked-code (lookup-answer e told b n) ≡ lookup-number e told b n
-unfolding lookup-answer lookup-number looked as-looked
-lookup-is e told b n =
-    by-cases (eqb (verdict e told b) 0)
-    (λ q. by-cases (eqb (lookup-code e n (entries e (used e b))) 0) (λ h. rw (q, h) (sym (eqb-true _ _ h))) (λ h. rw (q, h) refl))
-    (λ q. rw q refl)
+-- a lookup's number and values
+answer-is : (l d p : Bool) (t : Target) (xs : Looked) → xs ≡ (Refused ASKED unless l then Refused FIXED unless not d then Absent 0 unless p then Found t 0)
+    → (looked-code xs ≡ (ASKED unless l then FIXED unless not d then ABSENT unless p then 0))
+    × (looked-target xs ≡ cond (eqb (ASKED unless l then FIXED unless not d then ABSENT unless p then 0) 0) t no-target) × (looked-compared xs ≡ 0)
+answer-is false d p t xs h = rw h (refl, refl, refl)
+answer-is true true p t xs h = rw h (refl, refl, refl)
+answer-is true false false t xs h = rw h (refl, refl, refl)
+answer-is true false true t xs h = rw h (refl, refl, refl)
+
+module _ (e : Edition) (told : ℕ) (b n : List ℕ) where
+  values : (looked-code (lookup e told b n) ≡ lookup-code e told b n) × (looked-target (lookup e told b n) ≡ lookup-target e told b n)
+      × (looked-compared (lookup e told b n) ≡ 0)
+  unfolding lookup lookup-code lookup-target looked lookup-request
+  values =
+      let xs : List SfEntry = entries e (used e b) in
+      by-cases (eqb (verdict e told b) 0)
+      (λ q. rw q (answer-is (legal-name e n) (same n dot) (same n dotdot || holds e n xs) (target-for e n (parent (used e b)) xs) _ refl))
+      (λ q. rw (q, q) (refl, refl, refl))
 
 -- of the edition that was made
-pub lookup-made : (e f : Edition) (told : ℕ) (b n : List ℕ) (r : Looked) → r ≡ lookup-answer e told b n → e ≡ f
-    → (r ≡ lookup-answer f told b n) × (looked-code r ≡ lookup-number f told b n)
+pub lookup-made : (e f : Edition) (told : ℕ) (b n : List ℕ) (r : Looked) → r ≡ lookup e told b n → e ≡ f → Lookup-promise f told b n r
 lookup-made e f told b n r h q =
-    let k : r ≡ lookup-answer f told b n = h ∙ ap (λ (x : Edition). lookup-answer x told b n) q in (k, ap looked-code k ∙ lookup-is f told b n)
+    let k : r ≡ lookup f told b n = h ∙ ap (λ (x : Edition). lookup x told b n) q in
+    let v = values f told b n in
+    (k, ap looked-code k ∙ v .0, ap looked-target k ∙ v .1, ap looked-compared k ∙ v .2)

@@ -16,7 +16,7 @@ use Rattle.be.proofs.Bools.{by-cases, and-false}
 use Rattle.edition.specs.declared.Edition.{Edition}
 use Rattle.edition.specs.Edition.{entry-size, Sane}
 use Rattle.name.specs.Name.{legal-name, legal-number, fixed-name, same-name}
-use Rattle.dir_sf.specs.Entry.{Entry, long-in, entry-in, entries-in, filled, enough, next-tag, tags-ok, end-tag, in-block, is-wide, wides-of}
+use Rattle.dir_sf.specs.Entry.{SfEntry, long-in, entry-in, entries-in, filled, enough, next-tag, tags-ok, end-tag, in-block, is-wide, wides-of}
 use Rattle.dir_sf.specs.Fork.{tiles, name-ok, names-ok, numbers-ok, once-ok, holds}
 use Rattle.dir_sf.specs.Change.{seek}
 use Rattle.dir_sf.proofs.Run.{Run, length-entries-in, run-start, run-on, run-rest, run-over, run-whole, long-at-is, name-at-is, tag-at-is, inode-at-is}
@@ -125,11 +125,11 @@ module _ (e : Edition) (w told : ℕ) (u : List ℕ) (at k i p low : ℕ) (t : T
 
 -- ---- a test of every entry
 
-pub record Every (e : Edition) (q : Entry → Bool) (w : ℕ) (u : List ℕ) (at k i p : ℕ) : Type 0 where
+pub record Every (e : Edition) (q : SfEntry → Bool) (w : ℕ) (u : List ℕ) (at k i p : ℕ) : Type 0 where
   pub run : Run e w u at k i p
   pub rest : every q (entries-in e w k (drop at u)) ≡ every q (entries-in e w (k - i) (drop p u))
 
-module _ (e : Edition) (q : Entry → Bool) (w : ℕ) (u : List ℕ) (at k : ℕ) where
+module _ (e : Edition) (q : SfEntry → Bool) (w : ℕ) (u : List ℕ) (at k : ℕ) where
   pub every-start : at ≤ length u → enough e w k (drop at u) ≡ true → Every e q w u at k 0 at
   every-start h f = record { run = run-start e w u at k h f; rest = ap (every q) (run-whole e w u at k) }
 
@@ -177,8 +177,8 @@ pub storable-is : (e : Edition) (a b : Bool) (s : List ℕ) → a ≡ legal-name
 storable-is e a b s h k = ap₂ (λ (x y : Bool). x && not y) h k
 
 -- NUMBER
-abbrev pub number-ok : Entry → Bool
-number-ok x = legal-number (x .inode)
+abbrev pub number-ok : SfEntry → Bool
+number-ok x = legal-number (x .target .inode)
 
 module _ (e : Edition) (w : ℕ) (u : List ℕ) (at k i p n j : ℕ) (t : Bool) where
   number-is : n ≡ getD u p 0 → j ≡ field (p + 3 + n + e .ftype) w u → t ≡ legal-number j → t ≡ number-ok (entry-in e w (drop p u))
@@ -196,7 +196,7 @@ module _ (e : Edition) (w : ℕ) (u : List ℕ) (at k i p n j : ℕ) (t : Bool) 
       → Every e number-ok w u at k (i + 1) (p + 3 + n + v)
   numbered-on v s h a e₀ b c f = every-on e number-ok w u at k i p n v s h a e₀ (sym (number-is a b c) ∙ not-false t f)
 
-pub numbered-parent : (parent : ℕ) (xs : List Entry) (t : Bool) → t ≡ legal-number parent → not t ≡ true → false ≡ numbers-ok parent xs
+pub numbered-parent : (parent : ℕ) (xs : List SfEntry) (t : Bool) → t ≡ legal-number parent → not t ≡ true → false ≡ numbers-ok parent xs
 unfolding numbers-ok
 numbered-parent parent xs t h f = sym (rw (sym h ∙ not-true t f) refl)
 
@@ -220,7 +220,7 @@ pub record Wide (e : Edition) (w : ℕ) (u : List ℕ) (at k parent i p c : ℕ)
   pub few : c ≤ i
   pub rest : wides-of parent (entries-in e w k (drop at u)) ≡ c + wides-of parent (entries-in e w (k - i) (drop p u))
 
-wides-cons : (parent : ℕ) (x : Entry) (xs : List Entry) → wides-of parent (x ∷ xs) ≡ cond (is-wide (x .inode)) 1 0 + wides-of parent xs
+wides-cons : (parent : ℕ) (x : SfEntry) (xs : List SfEntry) → wides-of parent (x ∷ xs) ≡ cond (is-wide (x .target .inode)) 1 0 + wides-of parent xs
 unfolding wides-of
 wides-cons parent x xs = refl
 
@@ -232,9 +232,9 @@ pub wide-on : (e : Edition) (w : ℕ) (u : List ℕ) (at k parent i p c n v j r 
     → r ≡ cond (is-wide j) 1 0 → r ≤ 1 → Wide e w u at k parent (i + 1) (p + 3 + n + v) (c + r)
 wide-on e w u at k parent i p c n v j r s h a b e₀ f l =
     let m : p + 3 + n + e .ftype ≡ p + 3 + getD u p 0 + e .ftype = omega arith in
-    let x : Entry = entry-in e w (drop p u) in
-    let g : r ≡ cond (is-wide (x .inode)) 1 0 = f ∙ ap (λ (z : ℕ). cond (is-wide z) 1 0) (e₀ ∙ ap (λ (z : ℕ). field z w u) m ∙ sym (inode-at-is e w u p)) in
-    let q : wides-of parent (entries-in e w (k - i) (drop p u)) ≡ cond (is-wide (x .inode)) 1 0 + wides-of parent (entries-in e w (k - (i + 1)) (drop (p + 3 + n + v) u)) =
+    let x : SfEntry = entry-in e w (drop p u) in
+    let g : r ≡ cond (is-wide (x .target .inode)) 1 0 = f ∙ ap (λ (z : ℕ). cond (is-wide z) 1 0) (e₀ ∙ ap (λ (z : ℕ). field z w u) m ∙ sym (inode-at-is e w u p)) in
+    let q : wides-of parent (entries-in e w (k - i) (drop p u)) ≡ cond (is-wide (x .target .inode)) 1 0 + wides-of parent (entries-in e w (k - (i + 1)) (drop (p + 3 + n + v) u)) =
     ap (wides-of parent) (run-rest e w u at k i p n v (s .run) h a b) ∙ wides-cons parent x _ in
     record { run = run-on e w u at k i p n v (s .run) h a b; few = omega (arith, s .few); rest = omega (arith, s .rest) }
 
@@ -252,7 +252,7 @@ more-ltb a b =
     (λ q. q ∙ sym (lt-ltb (suc a) (suc b) (omega (arith, ltb-true a b q))))
     (λ q. q ∙ sym (le-ltb (suc a) (suc b) (omega (arith, ltb-false a b q))))
 
-pub seek-holds : (e : Edition) (n : List ℕ) (xs : List Entry) → holds e n xs ≡ ltb (seek e n xs) (length xs)
+pub seek-holds : (e : Edition) (n : List ℕ) (xs : List SfEntry) → holds e n xs ≡ ltb (seek e n xs) (length xs)
 unfolding holds seek
 seek-holds e n [] = sym (le-ltb 0 0 (omega arith))
 seek-holds e n (x ∷ xs) =
@@ -267,7 +267,7 @@ pub record Once (e : Edition) (w : ℕ) (u : List ℕ) (at k i p : ℕ) : Type 0
 pub once-start : (e : Edition) (w : ℕ) (u : List ℕ) (at k : ℕ) → at ≤ length u → enough e w k (drop at u) ≡ true → Once e w u at k 0 at
 once-start e w u at k h f = record { run = run-start e w u at k h f; rest = ap (once-ok e) (run-whole e w u at k) }
 
-once-cons : (e : Edition) (x : Entry) (xs : List Entry) (t : Bool) → holds e (x .name) xs ≡ t → once-ok e (x ∷ xs) ≡ (not t && once-ok e xs)
+once-cons : (e : Edition) (x : SfEntry) (xs : List SfEntry) (t : Bool) → holds e (x .name) xs ≡ t → once-ok e (x ∷ xs) ≡ (not t && once-ok e xs)
 unfolding once-ok
 once-cons e x xs t h = rw h refl
 

@@ -1,4 +1,4 @@
--- Lookup, insert and removal, of an accepted fork's parent and entries.
+-- Lookup, insert and removal, of an accepted fork's parent and entries: what a request itself comes to, and what it changes.
 -- Assumes nothing.
 use Prim.Native.Nat.{ℕ, suc, _+_}
 use mathlib.Core.Bool.{Bool, not, cond, _&&_, _||_}
@@ -11,45 +11,47 @@ use Rattle.be.specs.Lists.{same, without-first}
 use Rattle.be.specs.Codes.{_unless_then_}
 use Rattle.edition.specs.declared.Edition.{Edition}
 use Rattle.edition.specs.Edition.{entry-size}
-use Rattle.name.specs.Name.{legal-name, legal-number, same-name, fixed-name, dot, dotdot}
+use Rattle.name.specs.Name.{legal-name, same-name, fixed-name, dot, dotdot}
+use Rattle.dir.specs.declared.Target.{Target}
+use Rattle.dir.specs.Target.{target, no-target, legal-target, kept-of}
 use Rattle.dir_sf.specs.declared.Hit.{Hit}
-use Rattle.dir_sf.specs.Entry.{Entry, entry, is-wide, wides-of, next-tag, end-tag, in-block}
+use Rattle.dir_sf.specs.Entry.{SfEntry, entry, is-wide, wides-of, next-tag, end-tag, in-block}
 use Rattle.dir_sf.specs.Fork.{entries, place-of, lay, holds}
 
 -- ---- lookup
 
--- the number stored with the first entry of the name; 0 where there is none (no stored number is 0)
-unfoldable pub number-in : Edition → List ℕ → List Entry → ℕ
-number-in e n [] = 0
-number-in e n (x ∷ xs) = cond (same-name e n (x .name)) (x .inode) (number-in e n xs)
+-- what is stored with the first entry of the name
+unfoldable pub target-in : Edition → List ℕ → List SfEntry → Target
+target-in e n [] = no-target
+target-in e n (x ∷ xs) = cond (same-name e n (x .name)) (x .target) (target-in e n xs)
 
 -- how many entries stand before the first of the name
-unfoldable pub seek : Edition → List ℕ → List Entry → ℕ
+unfoldable pub seek : Edition → List ℕ → List SfEntry → ℕ
 seek e n [] = 0
 seek e n (x ∷ xs) = let r = seek e n xs in cond (same-name e n (x .name)) 0 (suc r)
 
--- what the search for a name in the used bytes finds: whether an entry bears it, how many stand before that entry, where it starts, its number
+-- what the search for a name in the used bytes finds: whether an entry bears it, how many stand before that entry, where it starts, and what it stands for
 pub record Hits (e : Edition) (n u : List ℕ) (r : Hit) : Type 0 where
   pub held-is : r .held ≡ holds e n (entries e u)
   pub index-is : r .index ≡ seek e n (entries e u)
   pub at-is : r .at ≡ place-of e (r .index) u
-  pub number-is : r .number ≡ number-in e n (entries e u)
+  pub target-is : r .target ≡ target-in e n (entries e u)
 
 -- 11 ASKED, 12 FIXED ("." looked up in a short form), 13 ABSENT
-unfoldable pub lookup-code : Edition → List ℕ → List Entry → ℕ
-lookup-code e n xs =
+unfoldable pub lookup-request : Edition → List ℕ → List SfEntry → ℕ
+lookup-request e n xs =
     ASKED unless legal-name e n then
     FIXED unless not (same n dot) then
     ABSENT unless same n dotdot || holds e n xs then 0
 
--- Lookup of ".." gives the parent
-unfoldable pub lookup-inode : Edition → List ℕ → ℕ → List Entry → ℕ
-lookup-inode e n p xs = cond (same n dotdot) p (number-in e n xs)
+-- Lookup of ".." gives the parent, a directory: type 2 where the edition has one
+unfoldable pub target-for : Edition → List ℕ → ℕ → List SfEntry → Target
+target-for e n p xs = cond (same n dotdot) (kept-of e (target p 2)) (target-in e n xs)
 
 -- ---- insert
 
 -- the start of the lowest gap in the tags, from low up, that holds long; 0 where there is none
-unfoldable pub gap-tag : Edition → ℕ → ℕ → List Entry → ℕ
+unfoldable pub gap-tag : Edition → ℕ → ℕ → List SfEntry → ℕ
 gap-tag e long low [] = 0
 gap-tag e long low (x ∷ xs) =
     let r = gap-tag e long (next-tag e x) xs in
@@ -57,7 +59,7 @@ gap-tag e long low (x ∷ xs) =
 
 -- the tag of a new entry with a name of n bytes: it follows the last entry if the TILE limit still holds; otherwise the
 -- start of the lowest gap that holds E, if the limit for the larger count holds; 0 where there is no such tag
-unfoldable pub tag-for : Edition → ℕ → ℕ → List Entry → ℕ
+unfoldable pub tag-for : Edition → ℕ → ℕ → List SfEntry → ℕ
 tag-for e told n xs =
     let long = entry-size e n in
     let end = end-tag e (e .first) xs in
@@ -65,52 +67,52 @@ tag-for e told n xs =
     cond (in-block told (end + long) k) end (cond (in-block told end k) (gap-tag e long (e .first) xs) 0)
 
 -- the list stays in tag order
-unfoldable pub placed : Entry → List Entry → List Entry
+unfoldable pub placed : SfEntry → List SfEntry → List SfEntry
 placed y [] = y ∷ []
 placed y (x ∷ xs) = let r = placed y xs in cond (ltb (y .tag) (x .tag)) (y ∷ x ∷ xs) (x ∷ r)
 
 -- how many entries stand before a new one with tag t
-unfoldable pub rank : ℕ → List Entry → ℕ
+unfoldable pub rank : ℕ → List SfEntry → ℕ
 rank t [] = 0
 rank t (x ∷ xs) = let r = rank t xs in cond (ltb t (x .tag)) 0 (suc r)
 
 -- the list with an entry put in, j before it
-unfoldable pub with-nth : ℕ → Entry → List Entry → List Entry
+unfoldable pub with-nth : ℕ → SfEntry → List SfEntry → List SfEntry
 with-nth j y xs = take j xs ++ (y ∷ drop j xs)
 
-unfoldable pub inserted : Edition → ℕ → List ℕ → ℕ → ℕ → List Entry → List Entry
-inserted e told n kind i xs = placed (entry (tag-for e told (length n) xs) n kind i) xs
+unfoldable pub inserted : Edition → ℕ → List ℕ → Target → List SfEntry → List SfEntry
+inserted e told n t xs = placed (entry (tag-for e told (length n) xs) n (kept-of e t)) xs
 
 -- 15 NOROOM: no such tag, or the new size passes the fork
-unfoldable pub has-room : Edition → ℕ → ℕ → List ℕ → ℕ → ℕ → ℕ → List Entry → Bool
-has-room e told fork n kind i p xs =
-    not (eqb (tag-for e told (length n) xs) 0) && leb (length (lay e p (inserted e told n kind i xs))) fork
+unfoldable pub has-room : Edition → ℕ → ℕ → List ℕ → Target → ℕ → List SfEntry → Bool
+has-room e told fork n t p xs =
+    not (eqb (tag-for e told (length n) xs) 0) && leb (length (lay e p (inserted e told n t xs))) fork
 
 -- 11 ASKED, 12 FIXED, 14 EXISTS, 15 NOROOM
-unfoldable pub insert-code : Edition → ℕ → ℕ → List ℕ → ℕ → ℕ → ℕ → List Entry → ℕ
-insert-code e told fork n kind i p xs =
-    ASKED unless legal-name e n && legal-number i then
+unfoldable pub insert-request : Edition → ℕ → ℕ → List ℕ → Target → ℕ → List SfEntry → ℕ
+insert-request e told fork n t p xs =
+    ASKED unless legal-name e n && legal-target e t then
     FIXED unless not (fixed-name n) then
     EXISTS unless not (holds e n xs) then
-    NOROOM unless has-room e told fork n kind i p xs then 0
+    NOROOM unless has-room e told fork n t p xs then 0
 
 -- ---- removal
 
 -- later entries close up, their tags stay
-unfoldable pub removed : Edition → List ℕ → List Entry → List Entry
+unfoldable pub removed : Edition → List ℕ → List SfEntry → List SfEntry
 removed e n xs = without-first (λ x. same-name e n (x .name)) xs
 
 -- the list without the entry that has j before it
-unfoldable pub without-nth : ℕ → List Entry → List Entry
+unfoldable pub without-nth : ℕ → List SfEntry → List SfEntry
 without-nth j xs = take j xs ++ drop (suc j) xs
 
 -- 16 NARROW: the last wide entry is taken out under a wide parent
-unfoldable pub narrows : ℕ → List Entry → List Entry → Bool
+unfoldable pub narrows : ℕ → List SfEntry → List SfEntry → Bool
 narrows p xs ys = not (eqb (wides-of p xs) 0) && eqb (wides-of p ys) 0 && is-wide p
 
 -- 11 ASKED, 12 FIXED, 13 ABSENT, 16 NARROW
-unfoldable pub remove-code : Edition → List ℕ → ℕ → List Entry → ℕ
-remove-code e n p xs =
+unfoldable pub remove-request : Edition → List ℕ → ℕ → List SfEntry → ℕ
+remove-request e n p xs =
     ASKED unless legal-name e n then
     FIXED unless not (fixed-name n) then
     ABSENT unless holds e n xs then

@@ -9,16 +9,17 @@ use Rattle.be.specs.Lists.{tally}
 use Rattle.be.specs.Bytes.{byte, field, part, to-be}
 use Rattle.edition.specs.declared.Edition.{Edition}
 use Rattle.edition.specs.Edition.{entry-size}
+use Rattle.dir.specs.declared.Target.{Target}
+use Rattle.dir.specs.Target.{target}
 
--- Entry: namelen, tag, name, inode number. kind is the file type, 0 where the edition has none
-pub record Entry : Type 0 where
+-- Entry: namelen, tag, name, inode number; the file type between name and number where the edition has one
+pub record SfEntry : Type 0 where
   pub tag : ℕ
   pub name : List ℕ
-  pub kind : ℕ
-  pub inode : ℕ
+  pub target : Target
 
-abbrev pub entry : ℕ → List ℕ → ℕ → ℕ → Entry
-entry t n k i = record { tag = t; name = n; kind = k; inode = i }
+abbrev pub entry : ℕ → List ℕ → Target → SfEntry
+entry o n t = record { tag = o; name = n; target = t }
 
 -- Numbers are 8 bytes when i8count is not 0, else 4
 unfoldable pub width-of : ℕ → ℕ
@@ -30,13 +31,13 @@ width-of wides = cond (eqb wides 0) 4 8
 unfoldable pub long-in : Edition → ℕ → List ℕ → ℕ
 long-in e w d = 3 + byte 0 d + e .ftype + w
 
-unfoldable pub entry-in : Edition → ℕ → List ℕ → Entry
+unfoldable pub entry-in : Edition → ℕ → List ℕ → SfEntry
 entry-in e w d =
     let n = byte 0 d in
-    entry (field 1 2 d) (part 3 n d) (field (3 + n) (e .ftype) d) (field (3 + n + e .ftype) w d)
+    entry (field 1 2 d) (part 3 n d) (target (field (3 + n + e .ftype) w d) (field (3 + n) (e .ftype) d))
 
 -- the first k entries of d
-unfoldable pub entries-in : Edition → ℕ → ℕ → List ℕ → List Entry
+unfoldable pub entries-in : Edition → ℕ → ℕ → List ℕ → List SfEntry
 entries-in e w zero d = []
 entries-in e w (suc k) d = entry-in e w d ∷ entries-in e w k (drop (long-in e w d) d)
 
@@ -57,11 +58,11 @@ start-of e w (suc j) d = long-in e w d + start-of e w j (drop (long-in e w d) d)
 
 -- ---- laid out
 
-unfoldable pub entry-bytes : Edition → ℕ → Entry → List ℕ
+unfoldable pub entry-bytes : Edition → ℕ → SfEntry → List ℕ
 entry-bytes e w x =
-    length (x .name) ∷ to-be 2 (x .tag) ++ (x .name ++ (to-be (e .ftype) (x .kind) ++ to-be w (x .inode)))
+    length (x .name) ∷ to-be 2 (x .tag) ++ (x .name ++ (to-be (e .ftype) (x .target .kind) ++ to-be w (x .target .inode)))
 
-unfoldable pub entries-bytes : Edition → ℕ → List Entry → List ℕ
+unfoldable pub entries-bytes : Edition → ℕ → List SfEntry → List ℕ
 entries-bytes e w [] = []
 entries-bytes e w (x ∷ xs) = entry-bytes e w x ++ entries-bytes e w xs
 
@@ -72,22 +73,22 @@ unfoldable pub is-wide : ℕ → Bool
 is-wide i = ltb 4294967295 i
 
 -- i8count is the number of entries whose inode number is above 4,294,967,295; the parent does not count
-unfoldable pub wides-of : ℕ → List Entry → ℕ
-wides-of parent xs = tally (λ x. is-wide (x .inode)) xs
+unfoldable pub wides-of : ℕ → List SfEntry → ℕ
+wides-of parent xs = tally (λ x. is-wide (x .target .inode)) xs
 
 -- ---- tags
 
 -- the least tag after an entry: its own plus its E
-unfoldable pub next-tag : Edition → Entry → ℕ
+unfoldable pub next-tag : Edition → SfEntry → ℕ
 next-tag e x = x .tag + entry-size e (length (x .name))
 
 -- tags are multiples of 8; the first is at least low; each next tag is at least the one before plus E of the name before
-unfoldable pub tags-ok : Edition → ℕ → List Entry → Bool
+unfoldable pub tags-ok : Edition → ℕ → List SfEntry → Bool
 tags-ok e low [] = true
 tags-ok e low (x ∷ xs) = eqb (x .tag % 8) 0 && leb low (x .tag) && tags-ok e (next-tag e x) xs
 
 -- the last tag plus its E; low if there is no entry
-unfoldable pub end-tag : Edition → ℕ → List Entry → ℕ
+unfoldable pub end-tag : Edition → ℕ → List SfEntry → ℕ
 end-tag e low [] = low
 end-tag e low (x ∷ xs) = end-tag e (next-tag e x) xs
 

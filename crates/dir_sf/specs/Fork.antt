@@ -13,7 +13,7 @@ use Rattle.be.specs.Lists.{every, some-of}
 use Rattle.be.specs.Bytes.{byte, field, to-be}
 use Rattle.edition.specs.declared.Edition.{Edition}
 use Rattle.name.specs.Name.{legal-name, legal-number, same-name, fixed-name}
-use Rattle.dir_sf.specs.Entry.{Entry, width-of, entries-in, filled, enough, start-of, entries-bytes, wides-of, tags-ok, end-tag, in-block}
+use Rattle.dir_sf.specs.Entry.{SfEntry, width-of, entries-in, filled, enough, start-of, entries-bytes, wides-of, tags-ok, end-tag, in-block}
 
 -- Header: count (1), i8count (1), parent
 unfoldable pub count-of : List ℕ → ℕ
@@ -32,19 +32,19 @@ parent u = field 2 (used-width u) u
 unfoldable pub list-of : List ℕ → List ℕ
 list-of u = drop (2 + used-width u) u
 
-unfoldable pub entries : Edition → List ℕ → List Entry
+unfoldable pub entries : Edition → List ℕ → List SfEntry
 entries e u = entries-in e (used-width u) (count-of u) (list-of u)
 
 -- a header and entries laid out
-abbrev pub laid : Edition → ℕ → ℕ → ℕ → List Entry → List ℕ
+abbrev pub laid : Edition → ℕ → ℕ → ℕ → List SfEntry → List ℕ
 laid e count wides p xs = count ∷ wides ∷ to-be (width-of wides) p ++ entries-bytes e (width-of wides) xs
 
 -- the used bytes of a directory with this parent and these entries
-unfoldable pub lay : Edition → ℕ → List Entry → List ℕ
+unfoldable pub lay : Edition → ℕ → List SfEntry → List ℕ
 lay e p xs = laid e (length xs) (wides-of p xs) p xs
 
 -- its fork of n bytes: unused fork bytes are zeroed
-unfoldable pub lay-fork : Edition → ℕ → ℕ → List Entry → List ℕ
+unfoldable pub lay-fork : Edition → ℕ → ℕ → List SfEntry → List ℕ
 lay-fork e n p xs = let u = lay e p xs in u ++ replicate (n - length u) 0
 
 -- what is known of used bytes that pass the tests: header and entries lie in them, and i8count is right
@@ -76,22 +76,22 @@ tiles e w told all low k d =
     && in-block told (end-tag e low (entries-in e w k d)) all
 
 -- 6 NAME: a stored name is legal, and not "." or ".."
-abbrev pub name-ok : Edition → Entry → Bool
+abbrev pub name-ok : Edition → SfEntry → Bool
 name-ok e x = legal-name e (x .name) && not (fixed-name (x .name))
 
-unfoldable pub names-ok : Edition → List Entry → Bool
+unfoldable pub names-ok : Edition → List SfEntry → Bool
 names-ok e xs = every (name-ok e) xs
 
 -- 7 NUMBER covers the parent
-unfoldable pub numbers-ok : ℕ → List Entry → Bool
-numbers-ok p xs = legal-number p && every (λ x. legal-number (x .inode)) xs
+unfoldable pub numbers-ok : ℕ → List SfEntry → Bool
+numbers-ok p xs = legal-number p && every (λ x. legal-number (x .target .inode)) xs
 
 -- some entry bears the name
-unfoldable pub holds : Edition → List ℕ → List Entry → Bool
+unfoldable pub holds : Edition → List ℕ → List SfEntry → Bool
 holds e n xs = some-of (λ x. same-name e n (x .name)) xs
 
 -- 10 TWICE: no name is stored twice
-unfoldable pub once-ok : Edition → List Entry → Bool
+unfoldable pub once-ok : Edition → List SfEntry → Bool
 once-ok e [] = true
 once-ok e (x ∷ xs) = not (holds e (x .name) xs) && once-ok e xs
 

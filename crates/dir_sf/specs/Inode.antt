@@ -1,21 +1,27 @@
 -- A short-form directory in its inode: what each call answers, and the bytes that it leaves.
 -- Assumes nothing.
 use Prim.Native.Nat.{ℕ}
-use mathlib.Core.Bool.{cond}
+use mathlib.Core.Path.{_≡_}
+use mathlib.Core.Bool.{cond, not, _||_}
 use mathlib.Core.List.{List, [], _∷_}
 use lib.Dec.{eqb}
 use lib.ListN.{length, take}
-use Rattle.refusal.specs.Refusal.{SIZE}
+use Rattle.refusal.specs.Refusal.{SIZE, ASKED, FIXED}
 use Rattle.be.specs.Bytes.{field, to-be, written, write}
+use Rattle.be.specs.Lists.{same}
 use Rattle.be.specs.Codes.{_unless_then_, _and-then_}
 use Rattle.edition.specs.declared.Edition.{Edition}
 use Rattle.edition.specs.Edition.{block-size}
 use Rattle.dinode.specs.Core.{directory-code, data-fork, data-length}
-use Rattle.dir_sf.specs.declared.Looked.{Looked}
-use Rattle.dir_sf.specs.declared.Looked.the-variants.{Found, Refused}
-use Rattle.dir_sf.specs.Entry.{Entry}
-use Rattle.dir_sf.specs.Fork.{parent, entries, lay, lay-fork, fork-verdict}
-use Rattle.dir_sf.specs.Change.{inserted, insert-code, removed, remove-code, lookup-code, lookup-inode}
+use Rattle.name.specs.Name.{legal-name, dot, dotdot}
+use Rattle.dir.specs.declared.Target.{Target}
+use Rattle.dir.specs.declared.Looked.{Looked}
+use Rattle.dir.specs.declared.Looked.the-variants.{Found, Absent, Refused}
+use Rattle.dir.specs.Target.{no-target}
+use Rattle.dir.specs.Answers.{looked-code, looked-target, looked-compared}
+use Rattle.dir_sf.specs.Entry.{SfEntry}
+use Rattle.dir_sf.specs.Fork.{parent, entries, holds, lay, lay-fork, fork-verdict}
+use Rattle.dir_sf.specs.Change.{inserted, insert-request, removed, remove-request, lookup-request, target-for}
 
 -- the size field
 abbrev pub size-of : List ℕ → ℕ
@@ -32,55 +38,52 @@ verdict e told b =
     directory-code e b and-then
     fork-verdict e told (data-fork e b) (size-of b)
 
--- the verdict, or what the request itself comes to
-abbrev pub after-tests : Edition → ℕ → List ℕ → ℕ → ℕ
-after-tests e told b code = verdict e told b and-then code
+-- ---- what each call answers: the tests' number, or what the request itself comes to
 
--- ---- what each call answers
+unfoldable pub lookup-code : Edition → ℕ → List ℕ → List ℕ → ℕ
+lookup-code e told b n = verdict e told b and-then lookup-request e n (entries e (used e b))
 
--- the case of a lookup's answer for 01's number and, where that is 0, the inode number found
-unfoldable pub as-looked : ℕ → ℕ → Looked
-as-looked code i = cond (eqb code 0) (Found i) (Refused code)
+unfoldable pub insert-code : Edition → ℕ → List ℕ → List ℕ → Target → ℕ
+insert-code e told b n t =
+    verdict e told b and-then insert-request e told (data-length e b) n t (parent (used e b)) (entries e (used e b))
 
--- 01's number for each case, 0 when found, and the inode number that it hands out
-abbrev pub looked-code : Looked → ℕ
-looked-code (Found i) = 0
-looked-code (Refused n) = n
+unfoldable pub remove-code : Edition → ℕ → List ℕ → List ℕ → ℕ
+remove-code e told b n = verdict e told b and-then remove-request e n (parent (used e b)) (entries e (used e b))
 
-abbrev pub looked-target : Looked → ℕ
-looked-target (Found i) = i
-looked-target (Refused n) = 0
+-- what the name stands for, when it is found
+unfoldable pub lookup-target : Edition → ℕ → List ℕ → List ℕ → Target
+lookup-target e told b n =
+    cond (eqb (lookup-code e told b n) 0) (target-for e n (parent (used e b)) (entries e (used e b))) no-target
 
-unfoldable pub looked : Edition → List ℕ → ℕ → List Entry → Looked
-looked e n p xs = as-looked (lookup-code e n xs) (lookup-inode e n p xs)
+-- the answer of a lookup in an accepted fork; no names are counted as compared
+unfoldable pub looked : Edition → List ℕ → ℕ → List SfEntry → Looked
+looked e n p xs =
+    Refused ASKED unless legal-name e n then
+    Refused FIXED unless not (same n dot) then
+    Absent 0 unless same n dotdot || holds e n xs then Found (target-for e n p xs) 0
 
-unfoldable pub lookup-answer : Edition → ℕ → List ℕ → List ℕ → Looked
-lookup-answer e told b n =
-    cond (eqb (verdict e told b) 0) (looked e n (parent (used e b)) (entries e (used e b))) (Refused (verdict e told b))
+unfoldable pub lookup : Edition → ℕ → List ℕ → List ℕ → Looked
+lookup e told b n =
+    Refused (verdict e told b) unless eqb (verdict e told b) 0 then looked e n (parent (used e b)) (entries e (used e b))
 
-unfoldable pub lookup-number : Edition → ℕ → List ℕ → List ℕ → ℕ
-lookup-number e told b n = after-tests e told b (lookup-code e n (entries e (used e b)))
-
-unfoldable pub insert-number : Edition → ℕ → List ℕ → List ℕ → ℕ → ℕ → ℕ
-insert-number e told b n kind i =
-    after-tests e told b (insert-code e told (data-length e b) n kind i (parent (used e b)) (entries e (used e b)))
-
-unfoldable pub remove-number : Edition → ℕ → List ℕ → List ℕ → ℕ
-remove-number e told b n = after-tests e told b (remove-code e n (parent (used e b)) (entries e (used e b)))
+-- what a lookup promises of its answer: the answer itself, and its number and values
+abbrev pub Lookup-promise : Edition → ℕ → List ℕ → List ℕ → Looked → Type 0
+Lookup-promise e told b n r =
+    (r ≡ lookup e told b n) × (looked-code r ≡ lookup-code e told b n) × (looked-target r ≡ lookup-target e told b n) × (looked-compared r ≡ 0)
 
 -- ---- what each change leaves
 
 -- Changes write the size field and the data fork, nothing else
-unfoldable pub with-entries : Edition → List ℕ → List Entry → List ℕ
+unfoldable pub with-entries : Edition → List ℕ → List SfEntry → List ℕ
 with-entries e b xs =
     let p = parent (used e b) in
     written b (write 56 (to-be 8 (length (lay e p xs))) ∷ write (e .literal) (lay-fork e (data-length e b) p xs) ∷ [])
 
 -- a refusal changes no byte
-unfoldable pub after-insert : Edition → ℕ → List ℕ → List ℕ → ℕ → ℕ → List ℕ
-after-insert e told b n kind i =
-    cond (eqb (insert-number e told b n kind i) 0) (with-entries e b (inserted e told n kind i (entries e (used e b)))) b
+unfoldable pub insert-bytes : Edition → ℕ → List ℕ → List ℕ → Target → List ℕ
+insert-bytes e told b n t =
+    cond (eqb (insert-code e told b n t) 0) (with-entries e b (inserted e told n t (entries e (used e b)))) b
 
-unfoldable pub after-remove : Edition → ℕ → List ℕ → List ℕ → List ℕ
-after-remove e told b n =
-    cond (eqb (remove-number e told b n) 0) (with-entries e b (removed e n (entries e (used e b)))) b
+unfoldable pub remove-bytes : Edition → ℕ → List ℕ → List ℕ → List ℕ
+remove-bytes e told b n =
+    cond (eqb (remove-code e told b n) 0) (with-entries e b (removed e n (entries e (used e b)))) b

@@ -5,33 +5,31 @@ use mathlib.Core.Bool.{true, false, cond}
 use mathlib.Core.Path.{_≡_}
 use mathlib.Core.List.{List, _∷_, _++_}
 use lib.ListN.{length}
-use Rattle.refusal.specs.Refusal.{ABSENT}
 use Rattle.edition.specs.declared.Edition.{Edition}
 use Rattle.name.specs.Name.{legal-name, fixed-name, dotdot}
-use Rattle.dir_sf.specs.declared.Looked.the-variants.{Found, Refused}
-use Rattle.dir_sf.specs.Entry.{Entry}
+use Rattle.dir.specs.declared.Looked.the-variants.{Found, Absent}
+use Rattle.dir_sf.specs.Entry.{SfEntry}
 use Rattle.dir_sf.specs.Fork.{parent, entries, holds, count-of, used-width, list-of}
-use Rattle.dir_sf.specs.Change.{number-in}
-use Rattle.dir_sf.specs.Inode.{used, verdict, as-looked, looked-code, looked-target, lookup-answer}
-use Rattle.dir_sf.specs.Walk.{walk, meets}
+use Rattle.dir_sf.specs.Change.{target-in}
+use Rattle.dir_sf.specs.Inode.{used, verdict, lookup}
+use Rattle.dir.specs.Target.{target, kept-of}
+use Rattle.dir.specs.declared.Seen.{Seen}
+use Rattle.dir.specs.declared.Seen.the-variants.{Gap}
+use Rattle.dir_sf.specs.Walk.{step-seen, walk, meets}
 
--- the case of a lookup's answer has 01's number and, when found, the inode number
-unfoldable pub Looked-says : Type 0
-Looked-says = (code i : ℕ) → (looked-code (as-looked code i) ≡ code) × (looked-target (as-looked 0 i) ≡ i)
-
--- a lookup gives what is stored: each entry's number, by its name
+-- a lookup gives what is stored: each entry's number and type, by its name
 unfoldable pub Lookup-stored : Edition → Type 0
-Lookup-stored e = (told : ℕ) (b : List ℕ) (ys zs : List Entry) (x : Entry) → verdict e told b ≡ 0 → entries e (used e b) ≡ ys ++ (x ∷ zs)
-    → lookup-answer e told b (x .name) ≡ Found (x .inode)
+Lookup-stored e = (told : ℕ) (b : List ℕ) (ys zs : List SfEntry) (x : SfEntry) → verdict e told b ≡ 0 → entries e (used e b) ≡ ys ++ (x ∷ zs)
+    → lookup e told b (x .name) ≡ Found (x .target) 0
 
 -- a name that may be stored is absent exactly when no entry bears it
 unfoldable pub Lookup-absent : Edition → Type 0
 Lookup-absent e = (told : ℕ) (b n : List ℕ) → verdict e told b ≡ 0 → legal-name e n ≡ true → fixed-name n ≡ false
-    → lookup-answer e told b n ≡ cond (holds e n (entries e (used e b))) (Found (number-in e n (entries e (used e b)))) (Refused ABSENT)
+    → lookup e told b n ≡ cond (holds e n (entries e (used e b))) (Found (target-in e n (entries e (used e b))) 0) (Absent 0)
 
 -- ".." gives the parent
 unfoldable pub Lookup-parent : Edition → Type 0
-Lookup-parent e = (told : ℕ) (b : List ℕ) → verdict e told b ≡ 0 → lookup-answer e told b dotdot ≡ Found (parent (used e b))
+Lookup-parent e = (told : ℕ) (b : List ℕ) → verdict e told b ≡ 0 → lookup e told b dotdot ≡ Found (kept-of e (target (parent (used e b)) 2)) 0
 
 -- the walk meets each entry once, in stored order, and then the end, however many steps more it is given
 unfoldable pub Walk-whole : Edition → Type 0
@@ -45,4 +43,8 @@ Walk-ends e = (told : ℕ) (b : List ℕ) (steps : ℕ) → verdict e told b ≡
 
 -- stored order is by rising tag
 unfoldable pub Tags-rise : Edition → Type 0
-Tags-rise e = (told : ℕ) (b : List ℕ) (ys zs : List Entry) (x y : Entry) → verdict e told b ≡ 0 → entries e (used e b) ≡ ys ++ (x ∷ y ∷ zs) → x .tag < y .tag
+Tags-rise e = (told : ℕ) (b : List ℕ) (ys zs : List SfEntry) (x y : SfEntry) → verdict e told b ≡ 0 → entries e (used e b) ≡ ys ++ (x ∷ y ∷ zs) → x .tag < y .tag
+
+-- a short form has no gaps: no step says Gap
+unfoldable pub Walk-no-gap : Edition → Type 0
+Walk-no-gap e = (told : ℕ) (b : List ℕ) (place : ℕ) → step-seen e told b place ≡ Gap → ⊥

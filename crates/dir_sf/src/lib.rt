@@ -10,39 +10,18 @@ ghost use Rattle.dinode.specs.Core.{directory-code, data-length};
 ghost use Rattle.dir_sf.specs.Entry.{width-of, entries-in, enough, start-of, is-wide, wides-of};
 ghost use Rattle.dir_sf.specs.Fork.{Readable, place-of, count-of, parent, entries, tiles, names-ok, numbers-ok, once-ok, used-width, used-verdict, fork-verdict};
 ghost use Rattle.dir_sf.specs.Change.{Hits, seek};
-ghost use Rattle.dir_sf.specs.Inode.{verdict, looked, looked-code, lookup-answer, lookup-number};
-ghost use Rattle.dir_sf.specs.Walk.{step-in, step-answer, step-number, walked-code};
+ghost use Rattle.dir_sf.specs.Inode.{verdict, looked, lookup, Lookup-promise};
+ghost use Rattle.dir_sf.specs.Walk.{walk-step, Step-promise};
+ghost use Rattle.dir_sf.specs.WalkPass.{walked-in};
+ghost use Rattle.dir.specs.Target.{target};
+use dir::Entry;
+use dir::Looked;
+use dir::Seen;
+use dir::Step;
+use dir::Target;
+use dir::Walked;
 use edition::Edition;
 use edition::V4;
-
-// What a lookup finds: the number stored with the name, or why there is none.
-pub enum Looked {
-    Found { number: u64 },
-    Refused(usize),
-}
-
-// An entry as the walk reports it: its number, and where its name lies in the inode.
-pub struct Entry {
-    pub number: u64,
-    pub start: usize,
-    pub len: usize,
-}
-
-pub enum Seen {
-    Live(Entry),
-    End,
-}
-
-// What a step sees, and where the walk stands now.
-pub struct Step {
-    pub next: usize,
-    pub seen: Seen,
-}
-
-pub enum Walked {
-    Stepped(Step),
-    Refused(usize),
-}
 
 // ---- the parts of an entry
 
@@ -108,6 +87,16 @@ fn find<'a, 'b>(e: Edition, u: &'a [u8], at: usize, k: usize, wides: usize, name
         i += 1;
     }
     Spot { index: i, at: p }
+}
+
+// What stands behind a name that ends at an offset: file type and number.
+fn target_at(e: Edition, u: &[u8], o: usize, wides: usize) -> Target
+    requires { ⌜ Sane e × (o + (e .ftype + width-of wides) ≤ length (now u)) ⌝ }
+    ensures { λ r. ⌜ r ≡ target (field (o + e .ftype) (width-of wides) (now (u .entry))) (field o (e .ftype) (now (u .entry))) ⌝ }
+{
+    let kind = dir::kind(e, u, o);
+    let inode = number(u, o + e.ftype, wides);
+    Target { inode, kind }
 }
 
 // ---- the tests
@@ -346,12 +335,12 @@ pub fn parent_of(u: &[u8]) -> u64
     number(u, 2, be::be8(u, 1))
 }
 
-// What the search for a name finds: whether an entry bears it, how many stand before it, where it starts, its number.
+// What the search for a name finds: whether an entry bears it, how many stand before it, where it starts, what it stands for.
 pub struct Hit {
     pub held: bool,
     pub index: usize,
     pub at: usize,
-    pub number: u64,
+    pub target: Target,
 }
 
 pub fn seek_name<'a, 'b>(e: Edition, u: &'a [u8], name: &'b [u8]) -> Hit
@@ -364,20 +353,21 @@ pub fn seek_name<'a, 'b>(e: Edition, u: &'a [u8], name: &'b [u8]) -> Hit
     let index = s.index;
     let at = s.at;
     if index == k {
+        let target = Target { inode: 0, kind: 0 };
         return Hit {
             held: false,
             index,
             at,
-            number: 0,
+            target,
         };
     }
     let n = namelen(e, u, at, wides);
-    let number = number(u, at + 3 + n + e.ftype, wides);
+    let target = target_at(e, u, at + 3 + n, wides);
     Hit {
         held: true,
         index,
         at,
-        number,
+        target,
     }
 }
 
@@ -405,19 +395,30 @@ fn look<'a, 'b>(e: Edition, u: &'a [u8], name: &'b [u8]) -> Looked
         return Looked::Refused(refusal::FIXED);
     }
     if name::equal(name, b"..") {
-        let number = parent_of(u);
-        return Looked::Found { number };
+        let parent = Target {
+            inode: parent_of(u),
+            kind: 2,
+        };
+        let target = dir::kept(e, parent);
+        return Looked::Found {
+            target,
+            compared: 0,
+        };
     }
     let h = seek_name(e, u, name);
     if h.held {
-        return Looked::Found { number: h.number };
+        let target = h.target;
+        return Looked::Found {
+            target,
+            compared: 0,
+        };
     }
-    Looked::Refused(refusal::ABSENT)
+    Looked::Absent { compared: 0 }
 }
 
 fn look_up<'a, 'b>(e: Edition, b: &'a [u8], told: usize, name: &'b [u8]) -> Looked
     requires { ⌜ Sane e ⌝ }
-    ensures { λ r. ⌜ r ≡ lookup-answer e told (now (b .entry)) (now (name .entry)) ⌝ }
+    ensures { λ r. ⌜ r ≡ lookup e told (now (b .entry)) (now (name .entry)) ⌝ }
 {
     let c = code(e, b, told);
     if c != 0 {
@@ -428,9 +429,9 @@ fn look_up<'a, 'b>(e: Edition, b: &'a [u8], told: usize, name: &'b [u8]) -> Look
     look(e, &b[start..end], name)
 }
 
-// The number stored with a name; ".." gives the parent.
+// What a name stands for; ".." gives the parent.
 pub fn lookup<'a, 'b>(b: &'a [u8], told: usize, name: &'b [u8]) -> Looked
-    ensures { λ r. ⌜ (r ≡ lookup-answer v4 told (now (b .entry)) (now (name .entry))) × (looked-code r ≡ lookup-number v4 told (now (b .entry)) (now (name .entry))) ⌝ }
+    ensures { λ r. ⌜ Lookup-promise v4 told (now (b .entry)) (now (name .entry)) r ⌝ }
 {
     look_up(V4::edition(), b, told, name)
 }
@@ -440,7 +441,7 @@ pub fn lookup<'a, 'b>(b: &'a [u8], told: usize, name: &'b [u8]) -> Looked
 // One step of the walk over the used bytes.
 fn step_over(e: Edition, u: &[u8], place: usize) -> Walked
     requires { ⌜ Sane e × Readable e (now u) × (length (now u) ≤ 1948) ⌝ }
-    ensures { λ r. ⌜ r ≡ step-in e (now (u .entry)) place ⌝ }
+    ensures { λ r. ⌜ r ≡ walked-in e (now (u .entry)) place ⌝ }
 {
     let k = be::be8(u, 0);
     let wides = be::be8(u, 1);
@@ -451,9 +452,9 @@ fn step_over(e: Edition, u: &[u8], place: usize) -> Walked
         let n = namelen(e, u, p, wides);
         let end = p + 3 + n;
         if place == p {
-            let number = number(u, end + e.ftype, wides);
+            let target = target_at(e, u, end, wides);
             let live = Entry {
-                number,
+                target,
                 start: e.literal + (p + 3),
                 len: n,
             };
@@ -477,7 +478,7 @@ fn step_over(e: Edition, u: &[u8], place: usize) -> Walked
 
 fn walk_from(e: Edition, b: &[u8], told: usize, place: usize) -> Walked
     requires { ⌜ Sane e ⌝ }
-    ensures { λ r. ⌜ r ≡ step-answer e told (now (b .entry)) place ⌝ }
+    ensures { λ r. ⌜ r ≡ walk-step e told (now (b .entry)) place ⌝ }
 {
     let c = code(e, b, told);
     if c != 0 {
@@ -490,7 +491,7 @@ fn walk_from(e: Edition, b: &[u8], told: usize, place: usize) -> Walked
 
 // One step of the walk, from a place counted from the fork's start. The first place is behind the header: 6, or 10 where i8count is not 0.
 pub fn step_at(b: &[u8], told: usize, place: usize) -> Walked
-    ensures { λ r. ⌜ (r ≡ step-answer v4 told (now (b .entry)) place) × (walked-code r ≡ step-number v4 told (now (b .entry)) place) ⌝ }
+    ensures { λ r. ⌜ Step-promise v4 told (now (b .entry)) place r ⌝ }
 {
     walk_from(V4::edition(), b, told, place)
 }

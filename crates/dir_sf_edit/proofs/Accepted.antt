@@ -16,17 +16,17 @@ use Rattle.name.specs.Name.{legal-name, legal-number}
 use Rattle.name.proofs.Legality.{legal-bounds, number-bounds}
 use Rattle.be.proofs.Bools.{and-left, and-right, and-both, by-cases, every-head, every-tail}
 use Rattle.be.proofs.Parts.{field-lt, bytes-drop}
-use Rattle.dir_sf.specs.Entry.{Entry, width-of, long-in, entry-in, entries-in, filled, is-wide, wides-of, next-tag, tags-ok, end-tag, in-block}
+use Rattle.dir_sf.specs.Entry.{SfEntry, width-of, long-in, entry-in, entries-in, filled, is-wide, wides-of, next-tag, tags-ok, end-tag, in-block}
 use Rattle.dir_sf.specs.Fork.{count-of, stored-wides, used-width, parent, list-of, entries, lay, lay-fork, span-ok, tile-ok, name-ok, names-ok, numbers-ok, once-ok, used-verdict, fork-verdict}
 use Rattle.dir_sf.proofs.Run.{length-entries-in}
 use Rattle.dir_sf_edit.proofs.ReadBack.{Fits, filled-bytes, lay-count, lay-wides, lay-width, lay-list, lay-parent, lay-entries, length-lay, length-lay-fork, lay-used}
 
 -- the file types fit their bytes
-abbrev pub kinds-ok : Edition → List Entry → Bool
+abbrev pub kinds-ok : Edition → List SfEntry → Bool
 kinds-ok e xs = every (λ x. ltb (x .kind) (256 ^ e .ftype)) xs
 
 -- what may be stored in a fork, of a directory whose block size is told
-pub record Good (e : Edition) (told p : ℕ) (xs : List Entry) : Type 0 where
+pub record Good (e : Edition) (told p : ℕ) (xs : List SfEntry) : Type 0 where
   pub tags : tags-ok e (e .first) xs ≡ true
   pub within : in-block told (end-tag e (e .first) xs) (length xs) ≡ true
   pub names : names-ok e xs ≡ true
@@ -50,14 +50,14 @@ pub number-fits : (wides i : ℕ) → legal-number i ≡ true → (wides ≡ 0 �
 unfolding width-of
 number-fits wides i h n = by-cases (eqb wides 0) (λ q. rw q (narrow-below i (n (eqb-true _ _ q)))) (λ q. rw q (legal-below i h))
 
-no-wide-head : (x : Entry) (xs : List Entry) → tally (λ y. is-wide (y .inode)) (x ∷ xs) ≡ 0 → is-wide (x .inode) ≡ false
+no-wide-head : (x : SfEntry) (xs : List SfEntry) → tally (λ y. is-wide (y .inode)) (x ∷ xs) ≡ 0 → is-wide (x .inode) ≡ false
 no-wide-head x xs h = by-cases (is-wide (x .inode)) (λ q. absurd (omega (arith, rw q at h))) (λ q. q)
 
-no-wide-tail : (x : Entry) (xs : List Entry) → tally (λ y. is-wide (y .inode)) (x ∷ xs) ≡ 0 → tally (λ y. is-wide (y .inode)) xs ≡ 0
+no-wide-tail : (x : SfEntry) (xs : List SfEntry) → tally (λ y. is-wide (y .inode)) (x ∷ xs) ≡ 0 → tally (λ y. is-wide (y .inode)) xs ≡ 0
 no-wide-tail x xs h = omega arith
 
 -- tags rise
-pub low-le-end : (e : Edition) (low : ℕ) (xs : List Entry) → tags-ok e low xs ≡ true → low ≤ end-tag e low xs
+pub low-le-end : (e : Edition) (low : ℕ) (xs : List SfEntry) → tags-ok e low xs ≡ true → low ≤ end-tag e low xs
 unfolding tags-ok end-tag next-tag
 low-le-end e low [] h = omega arith
 low-le-end e low (x ∷ xs) h =
@@ -65,7 +65,7 @@ low-le-end e low (x ∷ xs) h =
     let i : next-tag e x ≤ end-tag e (next-tag e x) xs = low-le-end e (next-tag e x) xs (and-right (eqb (x .tag % 8) 0 && leb low (x .tag)) _ h) in
     omega arith
 
-good-fits : (e : Edition) (low wides : ℕ) (xs : List Entry) → tags-ok e low xs ≡ true → end-tag e low xs < 65536 → every (name-ok e) xs ≡ true
+good-fits : (e : Edition) (low wides : ℕ) (xs : List SfEntry) → tags-ok e low xs ≡ true → end-tag e low xs < 65536 → every (name-ok e) xs ≡ true
     → every (λ x. legal-number (x .inode)) xs ≡ true → kinds-ok e xs ≡ true → (wides ≡ 0 → tally (λ x. is-wide (x .inode)) xs ≡ 0)
     → Fits e (width-of wides) xs
 unfolding tags-ok end-tag next-tag
@@ -84,7 +84,7 @@ good-fits e low wides (x ∷ xs) t en ns is ks z =
           (every-tail (λ y. ltb (y .kind) (256 ^ e .ftype)) x xs ks) (λ q. no-wide-tail x xs (z q)),
     )
 
-module _ (e : Edition) (told p : ℕ) (xs : List Entry) (small : told ≤ 65536) (g : Good e told p xs) where
+module _ (e : Edition) (told p : ℕ) (xs : List SfEntry) (small : told ≤ 65536) (g : Good e told p xs) where
   end-small : end-tag e (e .first) xs < 65536
   unfolding in-block
   end-small =

@@ -18,10 +18,10 @@ use Rattle.edition.specs.Edition.{Sane}
 use Rattle.name.specs.Name.{legal-name, legal-number, fixed-name}
 use Rattle.name.proofs.Legality.{legal-bounds}
 use Rattle.dinode.specs.Core.{directory-code, data-length}
-use Rattle.dir_sf.specs.Entry.{Entry, entry, width-of, long-in, entry-in, entries-in, filled, entry-bytes, entries-bytes, wides-of}
+use Rattle.dir_sf.specs.Entry.{SfEntry, entry, width-of, long-in, entry-in, entries-in, filled, entry-bytes, entries-bytes, wides-of}
 use Rattle.dir_sf.specs.Fork.{Readable, count-of, used-width, parent, list-of, entries, holds, lay, lay-fork, tile-ok, name-ok, names-ok, used-verdict}
-use Rattle.dir_sf.specs.Change.{tag-for, placed, inserted, insert-code, removed, remove-code}
-use Rattle.dir_sf.specs.Inode.{verdict, used, insert-number, remove-number, with-entries, after-insert, after-remove}
+use Rattle.dir_sf.specs.Change.{tag-for, placed, inserted, insert-request, removed, remove-request}
+use Rattle.dir_sf.specs.Inode.{verdict, used, insert-code, remove-code, with-entries, insert-bytes, remove-bytes}
 use Rattle.dir_sf_edit.proofs.ReadBack.{length-entry-bytes, length-lay}
 use Rattle.dir_sf_edit.proofs.Keeps.{removed-fits, inserts}
 use Rattle.dir_sf_edit.proofs.Inserts.{every-placed, length-placed}
@@ -31,16 +31,16 @@ use Rattle.dir_sf.proofs.Tested.{wides-known, names-known, is-directory, used-p
 
 -- ---- the answer
 
-pub remove-refused : (e : Edition) (told c : ℕ) (b n : List ℕ) → c ≡ verdict e told b → (c ≡ 0 → ⊥) → c ≡ remove-number e told b n
-unfolding remove-number
+pub remove-refused : (e : Edition) (told c : ℕ) (b n : List ℕ) → c ≡ verdict e told b → (c ≡ 0 → ⊥) → c ≡ remove-code e told b n
+unfolding remove-code
 remove-refused e told c b n h f = h ∙ sym (rw (ne-eqb (verdict e told b) 0 (λ q. f (h ∙ q))) refl)
 
 pub remove-passed : (e : Edition) (sane : Sane e) (told c z r : ℕ) (b n : List ℕ) → c ≡ verdict e told b → c ≡ 0 → z ≡ field 56 8 b
-    → r ≡ remove-code e n (parent (take (e .literal + z - e .literal) (drop (e .literal) b))) (entries e (take (e .literal + z - e .literal) (drop (e .literal) b))) → r ≡ remove-number e told b n
-unfolding remove-number
+    → r ≡ remove-request e n (parent (take (e .literal + z - e .literal) (drop (e .literal) b))) (entries e (take (e .literal + z - e .literal) (drop (e .literal) b))) → r ≡ remove-code e told b n
+unfolding remove-code
 remove-passed e sane told c z r b n h f q k =
     let v : verdict e told b ≡ 0 = sym h ∙ f in
-    k ∙ ap (λ (u : List ℕ). remove-code e n (parent u) (entries e u)) (used-is e sane told b v z q) ∙ sym (rw (eq-eqb _ _ v) refl)
+    k ∙ ap (λ (u : List ℕ). remove-request e n (parent u) (entries e u)) (used-is e sane told b v z q) ∙ sym (rw (eq-eqb _ _ v) refl)
 
 -- ---- what is laid out anew is as long as what was there
 
@@ -98,7 +98,7 @@ fresh-take (x ∷ xs) (suc n) (suc m) h l =
     rw q (ap (λ (l : List ℕ). x ∷ l) (fresh-take xs n m (omega arith) (omega arith)))
 
 -- the fork rebuilt in a fresh array and written back
-module _ (e : Edition) (sane : Sane e) (told : ℕ) (b : List ℕ) (v : verdict e told b ≡ 0) (ys : List Entry)
+module _ (e : Edition) (sane : Sane e) (told : ℕ) (b : List ℕ) (v : verdict e told b ≡ 0) (ys : List SfEntry)
     (fits : length (lay e (parent (used e b)) ys) ≤ data-length e b) where
   written-back : (m s : ℕ) (t b₁ : List ℕ) → m ≡ data-length e b → t ≡ put (replicate 2048 0) 0 (lay e (parent (used e b)) ys)
       → s ≡ length (lay e (parent (used e b)) ys) → b₁ ≡ put (put b 56 (to-be 8 s)) (e .literal) (take m t) → b₁ ≡ with-entries e b ys
@@ -121,22 +121,22 @@ lay-fits e sane told b v =
 
 -- ---- removal
 
-module _ (e : Edition) (sane : Sane e) (told : ℕ) (b n : List ℕ) (h : remove-number e told b n ≡ 0) where
-  parts : (verdict e told b ≡ 0) × (remove-code e n (parent (used e b)) (entries e (used e b)) ≡ 0)
-  unfolding remove-number
+module _ (e : Edition) (sane : Sane e) (told : ℕ) (b n : List ℕ) (h : remove-code e told b n ≡ 0) where
+  parts : (verdict e told b ≡ 0) × (remove-request e n (parent (used e b)) (entries e (used e b)) ≡ 0)
+  unfolding remove-code
   parts = both (verdict e told b) _ h
 
   pub remove-passes : verdict e told b ≡ 0
   remove-passes = parts .0
 
-  pub remove-answers : remove-code e n (parent (used e b)) (entries e (used e b)) ≡ 0
+  pub remove-answers : remove-request e n (parent (used e b)) (entries e (used e b)) ≡ 0
   remove-answers = parts .1
 
   pub remove-dir : directory-code e b ≡ 0
   remove-dir = is-directory e sane told b remove-passes
 
   there : holds e n (entries e (used e b)) ≡ true
-  unfolding remove-code
+  unfolding remove-request
   there =
       let a = passes (legal-name e n) 10 _ (parts .1) in
       let c = passes (not (fixed-name n)) 11 _ (a .1) in
@@ -166,28 +166,28 @@ module _ (e : Edition) (sane : Sane e) (told : ℕ) (b n : List ℕ) (h : remove
     taken-out m s t b₁ e₀ f g k =
         written-back e sane told b remove-passes (removed e n (entries e (used e b))) remove-fits m s t b₁ e₀ (rw same at f) (rw same at g) k
 
-pub remove-alone : (e : Edition) (told c : ℕ) (b n : List ℕ) → c ≡ remove-number e told b n → (c ≡ 0 → ⊥) → b ≡ after-remove e told b n
-unfolding after-remove
-remove-alone e told c b n h f = sym (rw (ne-eqb (remove-number e told b n) 0 (λ q. f (h ∙ q))) refl)
+pub remove-alone : (e : Edition) (told c : ℕ) (b n : List ℕ) → c ≡ remove-code e told b n → (c ≡ 0 → ⊥) → b ≡ remove-bytes e told b n
+unfolding remove-bytes
+remove-alone e told c b n h f = sym (rw (ne-eqb (remove-code e told b n) 0 (λ q. f (h ∙ q))) refl)
 
-pub remove-done : (e : Edition) (told c : ℕ) (b n b₁ : List ℕ) → c ≡ remove-number e told b n → c ≡ 0 → b₁ ≡ with-entries e b (removed e n (entries e (used e b)))
-    → b₁ ≡ after-remove e told b n
-unfolding after-remove
-remove-done e told c b n b₁ h f k = k ∙ sym (rw (eq-eqb (remove-number e told b n) 0 (sym h ∙ f)) refl)
+pub remove-done : (e : Edition) (told c : ℕ) (b n b₁ : List ℕ) → c ≡ remove-code e told b n → c ≡ 0 → b₁ ≡ with-entries e b (removed e n (entries e (used e b)))
+    → b₁ ≡ remove-bytes e told b n
+unfolding remove-bytes
+remove-done e told c b n b₁ h f k = k ∙ sym (rw (eq-eqb (remove-code e told b n) 0 (sym h ∙ f)) refl)
 
 -- ---- insert
 
-pub insert-refused : (e : Edition) (told c : ℕ) (b n : List ℕ) (kind ino : ℕ) → c ≡ verdict e told b → (c ≡ 0 → ⊥) → c ≡ insert-number e told b n kind ino
-unfolding insert-number
+pub insert-refused : (e : Edition) (told c : ℕ) (b n : List ℕ) (kind ino : ℕ) → c ≡ verdict e told b → (c ≡ 0 → ⊥) → c ≡ insert-code e told b n kind ino
+unfolding insert-code
 insert-refused e told c b n kind ino h f = h ∙ sym (rw (ne-eqb (verdict e told b) 0 (λ q. f (h ∙ q))) refl)
 
 pub insert-passed : (e : Edition) (sane : Sane e) (told c z fork r : ℕ) (b n : List ℕ) (kind ino : ℕ) → c ≡ verdict e told b → c ≡ 0 → z ≡ field 56 8 b → fork ≡ data-length e b
-    → r ≡ insert-code e told fork n kind ino (parent (take (e .literal + z - e .literal) (drop (e .literal) b))) (entries e (take (e .literal + z - e .literal) (drop (e .literal) b)))
-    → r ≡ insert-number e told b n kind ino
-unfolding insert-number
+    → r ≡ insert-request e told fork n kind ino (parent (take (e .literal + z - e .literal) (drop (e .literal) b))) (entries e (take (e .literal + z - e .literal) (drop (e .literal) b)))
+    → r ≡ insert-code e told b n kind ino
+unfolding insert-code
 insert-passed e sane told c z fork r b n kind ino h f q g k =
     let v : verdict e told b ≡ 0 = sym h ∙ f in
-    k ∙ ap₂ (λ (j : ℕ) (u : List ℕ). insert-code e told j n kind ino (parent u) (entries e u)) g (used-is e sane told b v z q) ∙ sym (rw (eq-eqb _ _ v) refl)
+    k ∙ ap₂ (λ (j : ℕ) (u : List ℕ). insert-request e told j n kind ino (parent u) (entries e u)) g (used-is e sane told b v z q) ∙ sym (rw (eq-eqb _ _ v) refl)
 
 pub tested-dir : (e : Edition) (sane : Sane e) (told c : ℕ) (b : List ℕ) → c ≡ verdict e told b → c ≡ 0 → directory-code e b ≡ 0
 tested-dir e sane told c b h f = is-directory e sane told b (sym h ∙ f)
@@ -199,15 +199,15 @@ lent-whole e sane told c z b h f q =
     let v : verdict e told b ≡ 0 = sym h ∙ f in
     rw (used-is e sane told b v z q) (same-long e told (used e b) (used-passes e sane told b v) (used-header e sane told b v))
 
-module _ (e : Edition) (sane : Sane e) (told : ℕ) (b n : List ℕ) (kind ino : ℕ) (h : insert-number e told b n kind ino ≡ 0) where
-  insert-parts : (verdict e told b ≡ 0) × (insert-code e told (data-length e b) n kind ino (parent (used e b)) (entries e (used e b)) ≡ 0)
-  unfolding insert-number
+module _ (e : Edition) (sane : Sane e) (told : ℕ) (b n : List ℕ) (kind ino : ℕ) (h : insert-code e told b n kind ino ≡ 0) where
+  insert-parts : (verdict e told b ≡ 0) × (insert-request e told (data-length e b) n kind ino (parent (used e b)) (entries e (used e b)) ≡ 0)
+  unfolding insert-code
   insert-parts = both (verdict e told b) _ h
 
   pub insert-passes : verdict e told b ≡ 0
   insert-passes = insert-parts .0
 
-  pub insert-answers : insert-code e told (data-length e b) n kind ino (parent (used e b)) (entries e (used e b)) ≡ 0
+  pub insert-answers : insert-request e told (data-length e b) n kind ino (parent (used e b)) (entries e (used e b)) ≡ 0
   insert-answers = insert-parts .1
 
   pub insert-dir : directory-code e b ≡ 0
@@ -226,7 +226,7 @@ module _ (e : Edition) (sane : Sane e) (told : ℕ) (b n : List ℕ) (kind ino :
   few-entries : count-of (used e b) < 255
   unfolding inserted names-ok
   few-entries =
-      let y : Entry = entry (tag-for e told (length n) (entries e (used e b))) n kind ino in
+      let y : SfEntry = entry (tag-for e told (length n) (entries e (used e b))) n kind ino in
       let u = used-bounds e sane told b insert-passes (field 56 8 b) refl in
       let k : every (name-ok e) (placed y (entries e (used e b))) ≡ true =
       every-placed (name-ok e) y (entries e (used e b)) (and-both _ _ (all-tests .0) (rw (all-tests .2) refl)) (names-known e told (used e b) (used-passes e sane told b insert-passes)) in
@@ -253,24 +253,24 @@ module _ (e : Edition) (sane : Sane e) (told : ℕ) (b n : List ℕ) (kind ino :
     put-in-is m s t b₁ e₀ f g k =
         written-back e sane told b insert-passes (inserted e told n kind ino (entries e (used e b))) insert-fits m s t b₁ e₀ (rw lent at f) (rw lent at g) k
 
-pub insert-alone : (e : Edition) (told c : ℕ) (b n : List ℕ) (kind ino : ℕ) → c ≡ insert-number e told b n kind ino → (c ≡ 0 → ⊥) → b ≡ after-insert e told b n kind ino
-unfolding after-insert
-insert-alone e told c b n kind ino h f = sym (rw (ne-eqb (insert-number e told b n kind ino) 0 (λ q. f (h ∙ q))) refl)
+pub insert-alone : (e : Edition) (told c : ℕ) (b n : List ℕ) (kind ino : ℕ) → c ≡ insert-code e told b n kind ino → (c ≡ 0 → ⊥) → b ≡ insert-bytes e told b n kind ino
+unfolding insert-bytes
+insert-alone e told c b n kind ino h f = sym (rw (ne-eqb (insert-code e told b n kind ino) 0 (λ q. f (h ∙ q))) refl)
 
-pub insert-done : (e : Edition) (told c : ℕ) (b n b₁ : List ℕ) (kind ino : ℕ) → c ≡ insert-number e told b n kind ino → c ≡ 0
-    → b₁ ≡ with-entries e b (inserted e told n kind ino (entries e (used e b))) → b₁ ≡ after-insert e told b n kind ino
-unfolding after-insert
-insert-done e told c b n b₁ kind ino h f k = k ∙ sym (rw (eq-eqb (insert-number e told b n kind ino) 0 (sym h ∙ f)) refl)
+pub insert-done : (e : Edition) (told c : ℕ) (b n b₁ : List ℕ) (kind ino : ℕ) → c ≡ insert-code e told b n kind ino → c ≡ 0
+    → b₁ ≡ with-entries e b (inserted e told n kind ino (entries e (used e b))) → b₁ ≡ insert-bytes e told b n kind ino
+unfolding insert-bytes
+insert-done e told c b n b₁ kind ino h f k = k ∙ sym (rw (eq-eqb (insert-code e told b n kind ino) 0 (sym h ∙ f)) refl)
 
 -- of the edition that was made
-pub remove-made : (e f : Edition) (told : ℕ) (b n : List ℕ) (r : ℕ) → r ≡ remove-number e told b n → e ≡ f → r ≡ remove-number f told b n
-remove-made e f told b n r h q = h ∙ ap (λ (x : Edition). remove-number x told b n) q
+pub remove-made : (e f : Edition) (told : ℕ) (b n : List ℕ) (r : ℕ) → r ≡ remove-code e told b n → e ≡ f → r ≡ remove-code f told b n
+remove-made e f told b n r h q = h ∙ ap (λ (x : Edition). remove-code x told b n) q
 
-pub removed-made : (e f : Edition) (told : ℕ) (b n b₁ : List ℕ) → b₁ ≡ after-remove e told b n → e ≡ f → b₁ ≡ after-remove f told b n
-removed-made e f told b n b₁ h q = h ∙ ap (λ (x : Edition). after-remove x told b n) q
+pub removed-made : (e f : Edition) (told : ℕ) (b n b₁ : List ℕ) → b₁ ≡ remove-bytes e told b n → e ≡ f → b₁ ≡ remove-bytes f told b n
+removed-made e f told b n b₁ h q = h ∙ ap (λ (x : Edition). remove-bytes x told b n) q
 
-pub insert-made : (e f : Edition) (told : ℕ) (b n : List ℕ) (kind ino r : ℕ) → r ≡ insert-number e told b n kind ino → e ≡ f → r ≡ insert-number f told b n kind ino
-insert-made e f told b n kind ino r h q = h ∙ ap (λ (x : Edition). insert-number x told b n kind ino) q
+pub insert-made : (e f : Edition) (told : ℕ) (b n : List ℕ) (kind ino r : ℕ) → r ≡ insert-code e told b n kind ino → e ≡ f → r ≡ insert-code f told b n kind ino
+insert-made e f told b n kind ino r h q = h ∙ ap (λ (x : Edition). insert-code x told b n kind ino) q
 
-pub inserted-made : (e f : Edition) (told : ℕ) (b n : List ℕ) (kind ino : ℕ) (b₁ : List ℕ) → b₁ ≡ after-insert e told b n kind ino → e ≡ f → b₁ ≡ after-insert f told b n kind ino
-inserted-made e f told b n kind ino b₁ h q = h ∙ ap (λ (x : Edition). after-insert x told b n kind ino) q
+pub inserted-made : (e f : Edition) (told : ℕ) (b n : List ℕ) (kind ino : ℕ) (b₁ : List ℕ) → b₁ ≡ insert-bytes e told b n kind ino → e ≡ f → b₁ ≡ insert-bytes f told b n kind ino
+inserted-made e f told b n kind ino b₁ h q = h ∙ ap (λ (x : Edition). insert-bytes x told b n kind ino) q

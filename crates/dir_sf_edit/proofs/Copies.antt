@@ -9,17 +9,17 @@ use lib.ListN.{length, take, drop, getD, length-append, length-take, length-drop
 use Rattle.be.specs.Bytes.{field, put}
 use Rattle.be.proofs.Writes.{put-nothing, length-put, put-then}
 use Rattle.edition.specs.declared.Edition.{Edition}
-use Rattle.dir_sf.specs.Entry.{Entry, entry, entry-in, entries-in, enough, entry-bytes, entries-bytes}
+use Rattle.dir_sf.specs.Entry.{SfEntry, entry, entry-in, entries-in, enough, entry-bytes, entries-bytes}
 use Rattle.dir_sf_edit.proofs.ReadBack.{length-entry-bytes}
 use Rattle.dir_sf.proofs.Leaves.{one-in}
 use Rattle.dir_sf.proofs.Run.{Run, run-start, run-on, run-passed, run-one, entries-take, name-at-is, tag-at-is, inode-at-is, kind-at-is}
 
-pub entries-bytes-append : (e : Edition) (w : ℕ) (xs ys : List Entry) → entries-bytes e w (xs ++ ys) ≡ entries-bytes e w xs ++ entries-bytes e w ys
+pub entries-bytes-append : (e : Edition) (w : ℕ) (xs ys : List SfEntry) → entries-bytes e w (xs ++ ys) ≡ entries-bytes e w xs ++ entries-bytes e w ys
 unfolding entries-bytes
 entries-bytes-append e w [] ys = refl
 entries-bytes-append e w (x ∷ xs) ys = rw (entries-bytes-append e w xs ys, append-assoc) refl
 
-entries-bytes-one : (e : Edition) (w : ℕ) (x : Entry) → entries-bytes e w (x ∷ []) ≡ entry-bytes e w x
+entries-bytes-one : (e : Edition) (w : ℕ) (x : SfEntry) → entries-bytes e w (x ∷ []) ≡ entry-bytes e w x
 unfolding entries-bytes
 entries-bytes-one e w x = append-nil (entry-bytes e w x)
 
@@ -29,7 +29,7 @@ copied e w v u at i = entries-bytes e v (entries-in e w i (drop at u))
 
 copied-fewer : (e : Edition) (w v : ℕ) (u : List ℕ) (at j k : ℕ) → j ≤ k → length (copied e w v u at j) ≤ length (copied e w v u at k)
 copied-fewer e w v u at j k h =
-    let xs : List Entry = entries-in e w k (drop at u) in
+    let xs : List SfEntry = entries-in e w k (drop at u) in
     let a : entries-in e w j (drop at u) ≡ take j xs = sym (entries-take e w j k (drop at u) h) in
     let b : entries-bytes e v (take j xs) ++ entries-bytes e v (drop j xs) ≡ entries-bytes e v xs =
     sym (entries-bytes-append e v (take j xs) (drop j xs)) ∙ ap (entries-bytes e v) (take-append-drop j xs) in
@@ -73,11 +73,11 @@ module _ (e : Edition) (w : ℕ) (u : List ℕ) (p n : ℕ) (one : enough e w 1 
       let l : p + 3 + n - (p + 3) ≡ getD u p 0 = omega arith in
       let m : p + 3 + n ≡ p + 3 + getD u p 0 = omega arith in
       let m' : p + 3 + n + e .ftype ≡ p + 3 + getD u p 0 + e .ftype = omega arith in
-      let x : Entry = entry-in e w (drop p u) in
+      let x : SfEntry = entry-in e w (drop p u) in
       let a : entry tag (take (p + 3 + n - (p + 3)) (drop (p + 3) u)) kind ino ≡ entry (x .tag) (x .name) (x .kind) (x .inode) =
       ap₂ (λ (t : ℕ) (nm : List ℕ). entry t nm kind ino) (t ∙ sym (tag-at-is e w u p)) (ap (λ (j : ℕ). take j (drop (p + 3) u)) l ∙ sym (name-at-is e w u p))
       ∙ ap₂ (λ (kd i : ℕ). entry (x .tag) (x .name) kd i) (y ∙ ap (λ (j : ℕ). field j (e .ftype) u) m ∙ sym (kind-at-is e w u p)) (z ∙ ap (λ (j : ℕ). field j w u) m' ∙ sym (inode-at-is e w u p)) in
-      f ∙ ap (λ (e₀ : Entry). put b o (entry-bytes e v e₀)) a
+      f ∙ ap (λ (e₀ : SfEntry). put b o (entry-bytes e v e₀)) a
 
 module _ (e : Edition) (w v : ℕ) (b₀ : List ℕ) (to : ℕ) (u : List ℕ) (at k i p : ℕ) (b : List ℕ) (o : ℕ) (s : Copy e w v b₀ to u at k i p b o) (h : i < k) where
   one-more : copied e w v u at (i + 1) ≡ copied e w v u at i ++ entry-bytes e v (entry-in e w (drop p u))

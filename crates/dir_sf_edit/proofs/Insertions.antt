@@ -14,22 +14,22 @@ use Rattle.be.proofs.Bools.{by-cases, and-left, every-head, every-tail}
 use Rattle.edition.specs.declared.Edition.{Edition}
 use Rattle.name.specs.Name.{legal-name, legal-number, fixed-name}
 use Rattle.name.proofs.Legality.{legal-bounds}
-use Rattle.dir_sf.specs.Entry.{Entry, entry, width-of, entry-bytes, entries-bytes, is-wide, wides-of}
+use Rattle.dir_sf.specs.Entry.{SfEntry, entry, width-of, entry-bytes, entries-bytes, is-wide, wides-of}
 use Rattle.dir_sf.specs.Fork.{Readable, laid, lay, count-of, stored-wides, parent, entries, holds, name-ok, names-ok}
-use Rattle.dir_sf.specs.Change.{rank, placed, with-nth, tag-for, inserted, has-room, insert-code}
+use Rattle.dir_sf.specs.Change.{rank, placed, with-nth, tag-for, inserted, has-room, insert-request}
 use Rattle.dir_sf.proofs.Leaves.{narrow, broad, width-least}
 use Rattle.dir_sf.proofs.Listed.{count-is}
 use Rattle.dir_sf_edit.proofs.ReadBack.{length-entry-bytes, length-lay}
 use Rattle.dir_sf_edit.proofs.Inserts.{length-placed, tally-placed}
 
 -- a new entry in tag order: where as many stand before it as its tag says
-placed-nth : (y : Entry) (xs : List Entry) → placed y xs ≡ with-nth (rank (y .tag) xs) y xs
+placed-nth : (y : SfEntry) (xs : List SfEntry) → placed y xs ≡ with-nth (rank (y .tag) xs) y xs
 unfolding placed rank with-nth
 placed-nth y [] = refl
 placed-nth y (x ∷ xs) =
-    by-cases (ltb (y .tag) (x .tag)) (λ q. rw q refl) (λ q. rw q (ap (λ (l : List Entry). x ∷ l) (placed-nth y xs)))
+    by-cases (ltb (y .tag) (x .tag)) (λ q. rw q refl) (λ q. rw q (ap (λ (l : List SfEntry). x ∷ l) (placed-nth y xs)))
 
-rank-le : (t : ℕ) (xs : List Entry) → rank t xs ≤ length xs
+rank-le : (t : ℕ) (xs : List SfEntry) → rank t xs ≤ length xs
 unfolding rank
 rank-le t [] = omega arith
 rank-le t (x ∷ xs) = by-cases (ltb t (x .tag)) (λ q. rw q (omega arith)) (λ q. rw q (omega (arith, rank-le t xs)))
@@ -41,18 +41,18 @@ tally-le : {A : Type 0} (p : A → Bool) (xs : List A) → tally p xs ≤ length
 tally-le p [] = omega arith
 tally-le p (x ∷ xs) = by-cases (p x) (λ q. rw q (omega (arith, tally-le p xs))) (λ q. rw q (omega (arith, tally-le p xs)))
 
-wides-le : (p : ℕ) (xs : List Entry) → wides-of p xs ≤ length xs
+wides-le : (p : ℕ) (xs : List SfEntry) → wides-of p xs ≤ length xs
 unfolding wides-of
 wides-le p xs = tally-le (λ x. is-wide (x .inode)) xs
 
 -- ---- the size with the new entry in
 
 -- one wide number more, if the new one is wide
-pub placed-wide : (p : ℕ) (y : Entry) (xs : List Entry) → wides-of p (placed y xs) ≡ cond (is-wide (y .inode)) 1 0 + wides-of p xs
+pub placed-wide : (p : ℕ) (y : SfEntry) (xs : List SfEntry) → wides-of p (placed y xs) ≡ cond (is-wide (y .inode)) 1 0 + wides-of p xs
 unfolding wides-of
 placed-wide p y xs = tally-placed (λ x. is-wide (x .inode)) y xs
 
-pub placed-bytes : (e : Edition) (w : ℕ) (y : Entry) (xs : List Entry) → length (entries-bytes e w (placed y xs)) ≡ length (entry-bytes e w y) + length (entries-bytes e w xs)
+pub placed-bytes : (e : Edition) (w : ℕ) (y : SfEntry) (xs : List SfEntry) → length (entries-bytes e w (placed y xs)) ≡ length (entry-bytes e w y) + length (entries-bytes e w xs)
 unfolding placed entries-bytes
 placed-bytes e w y [] = simp length-append refl
 placed-bytes e w y (x ∷ xs) =
@@ -60,7 +60,7 @@ placed-bytes e w y (x ∷ xs) =
     (λ q. rw q (simp length-append (omega arith)))
     (λ q. rw q (simp length-append (omega (arith, placed-bytes e w y xs))))
 
-wider : (e : Edition) (xs : List Entry) → length (entries-bytes e 8 xs) ≡ length (entries-bytes e 4 xs) + 4 * length xs
+wider : (e : Edition) (xs : List SfEntry) → length (entries-bytes e 8 xs) ≡ length (entries-bytes e 4 xs) + 4 * length xs
 unfolding entries-bytes
 wider e [] = omega arith
 wider e (x ∷ xs) = simp length-append (omega (arith, wider e xs, length-entry-bytes e 8 x, length-entry-bytes e 4 x))
@@ -116,36 +116,36 @@ module _ (e : Edition) (u name : List ℕ) (r : Readable e u) (whole : length (l
 pub short-name : (e : Edition) (n : List ℕ) (t : Bool) → t ≡ legal-name e n → not t ≡ false → length n < 256
 short-name e n t h f = omega (arith, legal-bounds e n (sym h ∙ not-false t f))
 
-module _ (e : Edition) (told fork : ℕ) (n : List ℕ) (kind i p : ℕ) (xs : List Entry) (t₁ : Bool) (h₁ : t₁ ≡ legal-name e n) where
-  pub insert-name : not t₁ ≡ true → _≡_ {A = ℕ} 11 (insert-code e told fork n kind i p xs)
-  unfolding insert-code
+module _ (e : Edition) (told fork : ℕ) (n : List ℕ) (kind i p : ℕ) (xs : List SfEntry) (t₁ : Bool) (h₁ : t₁ ≡ legal-name e n) where
+  pub insert-name : not t₁ ≡ true → _≡_ {A = ℕ} 11 (insert-request e told fork n kind i p xs)
+  unfolding insert-request
   insert-name f = sym (rw (sym h₁ ∙ not-true t₁ f) refl)
 
   module _ (g₁ : not t₁ ≡ false) (t₂ : Bool) (h₂ : t₂ ≡ legal-number i) where
-    pub insert-asked : not t₂ ≡ true → _≡_ {A = ℕ} 11 (insert-code e told fork n kind i p xs)
-    unfolding insert-code
+    pub insert-asked : not t₂ ≡ true → _≡_ {A = ℕ} 11 (insert-request e told fork n kind i p xs)
+    unfolding insert-request
     insert-asked f = sym (rw (sym h₁ ∙ not-false t₁ g₁, sym h₂ ∙ not-true t₂ f) refl)
 
     module _ (g₂ : not t₂ ≡ false) (t₃ : Bool) (h₃ : t₃ ≡ fixed-name n) where
-      pub insert-12 : t₃ ≡ true → _≡_ {A = ℕ} 12 (insert-code e told fork n kind i p xs)
-      unfolding insert-code
+      pub insert-12 : t₃ ≡ true → _≡_ {A = ℕ} 12 (insert-request e told fork n kind i p xs)
+      unfolding insert-request
       insert-12 f = sym (rw (sym h₁ ∙ not-false t₁ g₁, sym h₂ ∙ not-false t₂ g₂, sym h₃ ∙ f) refl)
 
       module _ (g₃ : t₃ ≡ false) (t₄ : Bool) (h₄ : t₄ ≡ holds e n xs) where
-        pub insert-14 : t₄ ≡ true → _≡_ {A = ℕ} 14 (insert-code e told fork n kind i p xs)
-        unfolding insert-code
+        pub insert-14 : t₄ ≡ true → _≡_ {A = ℕ} 14 (insert-request e told fork n kind i p xs)
+        unfolding insert-request
         insert-14 f = sym (rw (sym h₁ ∙ not-false t₁ g₁, sym h₂ ∙ not-false t₂ g₂, sym h₃ ∙ g₃, sym h₄ ∙ f) refl)
 
         module _ (g₄ : t₄ ≡ false) where
-          last : insert-code e told fork n kind i p xs ≡ cond (has-room e told fork n kind i p xs) 0 15
-          unfolding insert-code
+          last : insert-request e told fork n kind i p xs ≡ cond (has-room e told fork n kind i p xs) 0 15
+          unfolding insert-request
           last = rw (sym h₁ ∙ not-false t₁ g₁, sym h₂ ∙ not-false t₂ g₂, sym h₃ ∙ g₃, sym h₄ ∙ g₄) refl
 
           module _ (s tag : ℕ) (l : s ≡ length n) (ht : tag ≡ tag-for e told s xs) where
             tag-is : tag-for e told (length n) xs ≡ tag
             tag-is = ap (λ (z : ℕ). tag-for e told z xs) (sym l) ∙ sym ht
 
-            pub insert-no-tag : tag ≡ 0 → _≡_ {A = ℕ} 15 (insert-code e told fork n kind i p xs)
+            pub insert-no-tag : tag ≡ 0 → _≡_ {A = ℕ} 15 (insert-request e told fork n kind i p xs)
             unfolding has-room
             insert-no-tag f = sym (last ∙ rw (tag-is ∙ f) refl)
 
@@ -154,11 +154,11 @@ module _ (e : Edition) (told fork : ℕ) (n : List ℕ) (kind i p : ℕ) (xs : L
               unfolding inserted
               size-is = ap (λ (k : ℕ). length (lay e p (placed (entry k n kind i) xs))) tag-is ∙ sym hz
 
-              pub insert-no-fit : fork < z → _≡_ {A = ℕ} 15 (insert-code e told fork n kind i p xs)
+              pub insert-no-fit : fork < z → _≡_ {A = ℕ} 15 (insert-request e told fork n kind i p xs)
               unfolding has-room
               insert-no-fit h = sym (last ∙ rw (tag-is, ne-eqb tag 0 f, size-is, lt-leb z fork h) refl)
 
-              pub insert-0 : z ≤ fork → _≡_ {A = ℕ} 0 (insert-code e told fork n kind i p xs)
+              pub insert-0 : z ≤ fork → _≡_ {A = ℕ} 0 (insert-request e told fork n kind i p xs)
               unfolding has-room
               insert-0 h = sym (last ∙ rw (tag-is, ne-eqb tag 0 f, size-is, le-leb z fork h) refl)
 
@@ -204,13 +204,13 @@ wides-small e u wides one r b l h = omega (arith, r .wides, wides-le (parent u) 
 
 -- ---- few entries fit a fork
 
-few : (e : Edition) (w : ℕ) (xs : List Entry) → 4 ≤ w → every (name-ok e) xs ≡ true → 8 * length xs ≤ length (entries-bytes e w xs)
+few : (e : Edition) (w : ℕ) (xs : List SfEntry) → 4 ≤ w → every (name-ok e) xs ≡ true → 8 * length xs ≤ length (entries-bytes e w xs)
 unfolding entries-bytes
 few e w [] h k = omega arith
 few e w (x ∷ xs) h k =
     let l = legal-bounds e (x .name) (and-left (legal-name e (x .name)) _ (every-head (name-ok e) x xs k)) in
     simp length-append (omega (arith, length-entry-bytes e w x, few e w xs h (every-tail (name-ok e) x xs k)))
 
-pub lay-few : (e : Edition) (p : ℕ) (xs : List Entry) → names-ok e xs ≡ true → 8 * length xs ≤ length (lay e p xs)
+pub lay-few : (e : Edition) (p : ℕ) (xs : List SfEntry) → names-ok e xs ≡ true → 8 * length xs ≤ length (lay e p xs)
 unfolding names-ok
 lay-few e p xs k = omega (arith, length-lay e p xs, few e (width-of (wides-of p xs)) xs (width-least (wides-of p xs)) k)

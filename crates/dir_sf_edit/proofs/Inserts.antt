@@ -14,9 +14,9 @@ use Rattle.edition.specs.Edition.{entry-size}
 use Rattle.name.proofs.Same.{same-name-sym, same-name-trans}
 use Rattle.name.specs.Name.{same-name}
 use Rattle.be.proofs.Bools.{by-cases, every-head, every-tail, every-cons, neither}
-use Rattle.dir_sf.specs.Entry.{Entry, next-tag, tags-ok, end-tag}
+use Rattle.dir_sf.specs.Entry.{SfEntry, next-tag, tags-ok, end-tag}
 use Rattle.dir_sf.specs.Fork.{holds, once-ok}
-use Rattle.dir_sf.specs.Change.{number-in, gap-tag, placed}
+use Rattle.dir_sf.specs.Change.{target-in, gap-tag, placed}
 use Rattle.dir_sf.proofs.Names.{fails, once-head, once-tail, once-cons}
 use Rattle.dir_sf_edit.proofs.Accepted.{low-le-end}
 use Rattle.dir_sf.proofs.Tags.{tagged, untagged}
@@ -28,7 +28,7 @@ pub record Tags (e : Edition) : Type 0 where
 
 -- ---- the new entry among the others
 
-pub every-placed : (p : Entry → Bool) (y : Entry) (xs : List Entry) → p y ≡ true → every p xs ≡ true → every p (placed y xs) ≡ true
+pub every-placed : (p : SfEntry → Bool) (y : SfEntry) (xs : List SfEntry) → p y ≡ true → every p xs ≡ true → every p (placed y xs) ≡ true
 unfolding placed
 every-placed p y [] h k = every-cons p y [] h refl
 every-placed p y (x ∷ xs) h k =
@@ -36,20 +36,20 @@ every-placed p y (x ∷ xs) h k =
     (λ q. rw q (every-cons p y (x ∷ xs) h k))
     (λ q. rw q (every-cons p x (placed y xs) (every-head p x xs k) (every-placed p y xs h (every-tail p x xs k))))
 
-pub length-placed : (y : Entry) (xs : List Entry) → length (placed y xs) ≡ suc (length xs)
+pub length-placed : (y : SfEntry) (xs : List SfEntry) → length (placed y xs) ≡ suc (length xs)
 unfolding placed
 length-placed y [] = refl
 length-placed y (x ∷ xs) =
     by-cases (ltb (y .tag) (x .tag)) (λ q. rw q refl) (λ q. rw q (ap suc (length-placed y xs)))
 
 -- as many that pass a test as before, and the new one: names and numbers, order left out
-pub tally-placed : (p : Entry → Bool) (y : Entry) (xs : List Entry) → tally p (placed y xs) ≡ cond (p y) 1 0 + tally p xs
+pub tally-placed : (p : SfEntry → Bool) (y : SfEntry) (xs : List SfEntry) → tally p (placed y xs) ≡ cond (p y) 1 0 + tally p xs
 unfolding placed
 tally-placed p y [] = refl
 tally-placed p y (x ∷ xs) =
     by-cases (ltb (y .tag) (x .tag)) (λ q. rw q refl) (λ q. rw q (omega (arith, tally-placed p y xs)))
 
-pub placed-holds : (e : Edition) (m : List ℕ) (y : Entry) (xs : List Entry) → holds e m (placed y xs) ≡ (same-name e m (y .name) || holds e m xs)
+pub placed-holds : (e : Edition) (m : List ℕ) (y : SfEntry) (xs : List SfEntry) → holds e m (placed y xs) ≡ (same-name e m (y .name) || holds e m xs)
 unfolding placed holds
 placed-holds e m y [] = refl
 placed-holds e m y (x ∷ xs) =
@@ -60,25 +60,25 @@ placed-holds e m y (x ∷ xs) =
     (λ r. rw (q, r) (by-cases (same-name e m (y .name)) (λ s. rw s refl) (λ s. rw s refl)))
     (λ r. rw (q, r) (placed-holds e m y xs)))
 
-rest-absent : (e : Edition) (n : List ℕ) (x : Entry) (xs : List Entry) → holds e n (x ∷ xs) ≡ false → holds e n xs ≡ false
+rest-absent : (e : Edition) (n : List ℕ) (x : SfEntry) (xs : List SfEntry) → holds e n (x ∷ xs) ≡ false → holds e n xs ≡ false
 unfolding holds
 rest-absent e n x xs h = neither (same-name e n (x .name)) _ h .1
 
-head-differs : (e : Edition) (n : List ℕ) (x : Entry) (xs : List Entry) → holds e n (x ∷ xs) ≡ false → same-name e n (x .name) ≡ false
+head-differs : (e : Edition) (n : List ℕ) (x : SfEntry) (xs : List SfEntry) → holds e n (x ∷ xs) ≡ false → same-name e n (x .name) ≡ false
 unfolding holds
 head-differs e n x xs h = neither (same-name e n (x .name)) _ h .0
 
-other-name : (e : Edition) (m : List ℕ) (y x : Entry) (xs : List Entry) → holds e (y .name) (x ∷ xs) ≡ false → same-name e m (x .name) ≡ true
+other-name : (e : Edition) (m : List ℕ) (y x : SfEntry) (xs : List SfEntry) → holds e (y .name) (x ∷ xs) ≡ false → same-name e m (x .name) ≡ true
     → same-name e m (y .name) ≡ false
 other-name e m y x xs h r =
     fails (same-name e m (y .name)) (same-name e (y .name) (x .name)) (λ s. same-name-trans e (y .name) m (x .name) (same-name-sym e m (y .name) s) r) (head-differs e (y .name) x xs h)
 
-apart-from : (e : Edition) (y x : Entry) (xs : List Entry) → holds e (y .name) (x ∷ xs) ≡ false → holds e (x .name) xs ≡ false
+apart-from : (e : Edition) (y x : SfEntry) (xs : List SfEntry) → holds e (y .name) (x ∷ xs) ≡ false → holds e (x .name) xs ≡ false
     → holds e (x .name) (placed y xs) ≡ false
 apart-from e y x xs h k =
     rw (placed-holds e (x .name) y xs, fails (same-name e (x .name) (y .name)) (same-name e (y .name) (x .name)) (λ s. same-name-sym e (x .name) (y .name) s) (head-differs e (y .name) x xs h)) k
 
-pub placed-once : (e : Edition) (y : Entry) (xs : List Entry) → holds e (y .name) xs ≡ false → once-ok e xs ≡ true → once-ok e (placed y xs) ≡ true
+pub placed-once : (e : Edition) (y : SfEntry) (xs : List SfEntry) → holds e (y .name) xs ≡ false → once-ok e xs ≡ true → once-ok e (placed y xs) ≡ true
 unfolding placed
 placed-once e y [] h o = once-cons e y [] h o
 placed-once e y (x ∷ xs) h o =
@@ -86,9 +86,9 @@ placed-once e y (x ∷ xs) h o =
     (λ q. rw q (once-cons e y (x ∷ xs) h o))
     (λ q. rw q (once-cons e x (placed y xs) (apart-from e y x xs h (once-head e x xs o)) (placed-once e y xs (rest-absent e (y .name) x xs h) (once-tail e x xs o))))
 
-pub placed-number : (e : Edition) (m : List ℕ) (y : Entry) (xs : List Entry) → holds e (y .name) xs ≡ false
-    → number-in e m (placed y xs) ≡ cond (same-name e m (y .name)) (y .inode) (number-in e m xs)
-unfolding placed number-in
+pub placed-number : (e : Edition) (m : List ℕ) (y : SfEntry) (xs : List SfEntry) → holds e (y .name) xs ≡ false
+    → target-in e m (placed y xs) ≡ cond (same-name e m (y .name)) (y .inode) (target-in e m xs)
+unfolding placed target-in
 placed-number e m y [] h = refl
 placed-number e m y (x ∷ xs) h =
     by-cases (ltb (y .tag) (x .tag))
@@ -100,15 +100,15 @@ placed-number e m y (x ∷ xs) h =
 
 -- ---- the tags
 
-next-eights : (e : Edition) (x : Entry) → x .tag % 8 ≡ 0 → next-tag e x % 8 ≡ 0
+next-eights : (e : Edition) (x : SfEntry) → x .tag % 8 ≡ 0 → next-tag e x % 8 ≡ 0
 unfolding next-tag entry-size
 next-eights e x h = omega arith
 
-next-more : (e : Edition) (x : Entry) → x .tag < next-tag e x
+next-more : (e : Edition) (x : SfEntry) → x .tag < next-tag e x
 unfolding next-tag entry-size
 next-more e x = omega arith
 
-pub end-eights : (e : Edition) (low : ℕ) (xs : List Entry) → low % 8 ≡ 0 → tags-ok e low xs ≡ true → end-tag e low xs % 8 ≡ 0
+pub end-eights : (e : Edition) (low : ℕ) (xs : List SfEntry) → low % 8 ≡ 0 → tags-ok e low xs ≡ true → end-tag e low xs % 8 ≡ 0
 unfolding end-tag
 end-eights e low [] h t = h
 end-eights e low (x ∷ xs) h t = let g = tagged e low x xs t in end-eights e (next-tag e x) xs (next-eights e x (g .eights)) (g .rest)
@@ -118,8 +118,8 @@ unfolding tags-ok
 tags-none e low = refl
 
 -- at the end
-module _ (e : Edition) (y : Entry) where
-  pub placed-last : (low : ℕ) (xs : List Entry) → y .tag % 8 ≡ 0 → tags-ok e low xs ≡ true → end-tag e low xs ≡ y .tag
+module _ (e : Edition) (y : SfEntry) where
+  pub placed-last : (low : ℕ) (xs : List SfEntry) → y .tag % 8 ≡ 0 → tags-ok e low xs ≡ true → end-tag e low xs ≡ y .tag
       → (tags-ok e low (placed y xs) ≡ true) × (end-tag e low (placed y xs) ≡ next-tag e y)
   unfolding placed end-tag
   placed-last low [] m t q = (untagged e low y [] m (omega arith) (tags-none e (next-tag e y)), refl)
@@ -133,7 +133,7 @@ module _ (e : Edition) (y : Entry) where
       )
 
   -- in the lowest gap that holds it
-  pub placed-in-gap : (low : ℕ) (xs : List Entry) → low % 8 ≡ 0 → tags-ok e low xs ≡ true → 1 ≤ y .tag
+  pub placed-in-gap : (low : ℕ) (xs : List SfEntry) → low % 8 ≡ 0 → tags-ok e low xs ≡ true → 1 ≤ y .tag
       → gap-tag e (entry-size e (length (y .name))) low xs ≡ y .tag
       → (tags-ok e low (placed y xs) ≡ true) × (end-tag e low (placed y xs) ≡ end-tag e low xs) × (low ≤ y .tag)
   unfolding placed end-tag gap-tag next-tag

@@ -14,19 +14,19 @@ use Rattle.be.proofs.Codes.{passes}
 use Rattle.edition.specs.declared.Edition.{Edition}
 use Rattle.edition.specs.Edition.{entry-size}
 use Rattle.name.specs.Name.{legal-name, legal-number, same-name, fixed-name}
-use Rattle.dir_sf.specs.Entry.{Entry, entry, width-of, entries-bytes, is-wide, wides-of, next-tag, tags-ok, end-tag, in-block}
+use Rattle.dir_sf.specs.Entry.{SfEntry, entry, width-of, entries-bytes, is-wide, wides-of, next-tag, tags-ok, end-tag, in-block}
 use Rattle.dir_sf.specs.Fork.{name-ok, names-ok, numbers-ok, holds, lay, lay-fork, fork-verdict}
-use Rattle.dir_sf.specs.Change.{gap-tag, tag-for, placed, inserted, has-room, insert-code, removed, remove-code}
+use Rattle.dir_sf.specs.Change.{gap-tag, tag-for, placed, inserted, has-room, insert-request, removed, remove-request}
 use Rattle.dir_sf_edit.proofs.ReadBack.{length-entry-bytes, length-lay}
 use Rattle.dir_sf_edit.proofs.Accepted.{Good, laid-accepted}
 use Rattle.dir_sf_edit.proofs.Removes.{removed-good}
 use Rattle.dir_sf_edit.proofs.Inserts.{Tags, every-placed, length-placed, tally-placed, placed-once, placed-last, placed-in-gap, end-eights}
 
 -- what an insert that is done has passed
-module _ (e : Edition) (told p : ℕ) (n : List ℕ) (kind i : ℕ) (xs : List Entry) (fork : ℕ) (done : insert-code e told fork n kind i p xs ≡ 0) where
+module _ (e : Edition) (told p : ℕ) (n : List ℕ) (kind i : ℕ) (xs : List SfEntry) (fork : ℕ) (done : insert-request e told fork n kind i p xs ≡ 0) where
   pub inserts : (legal-name e n ≡ true) × (legal-number i ≡ true) × (fixed-name n ≡ false) × (holds e n xs ≡ false)
       × ((tag-for e told (length n) xs ≡ 0 → ⊥)) × (length (lay e p (inserted e told n kind i xs)) ≤ fork)
-  unfolding insert-code has-room
+  unfolding insert-request has-room
   inserts =
       let a = passes (legal-name e n && legal-number i) 10 _ done in
       let b = passes (not (fixed-name n)) 11 _ (a .1) in
@@ -40,12 +40,12 @@ module _ (e : Edition) (told p : ℕ) (n : List ℕ) (kind i : ℕ) (xs : List E
         leb-true _ _ (and-right (not (eqb (tag-for e told (length n) xs) 0)) _ (d .0)),
       )
 
-module _ (e : Edition) (ok : Tags e) (told p : ℕ) (n : List ℕ) (kind i : ℕ) (xs : List Entry) (g : Good e told p xs) where
+module _ (e : Edition) (ok : Tags e) (told p : ℕ) (n : List ℕ) (kind i : ℕ) (xs : List SfEntry) (g : Good e told p xs) where
   -- the tags and the block's limit, with the new entry in
-  abbrev Fits-in : Entry → Type 0
+  abbrev Fits-in : SfEntry → Type 0
   Fits-in y = (tags-ok e (e .first) (placed y xs) ≡ true) × (in-block told (end-tag e (e .first) (placed y xs)) (length (placed y xs)) ≡ true)
 
-  at-end : (y : Entry) → y .name ≡ n → in-block told (end-tag e (e .first) xs + entry-size e (length n)) (suc (length xs)) ≡ true
+  at-end : (y : SfEntry) → y .name ≡ n → in-block told (end-tag e (e .first) xs + entry-size e (length n)) (suc (length xs)) ≡ true
       → y .tag ≡ end-tag e (e .first) xs → Fits-in y
   unfolding next-tag
   at-end y q h t =
@@ -54,14 +54,14 @@ module _ (e : Edition) (ok : Tags e) (told p : ℕ) (n : List ℕ) (kind i : ℕ
       r .1 ∙ ap₂ (λ (a : ℕ) (b : List ℕ). a + entry-size e (length b)) t q in
       (r .0, rw (m, length-placed y xs) h)
 
-  in-gap : (y : Entry) → y .name ≡ n → in-block told (end-tag e (e .first) xs) (suc (length xs)) ≡ true
+  in-gap : (y : SfEntry) → y .name ≡ n → in-block told (end-tag e (e .first) xs) (suc (length xs)) ≡ true
       → gap-tag e (entry-size e (length n)) (e .first) xs ≡ y .tag → (y .tag ≡ 0 → ⊥) → Fits-in y
   in-gap y q h t z =
       let t' : gap-tag e (entry-size e (length (y .name))) (e .first) xs ≡ y .tag = rw q t in
       let r = placed-in-gap e y (e .first) xs (ok .first-eights) (g .tags) (least (y .tag) z) t' in
       (r .0, rw (r .1, length-placed y xs) h)
 
-  tag-fits : (y : Entry) → y .name ≡ n → y .tag ≡ tag-for e told (length n) xs → (y .tag ≡ 0 → ⊥) → Fits-in y
+  tag-fits : (y : SfEntry) → y .name ≡ n → y .tag ≡ tag-for e told (length n) xs → (y .tag ≡ 0 → ⊥) → Fits-in y
   unfolding tag-for
   tag-fits y q t z =
       by-cases (in-block told (end-tag e (e .first) xs + entry-size e (length n)) (suc (length xs)))
@@ -71,12 +71,12 @@ module _ (e : Edition) (ok : Tags e) (told p : ℕ) (n : List ℕ) (kind i : ℕ
       (λ b. in-gap y q b (sym (rw (a, b) at t)) z)
       (λ b. absurd (z (rw (a, b) at t))))
 
-  module _ (fork : ℕ) (fits : kind < 256 ^ e .ftype) (done : insert-code e told fork n kind i p xs ≡ 0) where
+  module _ (fork : ℕ) (fits : kind < 256 ^ e .ftype) (done : insert-request e told fork n kind i p xs ≡ 0) where
     -- good before, good after
     pub inserted-good : Good e told p (inserted e told n kind i xs)
     unfolding inserted names-ok numbers-ok wides-of
     inserted-good =
-        let y : Entry = entry (tag-for e told (length n) xs) n kind i in
+        let y : SfEntry = entry (tag-for e told (length n) xs) n kind i in
         let f = tag-fits y refl refl (inserts e told p n kind i xs fork done .4) in
         record {
           tags = f .0;
@@ -102,19 +102,19 @@ width-grows a b h =
     (λ q. let z : a ≡ 0 = omega (arith, eqb-true b 0 q) in rw (q, eq-eqb a 0 z) (omega arith))
     (λ q. by-cases (eqb a 0) (λ r. rw (q, r) (omega arith)) (λ r. rw (q, r) (omega arith)))
 
-removed-wides : (e : Edition) (n : List ℕ) (p : ℕ) (xs : List Entry) → wides-of p (removed e n xs) ≤ wides-of p xs
+removed-wides : (e : Edition) (n : List ℕ) (p : ℕ) (xs : List SfEntry) → wides-of p (removed e n xs) ≤ wides-of p xs
 unfolding wides-of removed
 removed-wides e n p [] = omega arith
 removed-wides e n p (x ∷ xs) =
     by-cases (same-name e n (x .name)) (λ q. rw q (omega arith)) (λ q. rw q (omega (arith, removed-wides e n p xs)))
 
-entries-narrower : (e : Edition) (v w : ℕ) (xs : List Entry) → v ≤ w → length (entries-bytes e v xs) ≤ length (entries-bytes e w xs)
+entries-narrower : (e : Edition) (v w : ℕ) (xs : List SfEntry) → v ≤ w → length (entries-bytes e v xs) ≤ length (entries-bytes e w xs)
 unfolding entries-bytes
 entries-narrower e v w [] h = omega arith
 entries-narrower e v w (x ∷ xs) h =
     simp length-append (omega (arith, length-entry-bytes e v x, length-entry-bytes e w x, entries-narrower e v w xs h))
 
-removed-shorter : (e : Edition) (n : List ℕ) (v w : ℕ) (xs : List Entry) → v ≤ w → length (entries-bytes e v (removed e n xs)) ≤ length (entries-bytes e w xs)
+removed-shorter : (e : Edition) (n : List ℕ) (v w : ℕ) (xs : List SfEntry) → v ≤ w → length (entries-bytes e v (removed e n xs)) ≤ length (entries-bytes e w xs)
 unfolding entries-bytes removed
 removed-shorter e n v w [] h = omega arith
 removed-shorter e n v w (x ∷ xs) h =
@@ -122,12 +122,12 @@ removed-shorter e n v w (x ∷ xs) h =
     (λ q. rw q (simp length-append (omega (arith, entries-narrower e v w xs h))))
     (λ q. rw q (simp length-append (omega (arith, length-entry-bytes e v x, length-entry-bytes e w x, removed-shorter e n v w xs h))))
 
-pub removed-fits : (e : Edition) (n : List ℕ) (p : ℕ) (xs : List Entry) → length (lay e p (removed e n xs)) ≤ length (lay e p xs)
+pub removed-fits : (e : Edition) (n : List ℕ) (p : ℕ) (xs : List SfEntry) → length (lay e p (removed e n xs)) ≤ length (lay e p xs)
 removed-fits e n p xs =
     let w : width-of (wides-of p (removed e n xs)) ≤ width-of (wides-of p xs) = width-grows _ _ (removed-wides e n p xs) in
     omega (arith, length-lay e p (removed e n xs), length-lay e p xs, removed-shorter e n (width-of (wides-of p (removed e n xs))) (width-of (wides-of p xs)) xs w)
 
-module _ (e : Edition) (told p : ℕ) (n : List ℕ) (xs : List Entry) (g : Good e told p xs) (done : remove-code e n p xs ≡ 0) where
+module _ (e : Edition) (told p : ℕ) (n : List ℕ) (xs : List SfEntry) (g : Good e told p xs) (done : remove-request e n p xs ≡ 0) where
   pub remove-accepted : (fork : ℕ) → told ≤ 65536 → length (lay e p xs) ≤ fork
       → fork-verdict e told (lay-fork e fork p (removed e n xs)) (length (lay e p (removed e n xs))) ≡ 0
   remove-accepted fork s h =

@@ -12,10 +12,10 @@ use Rattle.edition.specs.Edition.{Sane}
 use Rattle.edition.proofs.Sizes.{block-size-bounds}
 use Rattle.name.specs.Name.{same-name}
 use Rattle.dinode.specs.Core.{data-length}
-use Rattle.dir_sf.specs.Entry.{Entry, entry}
+use Rattle.dir_sf.specs.Entry.{SfEntry, entry}
 use Rattle.dir_sf.specs.Fork.{parent, entries, holds, lay}
-use Rattle.dir_sf.specs.Change.{number-in, tag-for, inserted, removed}
-use Rattle.dir_sf.specs.Inode.{used, verdict, insert-number, remove-number, with-entries, after-insert, after-remove}
+use Rattle.dir_sf.specs.Change.{target-in, tag-for, inserted, removed}
+use Rattle.dir_sf.specs.Inode.{used, verdict, insert-code, remove-code, with-entries, insert-bytes, remove-bytes}
 use Rattle.dir_sf.proofs.Tested.{is-told, used-passes, used-header}
 use Rattle.dir_sf_edit.specs.Laws.{Kind, Insert-accepted, Remove-accepted, Differs, Insert-names, Remove-names, Put-back}
 use Rattle.dir_sf_edit.proofs.ReadBack.{lay-entries, lay-parent}
@@ -38,7 +38,7 @@ module _ (e : Edition) (sane : Sane e) (told : ℕ) (b : List ℕ) (by : bytes b
   good = used-good e told (used e b) (used-bytes e b by) (used-header e sane told b v) (used-passes e sane told b v)
 
   -- a change that leaves good entries which fit
-  module _ (ys : List Entry) (g : Good e told (parent (used e b)) ys) (fits : length (lay e (parent (used e b)) ys) ≤ data-length e b) where
+  module _ (ys : List SfEntry) (g : Good e told (parent (used e b)) ys) (fits : length (lay e (parent (used e b)) ys) ≤ data-length e b) where
     accepted : verdict e told (with-entries e b ys) ≡ 0
     accepted = verdict-after e sane told b v ys fits (laid-accepted e told (parent (used e b)) ys small g (data-length e b) fits)
 
@@ -54,8 +54,8 @@ or-cond false b = refl
 
 -- ---- insert
 
-module _ (e : Edition) (sane : Sane e) (told : ℕ) (b n : List ℕ) (kind i : ℕ) (by : bytes b ≡ true) (k : Kind e kind) (done : insert-number e told b n kind i ≡ 0) where
-  new : List Entry
+module _ (e : Edition) (sane : Sane e) (told : ℕ) (b n : List ℕ) (kind i : ℕ) (by : bytes b ≡ true) (k : Kind e kind) (done : insert-code e told b n kind i ≡ 0) where
+  new : List SfEntry
   new = inserted e told n kind i (entries e (used e b))
 
   v : verdict e told b ≡ 0
@@ -71,31 +71,31 @@ module _ (e : Edition) (sane : Sane e) (told : ℕ) (b n : List ℕ) (kind i : �
   unfolding new
   new-fits = insert-fits e sane told b n kind i done
 
-  is-with : after-insert e told b n kind i ≡ with-entries e b new
-  unfolding after-insert new
+  is-with : insert-bytes e told b n kind i ≡ with-entries e b new
+  unfolding insert-bytes new
   is-with = rw done refl
 
-  insert-keeps : verdict e told (after-insert e told b n kind i) ≡ 0
+  insert-keeps : verdict e told (insert-bytes e told b n kind i) ≡ 0
   insert-keeps = ap (verdict e told) is-with ∙ accepted e sane told b by v new new-good new-fits
 
   absent : holds e n (entries e (used e b)) ≡ false
   absent = inserts e told (parent (used e b)) n kind i (entries e (used e b)) (data-length e b) (insert-answers e sane told b n kind i done) .3
 
-  insert-tells : Differs e b (after-insert e told b n kind i) n true i
+  insert-tells : Differs e b (insert-bytes e told b n kind i) n true i
   unfolding new inserted
   insert-tells =
-      let y : Entry = entry (tag-for e told (length n) (entries e (used e b))) n kind i in
-      let r : entries e (used e (after-insert e told b n kind i)) ≡ new = ap (λ (c : List ℕ). entries e (used e c)) is-with ∙ read e sane told b by v new new-good new-fits in
+      let y : SfEntry = entry (tag-for e told (length n) (entries e (used e b))) n kind i in
+      let r : entries e (used e (insert-bytes e told b n kind i)) ≡ new = ap (λ (c : List ℕ). entries e (used e c)) is-with ∙ read e sane told b by v new new-good new-fits in
       record {
         same-parent = ap (λ (c : List ℕ). parent (used e c)) is-with ∙ read-parent e sane told b by v new new-good new-fits;
         names = λ m. ap (holds e m) r ∙ placed-holds e m y (entries e (used e b)) ∙ or-cond (same-name e m n) (holds e m (entries e (used e b)));
-        numbers = λ m. ap (number-in e m) r ∙ placed-number e m y (entries e (used e b)) absent;
+        numbers = λ m. ap (target-in e m) r ∙ placed-number e m y (entries e (used e b)) absent;
       }
 
 -- ---- removal
 
-module _ (e : Edition) (sane : Sane e) (told : ℕ) (b n : List ℕ) (by : bytes b ≡ true) (done : remove-number e told b n ≡ 0) where
-  left : List Entry
+module _ (e : Edition) (sane : Sane e) (told : ℕ) (b n : List ℕ) (by : bytes b ≡ true) (done : remove-code e told b n ≡ 0) where
+  left : List SfEntry
   left = removed e n (entries e (used e b))
 
   u : verdict e told b ≡ 0
@@ -109,32 +109,32 @@ module _ (e : Edition) (sane : Sane e) (told : ℕ) (b n : List ℕ) (by : bytes
   unfolding left
   left-fits = remove-fits e sane told b n done
 
-  was-with : after-remove e told b n ≡ with-entries e b left
-  unfolding after-remove left
+  was-with : remove-bytes e told b n ≡ with-entries e b left
+  unfolding remove-bytes left
   was-with = rw done refl
 
-  remove-keeps : verdict e told (after-remove e told b n) ≡ 0
+  remove-keeps : verdict e told (remove-bytes e told b n) ≡ 0
   remove-keeps = ap (verdict e told) was-with ∙ accepted e sane told b by u left left-good left-fits
 
-  now-read : entries e (used e (after-remove e told b n)) ≡ left
+  now-read : entries e (used e (remove-bytes e told b n)) ≡ left
   now-read = ap (λ (c : List ℕ). entries e (used e c)) was-with ∙ read e sane told b by u left left-good left-fits
 
-  now-parent : parent (used e (after-remove e told b n)) ≡ parent (used e b)
+  now-parent : parent (used e (remove-bytes e told b n)) ≡ parent (used e b)
   now-parent = ap (λ (c : List ℕ). parent (used e c)) was-with ∙ read-parent e sane told b by u left left-good left-fits
 
-  remove-tells : Differs e b (after-remove e told b n) n false 0
+  remove-tells : Differs e b (remove-bytes e told b n) n false 0
   unfolding left
   remove-tells =
       record {
         same-parent = now-parent;
         names = λ m. ap (holds e m) now-read ∙ removed-held e n m (entries e (used e b)) (good e sane told b by u .once);
-        numbers = λ m. ap (number-in e m) now-read ∙ removed-number e n m (entries e (used e b)) (good e sane told b by u .once);
+        numbers = λ m. ap (target-in e m) now-read ∙ removed-number e n m (entries e (used e b)) (good e sane told b by u .once);
       }
 
-  goes-back : (kind : ℕ) → insert-number e told (after-remove e told b n) n kind (number-in e n (entries e (used e b))) ≡ 0
-  unfolding insert-number left
+  goes-back : (kind : ℕ) → insert-code e told (remove-bytes e told b n) n kind (target-in e n (entries e (used e b))) ≡ 0
+  unfolding insert-code left
   goes-back kind =
-      let f : data-length e (after-remove e told b n) ≡ data-length e b = ap (data-length e) was-with ∙ fork-kept e sane told b u left left-fits in
+      let f : data-length e (remove-bytes e told b n) ≡ data-length e b = ap (data-length e) was-with ∙ fork-kept e sane told b u left left-fits in
       rw (remove-keeps, now-read, now-parent, f)
       (back-in e (tags-of e sane) told (parent (used e b)) (data-length e b) n kind (entries e (used e b)) (good e sane told b by u) (remove-answers e sane told b n done) (lay-fits e sane told b u))
 

@@ -11,7 +11,7 @@ use Rattle.be.specs.Bytes.{byte, to-be, put}
 use Rattle.be.proofs.Numbers.{length-to-be, to-be-1}
 use Rattle.be.proofs.Writes.{put-then}
 use Rattle.edition.specs.declared.Edition.{Edition}
-use Rattle.dir_sf.specs.Entry.{Entry, entry, width-of, entry-bytes, entries-bytes}
+use Rattle.dir_sf.specs.Entry.{SfEntry, entry, width-of, entry-bytes, entries-bytes}
 use Rattle.dir_sf.specs.Fork.{laid, count-of, parent, entries}
 use Rattle.dir_sf.specs.Change.{without-nth, with-nth}
 use Rattle.dir_sf_edit.proofs.ReadBack.{length-entry-bytes}
@@ -25,12 +25,12 @@ header-put b b₁ b₂ b₃ k wides p h l e₁ e₂ e₃ =
     let q₂ : b₂ ≡ put b 0 ((k ∷ []) ++ (wides ∷ [])) = put-then b b₁ b₂ 0 1 (k ∷ []) (wides ∷ []) q₁ f₂ refl in
     put-then b b₂ b₃ 0 2 (k ∷ wides ∷ []) (to-be (width-of wides) p) q₂ e₃ refl
 
-bytes-cons : (e : Edition) (v : ℕ) (y : Entry) (ys : List Entry) → entries-bytes e v (y ∷ ys) ≡ entry-bytes e v y ++ entries-bytes e v ys
+bytes-cons : (e : Edition) (v : ℕ) (y : SfEntry) (ys : List SfEntry) → entries-bytes e v (y ∷ ys) ≡ entry-bytes e v y ++ entries-bytes e v ys
 unfolding entries-bytes
 bytes-cons e v y ys = refl
 
 -- the header, then entries
-module _ (e : Edition) (count after p : ℕ) (xs : List Entry) where
+module _ (e : Edition) (count after p : ℕ) (xs : List SfEntry) where
   laid-long : length (laid e count after p xs) ≡ 2 + width-of after + length (entries-bytes e (width-of after) xs)
   laid-long = simp (length-append, length-to-be) (omega arith)
 
@@ -51,17 +51,17 @@ module _ (e : Edition) (count after p : ℕ) (xs : List Entry) where
       put-then t t₁ t₂ 0 o H (entries-bytes e (width-of after) xs) (rw k at e₁) e₂ (omega arith)
 
 -- more entries behind them
-laid-append : (e : Edition) (count after p : ℕ) (xs ys : List Entry) → laid e count after p (xs ++ ys) ≡ laid e count after p xs ++ entries-bytes e (width-of after) ys
+laid-append : (e : Edition) (count after p : ℕ) (xs ys : List SfEntry) → laid e count after p (xs ++ ys) ≡ laid e count after p xs ++ entries-bytes e (width-of after) ys
 laid-append e count after p xs ys =
     ap (λ (l : List ℕ). (count ∷ after ∷ to-be (width-of after) p) ++ l) (entries-bytes-append e (width-of after) xs ys)
     ∙ sym (append-assoc (count ∷ after ∷ to-be (width-of after) p) (entries-bytes e (width-of after) xs) (entries-bytes e (width-of after) ys))
 
-append-long : (e : Edition) (count after p : ℕ) (xs ys : List Entry)
+append-long : (e : Edition) (count after p : ℕ) (xs ys : List SfEntry)
     → length (laid e count after p (xs ++ ys)) ≡ length (laid e count after p xs) + length (entries-bytes e (width-of after) ys)
 append-long e count after p xs ys =
     ap length (laid-append e count after p xs ys) ∙ length-append (laid e count after p xs) (entries-bytes e (width-of after) ys)
 
-append-laid : (e : Edition) (count after p m : ℕ) (xs ys : List Entry) (t t₁ t₂ : List ℕ) → t₁ ≡ put t 0 (laid e count after p xs) → m ≡ length (laid e count after p xs)
+append-laid : (e : Edition) (count after p m : ℕ) (xs ys : List SfEntry) (t t₁ t₂ : List ℕ) → t₁ ≡ put t 0 (laid e count after p xs) → m ≡ length (laid e count after p xs)
     → t₂ ≡ put t₁ m (entries-bytes e (width-of after) ys) → t₂ ≡ put t 0 (laid e count after p (xs ++ ys))
 append-laid e count after p m xs ys t t₁ t₂ h a k =
     put-then t t₁ t₂ 0 m (laid e count after p xs) (entries-bytes e (width-of after) ys) h k (a ∙ sym (zero-add _)) ∙ ap (put t 0) (sym (laid-append e count after p xs ys))
@@ -75,7 +75,7 @@ module _ (e : Edition) (u : List ℕ) (index after c : ℕ) (a : c ≡ byte 0 u)
 
   whole : laid e (count-of u - 1) after (parent u) (without-nth index (entries e u)) ≡ laid e (c - 1) after (parent u) (take index (entries e u) ++ drop (index + 1) (entries e u))
   unfolding count-of
-  whole = ap₂ (λ (j : ℕ) (l : List Entry). laid e (j - 1) after (parent u) l) (sym a) behind
+  whole = ap₂ (λ (j : ℕ) (l : List SfEntry). laid e (j - 1) after (parent u) l) (sym a) behind
 
   without-long : length (laid e (count-of u - 1) after (parent u) (without-nth index (entries e u)))
       ≡ length (laid e (c - 1) after (parent u) (take index (entries e u))) + length (entries-bytes e (width-of after) (drop (index + 1) (entries e u)))
@@ -114,8 +114,8 @@ module _ (e : Edition) (u : List ℕ) (index after tag kind ino c : ℕ) (name :
       ≡ length (laid e (c + 1) after (parent u) (take index (entries e u))) + (3 + length name + (e .ftype + width-of after))
       + length (entries-bytes e (width-of after) (drop index (entries e u)))
   with-long =
-      let y : Entry = entry tag name kind ino in
-      let ys : List Entry = drop index (entries e u) in
+      let y : SfEntry = entry tag name kind ino in
+      let ys : List SfEntry = drop index (entries e u) in
       let g : length (entries-bytes e (width-of after) (y ∷ ys)) ≡ length (entry-bytes e (width-of after) y) + length (entries-bytes e (width-of after) ys) =
       ap length (bytes-cons e (width-of after) y ys) ∙ length-append (entry-bytes e (width-of after) y) (entries-bytes e (width-of after) ys) in
       ap length more ∙ append-long e (c + 1) after (parent u) (take index (entries e u)) (y ∷ ys) ∙ omega (arith, length-entry-bytes e (width-of after) y)
@@ -142,8 +142,8 @@ module _ (e : Edition) (u : List ℕ) (index after tag kind ino c : ℕ) (name :
       → t₃ ≡ put t₂ z (entries-bytes e (width-of after) (drop index (entries e u)))
       → t₃ ≡ put t 0 (laid e (count-of u + 1) after (parent u) (with-nth index (entry tag name kind ino) (entries e u)))
   with-laid m z t t₁ t₂ t₃ h b k d f =
-      let y : Entry = entry tag name kind ino in
-      let ys : List Entry = drop index (entries e u) in
+      let y : SfEntry = entry tag name kind ino in
+      let ys : List SfEntry = drop index (entries e u) in
       let l : z ≡ m + length (entry-bytes e (width-of after) y) = omega (arith, length-entry-bytes e (width-of after) y) in
       let q : t₃ ≡ put t₁ m (entries-bytes e (width-of after) (y ∷ ys)) =
       put-then t₁ t₂ t₃ m z (entry-bytes e (width-of after) y) (entries-bytes e (width-of after) ys) k f l ∙ ap (put t₁ m) (sym (bytes-cons e (width-of after) y ys)) in

@@ -16,9 +16,9 @@ use Rattle.edition.specs.declared.Edition.{Edition}
 use Rattle.edition.specs.Edition.{entry-size}
 use Rattle.name.specs.Name.{legal-name, legal-number, same-name, fixed-name}
 use Rattle.name.proofs.Same.{same-name-refl, same-name-length}
-use Rattle.dir_sf.specs.Entry.{Entry, entry, width-of, entries-bytes, wides-of, next-tag, tags-ok, end-tag, in-block}
+use Rattle.dir_sf.specs.Entry.{SfEntry, entry, width-of, entries-bytes, wides-of, next-tag, tags-ok, end-tag, in-block}
 use Rattle.dir_sf.specs.Fork.{lay, holds, numbers-ok}
-use Rattle.dir_sf.specs.Change.{number-in, gap-tag, tag-for, placed, inserted, has-room, insert-code, removed, remove-code}
+use Rattle.dir_sf.specs.Change.{target-in, gap-tag, tag-for, placed, inserted, has-room, insert-request, removed, remove-request}
 use Rattle.dir_sf_edit.proofs.ReadBack.{length-entry-bytes, length-lay}
 use Rattle.dir_sf_edit.proofs.Accepted.{Good, low-le-end}
 use Rattle.dir_sf_edit.proofs.Removes.{removed-end, removed-tags, removed-length, removed-held, removed-wide, less-in-block}
@@ -27,26 +27,26 @@ use Rattle.dir_sf_edit.proofs.Inserts.{Tags}
 use Rattle.dir_sf_edit.proofs.Insertions.{placed-wide, placed-bytes}
 
 -- E of the name asked for is that of the stored one
-same-size : (e : Edition) (n : List ℕ) (x : Entry) → same-name e n (x .name) ≡ true → next-tag e x ≡ x .tag + entry-size e (length n)
+same-size : (e : Edition) (n : List ℕ) (x : SfEntry) → same-name e n (x .name) ≡ true → next-tag e x ≡ x .tag + entry-size e (length n)
 unfolding next-tag
 same-size e n x h = ap (λ (k : ℕ). x .tag + entry-size e k) (sym (same-name-length e n (x .name) h))
 
 -- the room that is left: behind the last entry, or in a gap
-pub record Room (e : Edition) (long low : ℕ) (xs ys : List Entry) (last : Bool) : Type 0 where
+pub record Room (e : Edition) (long low : ℕ) (xs ys : List SfEntry) (last : Bool) : Type 0 where
   pub behind : last ≡ true → end-tag e low ys + long ≤ end-tag e low xs
   pub between : last ≡ false → 1 ≤ gap-tag e long low ys
 
-gap-more : (e : Edition) (long low : ℕ) (x : Entry) (ys : List Entry) → 1 ≤ low → 1 ≤ gap-tag e long (next-tag e x) ys → 1 ≤ gap-tag e long low (x ∷ ys)
+gap-more : (e : Edition) (long low : ℕ) (x : SfEntry) (ys : List SfEntry) → 1 ≤ low → 1 ≤ gap-tag e long (next-tag e x) ys → 1 ≤ gap-tag e long low (x ∷ ys)
 unfolding gap-tag
 gap-more e long low x ys h k = by-cases (leb (low + long) (x .tag)) (λ q. rw q h) (λ q. rw q k)
 
 -- whether the first entry of the name is the last of all
-last-of : Edition → List ℕ → List Entry → Bool
+last-of : Edition → List ℕ → List SfEntry → Bool
 last-of e n [] = true
 last-of e n (x ∷ []) = true
 last-of e n (x ∷ (z ∷ zs)) = let r = last-of e n (z ∷ zs) in cond (same-name e n (x .name)) false r
 
-head-room : (e : Edition) (n : List ℕ) (low : ℕ) (x : Entry) (xs : List Entry) → same-name e n (x .name) ≡ true → 1 ≤ low → tags-ok e low (x ∷ xs) ≡ true
+head-room : (e : Edition) (n : List ℕ) (low : ℕ) (x : SfEntry) (xs : List SfEntry) → same-name e n (x .name) ≡ true → 1 ≤ low → tags-ok e low (x ∷ xs) ≡ true
     → Room e (entry-size e (length n)) low (x ∷ xs) xs (last-of e n (x ∷ xs))
 unfolding last-of
 head-room e n low x [] q l t =
@@ -63,19 +63,19 @@ head-room e n low x (y ∷ ys) q l t =
       between = λ z. omega (arith, gap-here e (entry-size e (length n)) low y ys (omega (arith, same-size e n x q, g .least, h .least)));
     }
 
-last-tail : (e : Edition) (n : List ℕ) (x : Entry) (xs : List Entry) → same-name e n (x .name) ≡ false → holds e n xs ≡ true → last-of e n (x ∷ xs) ≡ last-of e n xs
+last-tail : (e : Edition) (n : List ℕ) (x : SfEntry) (xs : List SfEntry) → same-name e n (x .name) ≡ false → holds e n xs ≡ true → last-of e n (x ∷ xs) ≡ last-of e n xs
 unfolding last-of holds
 last-tail e n x [] q h = absurd (clash h refl)
 last-tail e n x (y ∷ ys) q h = rw q refl
 
-tail-room : (e : Edition) (long low : ℕ) (x : Entry) (xs ys : List Entry) (last : Bool) → 1 ≤ low → Room e long (next-tag e x) xs ys last → Room e long low (x ∷ xs) (x ∷ ys) last
+tail-room : (e : Edition) (long low : ℕ) (x : SfEntry) (xs ys : List SfEntry) (last : Bool) → 1 ≤ low → Room e long (next-tag e x) xs ys last → Room e long low (x ∷ xs) (x ∷ ys) last
 tail-room e long low x xs ys last l r =
     record {
       behind = λ z. omega (arith, r .behind z, end-cons e low x xs, end-cons e low x ys);
       between = λ z. gap-more e long low x ys l (r .between z);
     }
 
-room-left : (e : Edition) (n : List ℕ) (low : ℕ) (xs : List Entry) → 1 ≤ low → tags-ok e low xs ≡ true → holds e n xs ≡ true
+room-left : (e : Edition) (n : List ℕ) (low : ℕ) (xs : List SfEntry) → 1 ≤ low → tags-ok e low xs ≡ true → holds e n xs ≡ true
     → Room e (entry-size e (length n)) low xs (removed e n xs) (last-of e n xs)
 unfolding holds removed
 room-left e n low [] l t h = absurd (clash h refl)
@@ -87,7 +87,7 @@ room-left e n low (x ∷ xs) l t h =
     let k : holds e n xs ≡ true = rw q at h in
     rw (q, last-tail e n x xs q k) (tail-room e (entry-size e (length n)) low x xs (removed e n xs) (last-of e n xs) l (room-left e n (next-tag e x) xs (omega (arith, g .least, g .grows)) (g .rest) k)))
 
-removed-bytes : (e : Edition) (w : ℕ) (n : List ℕ) (xs : List Entry) → holds e n xs ≡ true
+removed-bytes : (e : Edition) (w : ℕ) (n : List ℕ) (xs : List SfEntry) → holds e n xs ≡ true
     → length (entries-bytes e w xs) ≡ 3 + length n + e .ftype + w + length (entries-bytes e w (removed e n xs))
 unfolding holds removed entries-bytes
 removed-bytes e w n [] h = absurd (clash h refl)
@@ -96,18 +96,18 @@ removed-bytes e w n (x ∷ xs) h =
     (λ q. rw q (simp length-append (omega (arith, length-entry-bytes e w x, same-name-length e n (x .name) q))))
     (λ q. rw q (simp length-append (omega (arith, length-entry-bytes e w x, removed-bytes e w n xs (rw q at h)))))
 
-number-legal : (e : Edition) (n : List ℕ) (xs : List Entry) → holds e n xs ≡ true → every (λ x. legal-number (x .inode)) xs ≡ true → legal-number (number-in e n xs) ≡ true
-unfolding holds number-in
+number-legal : (e : Edition) (n : List ℕ) (xs : List SfEntry) → holds e n xs ≡ true → every (λ x. legal-number (x .inode)) xs ≡ true → legal-number (target-in e n xs) ≡ true
+unfolding holds target-in
 number-legal e n [] h k = absurd (clash h refl)
 number-legal e n (x ∷ xs) h k =
     by-cases (same-name e n (x .name))
     (λ q. rw q (every-head (λ y. legal-number (y .inode)) x xs k))
     (λ q. rw q (number-legal e n xs (rw q at h) (every-tail (λ y. legal-number (y .inode)) x xs k)))
 
-module _ (e : Edition) (ok : Tags e) (told p fork : ℕ) (n : List ℕ) (kind : ℕ) (xs : List Entry) (g : Good e told p xs) (done : remove-code e n p xs ≡ 0)
+module _ (e : Edition) (ok : Tags e) (told p fork : ℕ) (n : List ℕ) (kind : ℕ) (xs : List SfEntry) (g : Good e told p xs) (done : remove-request e n p xs ≡ 0)
     (fits : length (lay e p xs) ≤ fork) where
   tests : (legal-name e n ≡ true) × (fixed-name n ≡ false) × (holds e n xs ≡ true)
-  unfolding remove-code
+  unfolding remove-request
   tests =
       let a = passes (legal-name e n) 10 _ done in
       let b = passes (not (fixed-name n)) 11 _ (a .1) in
@@ -118,9 +118,9 @@ module _ (e : Edition) (ok : Tags e) (told p fork : ℕ) (n : List ℕ) (kind : 
   gone = removed-held e n n xs (g .once) ∙ rw (same-name-refl e n) refl
 
   -- the same size
-  size : (t : ℕ) → length (lay e p (placed (entry t n kind (number-in e n xs)) (removed e n xs))) ≡ length (lay e p xs)
+  size : (t : ℕ) → length (lay e p (placed (entry t n kind (target-in e n xs)) (removed e n xs))) ≡ length (lay e p xs)
   size t =
-      let y : Entry = entry t n kind (number-in e n xs) in
+      let y : SfEntry = entry t n kind (target-in e n xs) in
       let w : wides-of p (placed y (removed e n xs)) ≡ wides-of p xs = omega (arith, placed-wide p y (removed e n xs), removed-wide e n p xs (tests .2)) in
       let v : ℕ = width-of (wides-of p xs) in
       let l : length (lay e p (placed y (removed e n xs))) ≡ 2 + v + length (entries-bytes e v (placed y (removed e n xs))) =
@@ -152,10 +152,10 @@ module _ (e : Edition) (ok : Tags e) (told p fork : ℕ) (n : List ℕ) (kind : 
       (λ l. clash (less-in-block told _ _ _ _ (room .behind l) (omega arith) (g .within)) a)
       (λ l. positive (gap-tag e long (e .first) (removed e n xs)) (room .between l) (rw (a, b) at z)))
 
-  pub back-in : insert-code e told fork n kind (number-in e n xs) p (removed e n xs) ≡ 0
-  unfolding insert-code has-room inserted numbers-ok
+  pub back-in : insert-request e told fork n kind (target-in e n xs) p (removed e n xs) ≡ 0
+  unfolding insert-request has-room inserted numbers-ok
   back-in =
       let t : ℕ = tag-for e told (length n) (removed e n xs) in
-      let s : length (lay e p (placed (entry t n kind (number-in e n xs)) (removed e n xs))) ≤ fork = omega (arith, size t) in
-      let j : legal-number (number-in e n xs) ≡ true = number-legal e n xs (tests .2) (and-right (legal-number p) _ (g .numbers)) in
+      let s : length (lay e p (placed (entry t n kind (target-in e n xs)) (removed e n xs))) ≤ fork = omega (arith, size t) in
+      let j : legal-number (target-in e n xs) ≡ true = number-legal e n xs (tests .2) (and-right (legal-number p) _ (g .numbers)) in
       rw (tests .0, j, tests .1, gone, ne-eqb t 0 tagged-again, le-leb _ _ s) refl

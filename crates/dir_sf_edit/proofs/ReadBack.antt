@@ -13,33 +13,33 @@ use Rattle.edition.specs.declared.Edition.{Edition}
 use Rattle.be.proofs.Bools.{and-both}
 use Rattle.be.proofs.Numbers.{length-to-be, be-to-be}
 use Rattle.be.proofs.Parts.{part-at}
-use Rattle.dir_sf.specs.Entry.{Entry, entry, width-of, long-in, entry-in, entries-in, filled, entry-bytes, entries-bytes, wides-of}
+use Rattle.dir_sf.specs.Entry.{SfEntry, entry, width-of, long-in, entry-in, entries-in, filled, entry-bytes, entries-bytes, wides-of}
 use Rattle.dir_sf.specs.Fork.{count-of, stored-wides, used-width, parent, list-of, entries, lay, lay-fork}
 
 -- an entry's numbers fit their bytes
-pub record Fit (e : Edition) (w : ℕ) (x : Entry) : Type 0 where
+pub record Fit (e : Edition) (w : ℕ) (x : SfEntry) : Type 0 where
   pub name-fits : length (x .name) < 256
   pub tag-fits : x .tag < 256 ^ 2
   pub kind-fits : x .kind < 256 ^ e .ftype
   pub inode-fits : x .inode < 256 ^ w
 
-abbrev pub Fits : Edition → ℕ → List Entry → Type 0
+abbrev pub Fits : Edition → ℕ → List SfEntry → Type 0
 Fits e w [] = Unit {0}
 Fits e w (x ∷ xs) = Fit e w x × Fits e w xs
 
-pub length-entry-bytes : (e : Edition) (w : ℕ) (x : Entry) → length (entry-bytes e w x) ≡ 3 + length (x .name) + e .ftype + w
+pub length-entry-bytes : (e : Edition) (w : ℕ) (x : SfEntry) → length (entry-bytes e w x) ≡ 3 + length (x .name) + e .ftype + w
 unfolding entry-bytes
 length-entry-bytes e w x = simp (length-append, length-to-be) (omega arith)
 
-first-byte : (e : Edition) (w : ℕ) (x : Entry) (d : List ℕ) → getD (entry-bytes e w x ++ d) 0 0 ≡ length (x .name)
+first-byte : (e : Edition) (w : ℕ) (x : SfEntry) (d : List ℕ) → getD (entry-bytes e w x ++ d) 0 0 ≡ length (x .name)
 unfolding entry-bytes
 first-byte e w x d = refl
 
-pub long-in-bytes : (e : Edition) (w : ℕ) (x : Entry) (d : List ℕ) → long-in e w (entry-bytes e w x ++ d) ≡ length (entry-bytes e w x)
+pub long-in-bytes : (e : Edition) (w : ℕ) (x : SfEntry) (d : List ℕ) → long-in e w (entry-bytes e w x ++ d) ≡ length (entry-bytes e w x)
 unfolding long-in
 long-in-bytes e w x d = rw (first-byte e w x d, length-entry-bytes e w x) refl
 
-pub entry-in-bytes : (e : Edition) (w : ℕ) (x : Entry) (d : List ℕ) → Fit e w x → entry-in e w (entry-bytes e w x ++ d) ≡ x
+pub entry-in-bytes : (e : Edition) (w : ℕ) (x : SfEntry) (d : List ℕ) → Fit e w x → entry-in e w (entry-bytes e w x ++ d) ≡ x
 unfolding entry-in entry-bytes
 entry-in-bytes e w x d f =
     let l : ℕ = length (x .name) in
@@ -63,7 +63,7 @@ entry-in-bytes e w x d f =
     ap₂ (λ (u : ℕ) (v : List ℕ). entry u v (field (3 + l) (e .ftype) b) (field (3 + l + e .ftype) w b)) tag-is name-is
     ∙ ap₂ (λ (u v : ℕ). entry (x .tag) n u v) kind-is inode-is
 
-pub entries-in-bytes : (e : Edition) (w : ℕ) (xs : List Entry) (d : List ℕ) → Fits e w xs
+pub entries-in-bytes : (e : Edition) (w : ℕ) (xs : List SfEntry) (d : List ℕ) → Fits e w xs
     → entries-in e w (length xs) (entries-bytes e w xs ++ d) ≡ xs
 unfolding entries-in entries-bytes
 entries-in-bytes e w [] d f = refl
@@ -71,9 +71,9 @@ entries-in-bytes e w (x ∷ xs) d f =
     let b : List ℕ = entry-bytes e w x in
     let r : List ℕ = entries-bytes e w xs ++ d in
     rw (append-assoc b (entries-bytes e w xs) d, long-in-bytes e w x r, entry-in-bytes e w x r (f .0), drop-at b r (length b) refl)
-    (ap (λ (l : List Entry). x ∷ l) (entries-in-bytes e w xs d (f .1)))
+    (ap (λ (l : List SfEntry). x ∷ l) (entries-in-bytes e w xs d (f .1)))
 
-pub filled-bytes : (e : Edition) (w : ℕ) (xs : List Entry) → filled e w (length xs) (entries-bytes e w xs) ≡ true
+pub filled-bytes : (e : Edition) (w : ℕ) (xs : List SfEntry) → filled e w (length xs) (entries-bytes e w xs) ≡ true
 unfolding filled entries-bytes
 filled-bytes e w [] = refl
 filled-bytes e w (x ∷ xs) =
@@ -84,7 +84,7 @@ filled-bytes e w (x ∷ xs) =
 
 -- ---- a fork laid out
 
-module _ (e : Edition) (p : ℕ) (xs : List Entry) where
+module _ (e : Edition) (p : ℕ) (xs : List SfEntry) where
   pub lay-count : count-of (lay e p xs) ≡ length xs
   unfolding count-of lay
   lay-count = refl

@@ -12,21 +12,21 @@ use Rattle.be.specs.Bytes.{byte, put}
 use Rattle.be.proofs.Bools.{by-cases, clash}
 use Rattle.edition.specs.declared.Edition.{Edition}
 use Rattle.name.specs.Name.{legal-name, same-name, fixed-name}
-use Rattle.dir_sf.specs.Entry.{Entry, is-wide, wides-of}
+use Rattle.dir_sf.specs.Entry.{SfEntry, is-wide, wides-of}
 use Rattle.dir_sf.specs.Fork.{Readable, laid, lay, count-of, stored-wides, parent, entries, holds}
-use Rattle.dir_sf.specs.Change.{number-in, seek, without-nth, removed, narrows, remove-code}
+use Rattle.dir_sf.specs.Change.{target-in, seek, without-nth, removed, narrows, remove-request}
 use Rattle.dir_sf_edit.proofs.Removes.{removed-length, removed-wide}
 use Rattle.dir_sf.proofs.Listed.{count-is}
 
 -- the first entry of the name left out: the one that the search finds
-removed-nth : (e : Edition) (n : List ℕ) (xs : List Entry) → holds e n xs ≡ true → removed e n xs ≡ without-nth (seek e n xs) xs
+removed-nth : (e : Edition) (n : List ℕ) (xs : List SfEntry) → holds e n xs ≡ true → removed e n xs ≡ without-nth (seek e n xs) xs
 unfolding removed holds seek without-nth
 removed-nth e n [] h = absurd (clash h refl)
 removed-nth e n (x ∷ xs) h =
-    by-cases (same-name e n (x .name)) (λ q. rw q refl) (λ q. rw q (ap (λ (l : List Entry). x ∷ l) (removed-nth e n xs (rw q at h))))
+    by-cases (same-name e n (x .name)) (λ q. rw q refl) (λ q. rw q (ap (λ (l : List SfEntry). x ∷ l) (removed-nth e n xs (rw q at h))))
 
 module _ (e : Edition) (u n : List ℕ) (r : Readable e u) (there : holds e n (entries e u) ≡ true) (wides i one : ℕ) (b : wides ≡ byte 1 u)
-    (f : i ≡ number-in e n (entries e u)) (g : one ≡ cond (is-wide i) 1 0) where
+    (f : i ≡ target-in e n (entries e u)) (g : one ≡ cond (is-wide i) 1 0) where
   less : wides ≡ one + wides-of (parent u) (removed e n (entries e u))
   unfolding stored-wides
   less =
@@ -71,38 +71,38 @@ module _ (e : Edition) (u n : List ℕ) (r : Readable e u) (there : holds e n (e
 
 -- ---- the answer
 
-module _ (e : Edition) (n : List ℕ) (p : ℕ) (xs : List Entry) (t₁ : Bool) (h₁ : t₁ ≡ legal-name e n) where
-  pub remove-11 : not t₁ ≡ true → _≡_ {A = ℕ} 11 (remove-code e n p xs)
-  unfolding remove-code
+module _ (e : Edition) (n : List ℕ) (p : ℕ) (xs : List SfEntry) (t₁ : Bool) (h₁ : t₁ ≡ legal-name e n) where
+  pub remove-11 : not t₁ ≡ true → _≡_ {A = ℕ} 11 (remove-request e n p xs)
+  unfolding remove-request
   remove-11 f = sym (rw (sym h₁ ∙ not-true t₁ f) refl)
 
   module _ (g₁ : not t₁ ≡ false) (t₂ : Bool) (h₂ : t₂ ≡ fixed-name n) where
-    pub remove-12 : t₂ ≡ true → _≡_ {A = ℕ} 12 (remove-code e n p xs)
-    unfolding remove-code
+    pub remove-12 : t₂ ≡ true → _≡_ {A = ℕ} 12 (remove-request e n p xs)
+    unfolding remove-request
     remove-12 f = sym (rw (sym h₁ ∙ not-false t₁ g₁, sym h₂ ∙ f) refl)
 
     module _ (g₂ : t₂ ≡ false) (t₃ : Bool) (h₃ : t₃ ≡ holds e n xs) where
-      pub remove-13 : not t₃ ≡ true → _≡_ {A = ℕ} 13 (remove-code e n p xs)
-      unfolding remove-code
+      pub remove-13 : not t₃ ≡ true → _≡_ {A = ℕ} 13 (remove-request e n p xs)
+      unfolding remove-request
       remove-13 f = sym (rw (sym h₁ ∙ not-false t₁ g₁, sym h₂ ∙ g₂, sym h₃ ∙ not-true t₃ f) refl)
 
-      remove-last : (t₄ : Bool) → not t₃ ≡ false → narrows p xs (removed e n xs) ≡ t₄ → cond t₄ 16 0 ≡ remove-code e n p xs
-      unfolding remove-code
+      remove-last : (t₄ : Bool) → not t₃ ≡ false → narrows p xs (removed e n xs) ≡ t₄ → cond t₄ 16 0 ≡ remove-request e n p xs
+      unfolding remove-request
       remove-last t₄ f k = sym (rw (sym h₁ ∙ not-false t₁ g₁, sym h₂ ∙ g₂, sym h₃ ∙ not-false t₃ f, k) (by-cases t₄ (λ q. rw q refl) (λ q. rw q refl)))
 
-pub held-of : (e : Edition) (n : List ℕ) (xs : List Entry) (t : Bool) → t ≡ holds e n xs → not t ≡ false → holds e n xs ≡ true
+pub held-of : (e : Edition) (n : List ℕ) (xs : List SfEntry) (t : Bool) → t ≡ holds e n xs → not t ≡ false → holds e n xs ≡ true
 held-of e n xs t h f = sym h ∙ not-false t f
 
 module _ (e : Edition) (u n : List ℕ) (r : Readable e u) (t₁ t₂ t₃ : Bool) (h₁ : t₁ ≡ legal-name e n) (g₁ : not t₁ ≡ false) (h₂ : t₂ ≡ fixed-name n) (g₂ : t₂ ≡ false)
-    (h₃ : t₃ ≡ holds e n (entries e u)) (g₃ : not t₃ ≡ false) (wides i one q : ℕ) (b : wides ≡ byte 1 u) (f : i ≡ number-in e n (entries e u))
+    (h₃ : t₃ ≡ holds e n (entries e u)) (g₃ : not t₃ ≡ false) (wides i one q : ℕ) (b : wides ≡ byte 1 u) (f : i ≡ target-in e n (entries e u))
     (g : one ≡ cond (is-wide i) 1 0) (k : q ≡ parent u) (t : Bool) (h : t ≡ (not (eqb wides 0) && eqb (wides - one) 0 && is-wide q)) where
-  last : cond t 16 0 ≡ remove-code e n (parent u) (entries e u)
+  last : cond t 16 0 ≡ remove-request e n (parent u) (entries e u)
   last =
       remove-last e n (parent u) (entries e u) t₁ h₁ g₁ t₂ h₂ g₂ t₃ h₃ t g₃
       (narrows-is e u n r (held-of e n (entries e u) t₃ h₃ g₃) wides i one b f g t q k h)
 
-  pub remove-16 : t ≡ true → _≡_ {A = ℕ} 16 (remove-code e n (parent u) (entries e u))
+  pub remove-16 : t ≡ true → _≡_ {A = ℕ} 16 (remove-request e n (parent u) (entries e u))
   remove-16 z = sym (ap (λ (x : Bool). cond x 16 0) z) ∙ last
 
-  pub remove-0 : t ≡ false → _≡_ {A = ℕ} 0 (remove-code e n (parent u) (entries e u))
+  pub remove-0 : t ≡ false → _≡_ {A = ℕ} 0 (remove-request e n (parent u) (entries e u))
   remove-0 z = sym (ap (λ (x : Bool). cond x 16 0) z) ∙ last

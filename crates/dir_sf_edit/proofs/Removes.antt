@@ -14,26 +14,26 @@ use Rattle.edition.specs.declared.Edition.{Edition}
 use Rattle.name.proofs.Same.{same-name-sym, same-name-trans}
 use Rattle.name.specs.Name.{legal-name, legal-number, same-name, fixed-name}
 use Rattle.be.proofs.Bools.{and-left, and-right, and-both, by-cases, clash, every-head, every-tail, every-cons, neither}
-use Rattle.dir_sf.specs.Entry.{Entry, is-wide, wides-of, next-tag, tags-ok, end-tag, in-block}
+use Rattle.dir_sf.specs.Entry.{SfEntry, is-wide, wides-of, next-tag, tags-ok, end-tag, in-block}
 use Rattle.dir_sf.specs.Fork.{name-ok, names-ok, numbers-ok, holds, once-ok}
-use Rattle.dir_sf.specs.Change.{number-in, removed, narrows, remove-code}
+use Rattle.dir_sf.specs.Change.{target-in, removed, narrows, remove-request}
 use Rattle.dir_sf.proofs.Tags.{tagged, untagged}
 use Rattle.dir_sf.proofs.Names.{fails, absent-same, absent-number, once-head, once-tail, once-cons}
 use Rattle.dir_sf_edit.proofs.Accepted.{Good}
 
-pub end-lower : (e : Edition) (a b : ℕ) (xs : List Entry) → a ≤ b → end-tag e a xs ≤ end-tag e b xs
+pub end-lower : (e : Edition) (a b : ℕ) (xs : List SfEntry) → a ≤ b → end-tag e a xs ≤ end-tag e b xs
 unfolding end-tag
 end-lower e a b [] h = h
 end-lower e a b (x ∷ xs) h = omega arith
 
 -- a lower start
-pub tags-lower : (e : Edition) (a b : ℕ) (xs : List Entry) → a ≤ b → tags-ok e b xs ≡ true → tags-ok e a xs ≡ true
+pub tags-lower : (e : Edition) (a b : ℕ) (xs : List SfEntry) → a ≤ b → tags-ok e b xs ≡ true → tags-ok e a xs ≡ true
 unfolding tags-ok
 tags-lower e a b [] h t = refl
 tags-lower e a b (x ∷ xs) h t = let g = tagged e b x xs t in untagged e a x xs (g .eights) (omega arith) (g .rest)
 
 module _ (e : Edition) (n : List ℕ) where
-  pub removed-tags : (low : ℕ) (xs : List Entry) → tags-ok e low xs ≡ true → tags-ok e low (removed e n xs) ≡ true
+  pub removed-tags : (low : ℕ) (xs : List SfEntry) → tags-ok e low xs ≡ true → tags-ok e low (removed e n xs) ≡ true
   unfolding removed
   removed-tags low [] t = t
   removed-tags low (x ∷ xs) t =
@@ -42,7 +42,7 @@ module _ (e : Edition) (n : List ℕ) where
       (λ q. rw q (tags-lower e low (next-tag e x) xs (omega arith) (g .rest)))
       (λ q. rw q (untagged e low x (removed e n xs) (g .eights) (g .least) (removed-tags (next-tag e x) xs (g .rest))))
 
-  pub removed-end : (low : ℕ) (xs : List Entry) → tags-ok e low xs ≡ true → end-tag e low (removed e n xs) ≤ end-tag e low xs
+  pub removed-end : (low : ℕ) (xs : List SfEntry) → tags-ok e low xs ≡ true → end-tag e low (removed e n xs) ≤ end-tag e low xs
   unfolding removed end-tag
   removed-end low [] t = omega arith
   removed-end low (x ∷ xs) t =
@@ -51,13 +51,13 @@ module _ (e : Edition) (n : List ℕ) where
       (λ q. rw q (end-lower e low (next-tag e x) xs (omega arith)))
       (λ q. rw q (removed-end (next-tag e x) xs (g .rest)))
 
-  pub removed-length : (xs : List Entry) → holds e n xs ≡ true → suc (length (removed e n xs)) ≡ length xs
+  pub removed-length : (xs : List SfEntry) → holds e n xs ≡ true → suc (length (removed e n xs)) ≡ length xs
   unfolding removed holds
   removed-length [] h = absurd (clash h refl)
   removed-length (x ∷ xs) h =
       by-cases (same-name e n (x .name)) (λ q. rw q refl) (λ q. rw q (ap suc (removed-length xs (rw q at h))))
 
-  pub every-removed : (p : Entry → Bool) (xs : List Entry) → every p xs ≡ true → every p (removed e n xs) ≡ true
+  pub every-removed : (p : SfEntry → Bool) (xs : List SfEntry) → every p xs ≡ true → every p (removed e n xs) ≡ true
   unfolding removed
   every-removed p [] h = h
   every-removed p (x ∷ xs) h =
@@ -65,14 +65,14 @@ module _ (e : Edition) (n : List ℕ) where
       (λ q. rw q (every-tail p x xs h))
       (λ q. rw q (every-cons p x (removed e n xs) (every-head p x xs h) (every-removed p xs (every-tail p x xs h))))
 
-  removed-holds : (m : List ℕ) (xs : List Entry) → holds e m xs ≡ false → holds e m (removed e n xs) ≡ false
+  removed-holds : (m : List ℕ) (xs : List SfEntry) → holds e m xs ≡ false → holds e m (removed e n xs) ≡ false
   unfolding removed holds
   removed-holds m [] h = h
   removed-holds m (x ∷ xs) h =
       let o = neither (same-name e m (x .name)) _ h in
       by-cases (same-name e n (x .name)) (λ q. rw q (o .1)) (λ q. rw q (rw (o .0) (removed-holds m xs (o .1))))
 
-  pub removed-once : (xs : List Entry) → once-ok e xs ≡ true → once-ok e (removed e n xs) ≡ true
+  pub removed-once : (xs : List SfEntry) → once-ok e xs ≡ true → once-ok e (removed e n xs) ≡ true
   unfolding removed
   removed-once [] h = h
   removed-once (x ∷ xs) h =
@@ -81,9 +81,9 @@ module _ (e : Edition) (n : List ℕ) where
       (λ q. rw q (once-cons e x (removed e n xs) (removed-holds (x .name) xs (once-head e x xs h)) (removed-once xs (once-tail e x xs h))))
 
   -- names and numbers: each other name keeps its number, and this one has none
-  pub removed-number : (m : List ℕ) (xs : List Entry) → once-ok e xs ≡ true
-      → number-in e m (removed e n xs) ≡ cond (same-name e m n) 0 (number-in e m xs)
-  unfolding removed number-in
+  pub removed-number : (m : List ℕ) (xs : List SfEntry) → once-ok e xs ≡ true
+      → target-in e m (removed e n xs) ≡ cond (same-name e m n) 0 (target-in e m xs)
+  unfolding removed target-in
   removed-number m [] o = by-cases (same-name e m n) (λ q. rw q refl) (λ q. rw q refl)
   removed-number m (x ∷ xs) o =
       by-cases (same-name e n (x .name))
@@ -96,7 +96,7 @@ module _ (e : Edition) (n : List ℕ) where
       (λ r. rw (q, r, fails (same-name e m n) (same-name e n (x .name)) (λ s. same-name-trans e n m (x .name) (same-name-sym e m n s) r) q) refl)
       (λ r. rw (q, r) (removed-number m xs (once-tail e x xs o))))
 
-  pub removed-held : (m : List ℕ) (xs : List Entry) → once-ok e xs ≡ true
+  pub removed-held : (m : List ℕ) (xs : List SfEntry) → once-ok e xs ≡ true
       → holds e m (removed e n xs) ≡ cond (same-name e m n) false (holds e m xs)
   unfolding removed holds
   removed-held m [] o = by-cases (same-name e m n) (λ q. rw q refl) (λ q. rw q refl)
@@ -112,14 +112,14 @@ module _ (e : Edition) (n : List ℕ) where
       (λ r. rw (q, r) (removed-held m xs (once-tail e x xs o))))
 
 -- one wide number less, if that entry's is wide
-pub removed-wide : (e : Edition) (n : List ℕ) (p : ℕ) (xs : List Entry) → holds e n xs ≡ true
-    → wides-of p xs ≡ cond (is-wide (number-in e n xs)) 1 0 + wides-of p (removed e n xs)
-unfolding wides-of removed holds number-in
+pub removed-wide : (e : Edition) (n : List ℕ) (p : ℕ) (xs : List SfEntry) → holds e n xs ≡ true
+    → wides-of p xs ≡ cond (is-wide (target-in e n xs)) 1 0 + wides-of p (removed e n xs)
+unfolding wides-of removed holds target-in
 removed-wide e n p [] h = absurd (clash h refl)
 removed-wide e n p (x ∷ xs) h =
     by-cases (same-name e n (x .name)) (λ q. rw q refl) (λ q. rw q (omega (arith, removed-wide e n p xs (rw q at h))))
 
-narrow-parent : (p : ℕ) (xs ys : List Entry) → narrows p xs ys ≡ false → (wides-of p xs ≡ 0 → is-wide p ≡ false) → wides-of p ys ≡ 0 → is-wide p ≡ false
+narrow-parent : (p : ℕ) (xs ys : List SfEntry) → narrows p xs ys ≡ false → (wides-of p xs ≡ 0 → is-wide p ≡ false) → wides-of p ys ≡ 0 → is-wide p ≡ false
 unfolding narrows
 narrow-parent p xs ys h f z =
     by-cases (eqb (wides-of p xs) 0) (λ q. f (eqb-true _ _ q)) (λ q. rw (q, eq-eqb _ _ z) at h)
@@ -131,9 +131,9 @@ less-in-block told a b j k h l t =
     let r : a + 8 * (j + 2) + 8 ≤ told = omega arith in
     le-leb _ _ r
 
-module _ (e : Edition) (told p : ℕ) (n : List ℕ) (xs : List Entry) (g : Good e told p xs) (done : remove-code e n p xs ≡ 0) where
+module _ (e : Edition) (told p : ℕ) (n : List ℕ) (xs : List SfEntry) (g : Good e told p xs) (done : remove-request e n p xs ≡ 0) where
   removes : (holds e n xs ≡ true) × (narrows p xs (removed e n xs) ≡ false)
-  unfolding remove-code
+  unfolding remove-request
   removes =
       let a = passes (legal-name e n) 10 _ done in
       let b = passes (not (fixed-name n)) 11 _ (a .1) in

@@ -12,7 +12,7 @@ use borrow.Author.Tests.{lt-ltb, le-ltb, le-leb, lt-leb}
 use Rattle.be.specs.Bytes.{byte, field}
 use Rattle.edition.specs.declared.Edition.{Edition}
 use Rattle.edition.specs.Edition.{entry-size, Sane}
-use Rattle.dir_sf.specs.Entry.{Entry, width-of, entry-in, entries-in, enough, start-of, next-tag, end-tag, in-block}
+use Rattle.dir_sf.specs.Entry.{SfEntry, width-of, entry-in, entries-in, enough, start-of, next-tag, end-tag, in-block}
 use Rattle.dir_sf.specs.Change.{gap-tag, tag-for, rank}
 use Rattle.dir_sf.specs.Fork.{count-of, entries, place-of}
 use Rattle.dir_sf.proofs.Listed.{entries-is, place-is, count-is}
@@ -29,7 +29,7 @@ next-is e w u p n tag e₀ l q f g =
 
 -- ---- their end
 
-pub end-cons : (e : Edition) (low : ℕ) (x : Entry) (xs : List Entry) → end-tag e low (x ∷ xs) ≡ end-tag e (next-tag e x) xs
+pub end-cons : (e : Edition) (low : ℕ) (x : SfEntry) (xs : List SfEntry) → end-tag e low (x ∷ xs) ≡ end-tag e (next-tag e x) xs
 unfolding end-tag
 end-cons e low x xs = refl
 
@@ -60,11 +60,11 @@ ends-done e w u at k i p low s h = sym (s .rest ∙ ap (end-tag e low) (run-over
 
 -- ---- the lowest gap
 
-pub gap-here : (e : Edition) (long low : ℕ) (x : Entry) (xs : List Entry) → low + long ≤ x .tag → gap-tag e long low (x ∷ xs) ≡ low
+pub gap-here : (e : Edition) (long low : ℕ) (x : SfEntry) (xs : List SfEntry) → low + long ≤ x .tag → gap-tag e long low (x ∷ xs) ≡ low
 unfolding gap-tag
 gap-here e long low x xs h = rw (le-leb _ _ h) refl
 
-gap-later : (e : Edition) (long low : ℕ) (x : Entry) (xs : List Entry) → x .tag < low + long → gap-tag e long low (x ∷ xs) ≡ gap-tag e long (next-tag e x) xs
+gap-later : (e : Edition) (long low : ℕ) (x : SfEntry) (xs : List SfEntry) → x .tag < low + long → gap-tag e long low (x ∷ xs) ≡ gap-tag e long (next-tag e x) xs
 unfolding gap-tag
 gap-later e long low x xs h = rw (lt-leb _ _ h) refl
 
@@ -102,11 +102,11 @@ gaps-done e w long u at k i p low s h = sym (s .rest ∙ ap (gap-tag e long low)
 
 -- ---- where a tag stands
 
-rank-here : (t : ℕ) (x : Entry) (xs : List Entry) → t < x .tag → rank t (x ∷ xs) ≡ 0
+rank-here : (t : ℕ) (x : SfEntry) (xs : List SfEntry) → t < x .tag → rank t (x ∷ xs) ≡ 0
 unfolding rank
 rank-here t x xs h = rw (lt-ltb _ _ h) refl
 
-rank-later : (t : ℕ) (x : Entry) (xs : List Entry) → x .tag ≤ t → rank t (x ∷ xs) ≡ suc (rank t xs)
+rank-later : (t : ℕ) (x : SfEntry) (xs : List SfEntry) → x .tag ≤ t → rank t (x ∷ xs) ≡ suc (rank t xs)
 unfolding rank
 rank-later t x xs h = rw (le-ltb _ _ h) refl
 

@@ -14,7 +14,7 @@ use Rattle.edition.specs.declared.Edition.{Edition}
 use Rattle.edition.specs.Edition.{Sane}
 use Rattle.dinode.specs.Core.{magic-ok, attr-start, kind-ok, directory-ok, inode-code, directory-code, data-length, data-fork}
 use Rattle.dinode.proofs.Sound.{sound-size, directory-sound}
-use Rattle.dir_sf.specs.Entry.{Entry}
+use Rattle.dir_sf.specs.Entry.{SfEntry}
 use Rattle.dir_sf.specs.Fork.{parent, lay, lay-fork, fork-verdict}
 use Rattle.dir_sf.specs.Inode.{used, verdict, with-entries}
 use Rattle.dir_sf.proofs.Tested.{is-directory, is-told, used-bounds}
@@ -30,7 +30,7 @@ same-length : (e : Edition) (b c : List ℕ) → length c ≡ length b → byte 
 unfolding data-length
 same-length e b c l f = rw (l, f) refl
 
-module _ (e : Edition) (sane : Sane e) (told : ℕ) (b : List ℕ) (v : verdict e told b ≡ 0) (ys : List Entry) (fits : length (lay e (parent (used e b)) ys) ≤ data-length e b) where
+module _ (e : Edition) (sane : Sane e) (told : ℕ) (b : List ℕ) (v : verdict e told b ≡ 0) (ys : List SfEntry) (fits : length (lay e (parent (used e b)) ys) ≤ data-length e b) where
   L : ℕ
   L = length (lay e (parent (used e b)) ys)
 

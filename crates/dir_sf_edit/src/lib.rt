@@ -9,8 +9,8 @@ ghost use Rattle.be.specs.Bytes.{byte, put, to-be};
 ghost use Rattle.edition.specs.Edition.{v4, Sane};
 ghost use Rattle.dir_sf.specs.Entry.{entry, width-of, entry-in, entries-in, enough, start-of, entry-bytes, entries-bytes, is-wide, end-tag};
 ghost use Rattle.dir_sf.specs.Fork.{Readable, place-of, laid, lay, holds, count-of, parent, entries};
-ghost use Rattle.dir_sf.specs.Change.{rank, gap-tag, tag-for, placed, with-nth, inserted, insert-code, without-nth, removed, remove-code};
-ghost use Rattle.dir_sf.specs.Inode.{used, insert-number, remove-number, with-entries, after-insert, after-remove};
+ghost use Rattle.dir_sf.specs.Change.{rank, gap-tag, tag-for, placed, with-nth, inserted, insert-request, without-nth, removed, remove-request};
+ghost use Rattle.dir_sf.specs.Inode.{used, insert-code, remove-code, with-entries, insert-bytes, remove-bytes};
 use dir_sf::Spot;
 use edition::Edition;
 use edition::V4;
@@ -234,7 +234,7 @@ fn narrowing(before: usize, after: usize, parent: u64) -> bool
 // What a removal answers, of a directory that passes the tests.
 fn removal_code<'a, 'b>(e: Edition, u: &'a [u8], name: &'b [u8]) -> usize
     requires { ⌜ Sane e × Readable e (now u) ⌝ }
-    ensures { λ r. ⌜ r ≡ remove-code e (now (name .entry)) (parent (now (u .entry))) (entries e (now (u .entry))) ⌝ }
+    ensures { λ r. ⌜ r ≡ remove-request e (now (name .entry)) (parent (now (u .entry))) (entries e (now (u .entry))) ⌝ }
 {
     if !name::legal(e, name) {
         return refusal::ASKED;
@@ -260,7 +260,7 @@ fn removal_code<'a, 'b>(e: Edition, u: &'a [u8], name: &'b [u8]) -> usize
 // What a removal answers.
 fn remove_answer<'a, 'b>(e: Edition, b: &'a [u8], told: usize, name: &'b [u8]) -> usize
     requires { ⌜ Sane e ⌝ }
-    ensures { λ r. ⌜ r ≡ remove-number e told (now (b .entry)) (now (name .entry)) ⌝ }
+    ensures { λ r. ⌜ r ≡ remove-code e told (now (b .entry)) (now (name .entry)) ⌝ }
 {
     let c = dir_sf::code(e, b, told);
     if c != 0 {
@@ -273,7 +273,7 @@ fn remove_answer<'a, 'b>(e: Edition, b: &'a [u8], told: usize, name: &'b [u8]) -
 
 // Takes the entry of a name out.
 fn take_out<'a, 'b>(e: Edition, b: &'a mut [u8], told: usize, name: &'b [u8])
-    requires { ⌜ Sane e × (remove-number e told (now b) (now name) ≡ 0) ⌝ }
+    requires { ⌜ Sane e × (remove-code e told (now b) (now name) ≡ 0) ⌝ }
     ensures { λ _. ⌜ now (b .exit) ≡ with-entries e (now (b .entry)) (removed e (now (name .entry)) (entries e (used e (now (b .entry))))) ⌝ }
 {
     let n = dir_sf::fork_long(e, &b[..]);
@@ -286,7 +286,7 @@ fn take_out<'a, 'b>(e: Edition, b: &'a mut [u8], told: usize, name: &'b [u8])
 
 fn remove_from<'a, 'b>(e: Edition, b: &'a mut [u8], told: usize, name: &'b [u8]) -> usize
     requires { ⌜ Sane e ⌝ }
-    ensures { λ r. ⌜ (r ≡ remove-number e told (now (b .entry)) (now (name .entry))) × (now (b .exit) ≡ after-remove e told (now (b .entry)) (now (name .entry))) ⌝ }
+    ensures { λ r. ⌜ (r ≡ remove-code e told (now (b .entry)) (now (name .entry))) × (now (b .exit) ≡ remove-bytes e told (now (b .entry)) (now (name .entry))) ⌝ }
 {
     let c = remove_answer(e, &b[..], told, name);
     if c != 0 {
@@ -298,7 +298,7 @@ fn remove_from<'a, 'b>(e: Edition, b: &'a mut [u8], told: usize, name: &'b [u8])
 
 // Removes the entry of a name: 0, or why not.
 pub fn remove<'a, 'b>(b: &'a mut [u8], told: usize, name: &'b [u8]) -> usize
-    ensures { λ r. ⌜ (r ≡ remove-number v4 told (now (b .entry)) (now (name .entry))) × (now (b .exit) ≡ after-remove v4 told (now (b .entry)) (now (name .entry))) ⌝ }
+    ensures { λ r. ⌜ (r ≡ remove-code v4 told (now (b .entry)) (now (name .entry))) × (now (b .exit) ≡ remove-bytes v4 told (now (b .entry)) (now (name .entry))) ⌝ }
 {
     remove_from(V4::edition(), b, told, name)
 }
@@ -454,7 +454,7 @@ fn insertion_code<'a, 'b>(
     ino: u64,
 ) -> usize
     requires { ⌜ Sane e × Readable e (now u) × (length (now u) ≤ 1948) × (length (lay e (parent (now u)) (entries e (now u))) ≡ length (now u)) ⌝ }
-    ensures { λ r. ⌜ r ≡ insert-code e told fork (now (name .entry)) kind ino (parent (now (u .entry))) (entries e (now (u .entry))) ⌝ }
+    ensures { λ r. ⌜ r ≡ insert-request e told fork (now (name .entry)) kind ino (parent (now (u .entry))) (entries e (now (u .entry))) ⌝ }
 {
     if !name::legal(e, name) {
         return refusal::ASKED;
@@ -489,7 +489,7 @@ fn insert_answer<'a, 'b>(
     ino: u64,
 ) -> usize
     requires { ⌜ Sane e ⌝ }
-    ensures { λ r. ⌜ r ≡ insert-number e told (now (b .entry)) (now (name .entry)) kind ino ⌝ }
+    ensures { λ r. ⌜ r ≡ insert-code e told (now (b .entry)) (now (name .entry)) kind ino ⌝ }
 {
     let c = dir_sf::code(e, b, told);
     if c != 0 {
@@ -524,7 +524,7 @@ fn grow<'a, 'b, 'c>(
 
 // Puts a new entry in.
 fn put_in<'a, 'b>(e: Edition, b: &'a mut [u8], told: usize, name: &'b [u8], kind: usize, ino: u64)
-    requires { ⌜ Sane e × (insert-number e told (now b) (now name) kind ino ≡ 0) ⌝ }
+    requires { ⌜ Sane e × (insert-code e told (now b) (now name) kind ino ≡ 0) ⌝ }
     ensures { λ _. ⌜ now (b .exit) ≡ with-entries e (now (b .entry)) (inserted e told (now (name .entry)) kind ino (entries e (used e (now (b .entry))))) ⌝ }
 {
     let n = dir_sf::fork_long(e, &b[..]);
@@ -544,8 +544,8 @@ fn insert_into<'a, 'b>(
     ino: u64,
 ) -> usize
     requires { ⌜ Sane e ⌝ }
-    ensures { λ r. ⌜ (r ≡ insert-number e told (now (b .entry)) (now (name .entry)) kind ino)
-        × (now (b .exit) ≡ after-insert e told (now (b .entry)) (now (name .entry)) kind ino) ⌝ }
+    ensures { λ r. ⌜ (r ≡ insert-code e told (now (b .entry)) (now (name .entry)) kind ino)
+        × (now (b .exit) ≡ insert-bytes e told (now (b .entry)) (now (name .entry)) kind ino) ⌝ }
 {
     let c = insert_answer(e, &b[..], told, name, kind, ino);
     if c != 0 {
@@ -557,8 +557,8 @@ fn insert_into<'a, 'b>(
 
 // Inserts an entry: 0, or why not.
 pub fn insert<'a, 'b>(b: &'a mut [u8], told: usize, name: &'b [u8], ino: u64) -> usize
-    ensures { λ r. ⌜ (r ≡ insert-number v4 told (now (b .entry)) (now (name .entry)) 0 ino)
-        × (now (b .exit) ≡ after-insert v4 told (now (b .entry)) (now (name .entry)) 0 ino) ⌝ }
+    ensures { λ r. ⌜ (r ≡ insert-code v4 told (now (b .entry)) (now (name .entry)) 0 ino)
+        × (now (b .exit) ≡ insert-bytes v4 told (now (b .entry)) (now (name .entry)) 0 ino) ⌝ }
 {
     insert_into(V4::edition(), b, told, name, 0, ino)
 }

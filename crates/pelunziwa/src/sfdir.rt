@@ -1,8 +1,8 @@
 // Short-form directories: the inode is lent, and the filesystem's directory block size told.
 ghost use mathlib.Core.Path.{_≡_};
 ghost use Rattle.edition.specs.Edition.{v4};
-ghost use Rattle.dir_sf.specs.Inode.{verdict, lookup-answer, insert-number, remove-number, after-insert, after-remove};
-ghost use Rattle.dir_sf.specs.Walk.{step-answer};
+ghost use Rattle.dir_sf.specs.Inode.{verdict, lookup, insert-code, remove-code, insert-bytes, remove-bytes};
+ghost use Rattle.dir_sf.specs.Walk.{walk-step};
 ghost use Rattle.pelunziwa.specs.Answers.{as-found-sf, as-seen-sf, as-step-sf};
 use crate::Found;
 use crate::Step;
@@ -21,7 +21,7 @@ pub extern "C" fn pzw_sfdir_test(inode: &[u8], told: u64) -> u32
 // The inode number stored with a name; ".." gives the parent.
 #[no_mangle]
 pub extern "C" fn pzw_sfdir_lookup<'a, 'b>(inode: &'a [u8], told: u64, name: &'b [u8]) -> Found
-    ensures { λ r. ⌜ r ≡ as-found-sf (lookup-answer v4 told (now (inode .entry)) (now (name .entry))) ⌝ }
+    ensures { λ r. ⌜ r ≡ as-found-sf (lookup v4 told (now (inode .entry)) (now (name .entry))) ⌝ }
 {
     match dir_sf::lookup(inode, told as usize, name) {
         Looked::Found { number } => crate::looked(0, number, 0),
@@ -37,8 +37,8 @@ pub extern "C" fn pzw_sfdir_insert<'a, 'b>(
     name: &'b [u8],
     number: u64,
 ) -> u32
-    ensures { λ r. ⌜ (r ≡ insert-number v4 told (now (inode .entry)) (now (name .entry)) 0 number)
-        × (now (inode .exit) ≡ after-insert v4 told (now (inode .entry)) (now (name .entry)) 0 number) ⌝ }
+    ensures { λ r. ⌜ (r ≡ insert-code v4 told (now (inode .entry)) (now (name .entry)) 0 number)
+        × (now (inode .exit) ≡ insert-bytes v4 told (now (inode .entry)) (now (name .entry)) 0 number) ⌝ }
 {
     crate::code(dir_sf_edit::insert(inode, told as usize, name, number))
 }
@@ -46,8 +46,8 @@ pub extern "C" fn pzw_sfdir_insert<'a, 'b>(
 // Takes an entry out.
 #[no_mangle]
 pub extern "C" fn pzw_sfdir_remove<'a, 'b>(inode: &'a mut [u8], told: u64, name: &'b [u8]) -> u32
-    ensures { λ r. ⌜ (r ≡ remove-number v4 told (now (inode .entry)) (now (name .entry)))
-        × (now (inode .exit) ≡ after-remove v4 told (now (inode .entry)) (now (name .entry))) ⌝ }
+    ensures { λ r. ⌜ (r ≡ remove-code v4 told (now (inode .entry)) (now (name .entry)))
+        × (now (inode .exit) ≡ remove-bytes v4 told (now (inode .entry)) (now (name .entry))) ⌝ }
 {
     crate::code(dir_sf_edit::remove(inode, told as usize, name))
 }
@@ -65,7 +65,7 @@ fn seen_step(next: usize, seen: Seen) -> Step
 // One step of the walk, from a place counted from the fork's start.
 #[no_mangle]
 pub extern "C" fn pzw_sfdir_step(inode: &[u8], told: u64, place: u64) -> Step
-    ensures { λ r. ⌜ r ≡ as-step-sf (step-answer v4 told (now (inode .entry)) place) ⌝ }
+    ensures { λ r. ⌜ r ≡ as-step-sf (walk-step v4 told (now (inode .entry)) place) ⌝ }
 {
     match dir_sf::step_at(inode, told as usize, place as usize) {
         Walked::Stepped(t) => {

@@ -17,6 +17,5 @@ seek-name-spec =
     (λ c κs. search (needs, hit-in))
     (λ c. search needs)
     (λ c. search needs)
-    (λ c. search needs)
     (λ c κs. search needs)
     (λ c. search (needs, hit-one)))

@@ -27,7 +27,6 @@ step-over-spec =
     (λ c κs. search (needs, run-one))
     (λ c. search needs)
     (λ c. search needs)
-    (λ c. search needs)
     (λ c κs. search needs)
     (λ c. search needs)
     (λ c. search needs)
