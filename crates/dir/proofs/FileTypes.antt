@@ -1,14 +1,22 @@
--- File types, read and written: where the edition has none, and where it has one.
+-- File types, read and written: where the edition has none, and where it has one; legal targets.
 -- Assumes nothing.
-use Prim.Native.Nat.{ℕ}
+use Prim.Native.Nat.{ℕ, _^_, _<_}
 use native.Mathlib.Omega.{arith}
 use mathlib.Core.Path.{_≡_, refl, sym, _∙_, ap}
 use mathlib.Core.List.{List}
+use mathlib.Core.Bool.{Bool, true, false, _&&_}
+use lib.Dec.{eqb, leb}
+use borrow.Author.Tests.{eqb-true, eqb-false, leb-true}
 use Rattle.be.specs.Bytes.{be, be-from, byte, field, to-be, put}
 use Rattle.be.proofs.Parts.{field-1}
 use Rattle.be.proofs.Writes.{put-nothing}
+use Rattle.be.proofs.Numbers.{be-to-be}
+use Rattle.be.proofs.Bools.{by-cases, and-left, and-right, and-both}
 use Rattle.edition.specs.declared.Edition.{Edition}
 use Rattle.edition.specs.Edition.{Sane}
+use Rattle.name.specs.Name.{legal-number}
+use Rattle.dir.specs.declared.Target.{Target}
+use Rattle.dir.specs.Target.{legal-type, legal-target, kept-of}
 
 module _ (e : Edition) (z : e .ftype ≡ 0) (o : ℕ) where
   pub kind-none : (u : List ℕ) → 0 ≡ field o (e .ftype) u
@@ -28,3 +36,38 @@ module _ (e : Edition) (s : Sane e) (z : e .ftype ≡ 0 → ⊥) (o : ℕ) where
 
   pub put-kind-some : (b c : List ℕ) (v : ℕ) → c ≡ put b o (to-be 1 v) → c ≡ put b o (to-be (e .ftype) v)
   put-kind-some b c v h = h ∙ ap (λ (k : ℕ). put b o (to-be k v)) (sym kind-one)
+
+-- a legal target: its number, its type, and both
+module _ (e : Edition) (t : Target) where
+  pub target-number : legal-target e t ≡ true → legal-number (t .inode) ≡ true
+  unfolding legal-target
+  target-number h = and-left (legal-number (t .inode)) (legal-type e (t .kind)) h
+
+  pub target-type : legal-target e t ≡ true → legal-type e (t .kind) ≡ true
+  unfolding legal-target
+  target-type h = and-right (legal-number (t .inode)) (legal-type e (t .kind)) h
+
+  pub target-both : legal-number (t .inode) ≡ true → legal-type e (t .kind) ≡ true → legal-target e t ≡ true
+  unfolding legal-target
+  target-both h k = and-both (legal-number (t .inode)) (legal-type e (t .kind)) h k
+
+-- what is kept of a legal type fits its bytes, and is what is read of them
+module _ (e : Edition) (sane : Sane e) (t : Target) where
+  kept-one : legal-type e (t .kind) ≡ true → eqb (e .ftype) 0 ≡ false → t .kind < 256 ^ e .ftype
+  unfolding legal-type
+  kept-one h y =
+      let one : e .ftype ≡ 1 = kind-one e sane (eqb-false (e .ftype) 0 y) 0 in
+      rw one (omega (arith, leb-true (t .kind) 8 (and-right (leb 1 (t .kind)) (leb (t .kind) 8) (rw y at h))))
+
+  pub kept-fits : legal-type e (t .kind) ≡ true → kept-of e t .kind < 256 ^ e .ftype
+  kept-fits h = by-cases (eqb (e .ftype) 0) (λ y. rw (y, eqb-true (e .ftype) 0 y) (omega arith)) (λ y. rw y (kept-one h y))
+
+  no-bytes : (v : ℕ) → be (to-be 0 v) ≡ 0
+  unfolding be be-from to-be
+  no-bytes v = refl
+
+  pub kept-read : legal-type e (t .kind) ≡ true → be (to-be (e .ftype) (t .kind)) ≡ kept-of e t .kind
+  kept-read h =
+      by-cases (eqb (e .ftype) 0)
+      (λ y. rw (y, eqb-true (e .ftype) 0 y) (no-bytes (t .kind)))
+      (λ y. rw y (be-to-be (e .ftype) (t .kind) (kept-one h y)))

@@ -16,6 +16,7 @@ use Rattle.edition.specs.Edition.{entry-size, Sane}
 use Rattle.name.specs.Name.{legal-name, legal-number, hash-of, same-name, fixed-name, dot, dotdot}
 use Rattle.dir.specs.declared.Target.{Target}
 use Rattle.dir.specs.Target.{target, kept-of, legal-type, legal-target}
+use Rattle.dir.proofs.FileTypes.{target-number, target-type, kept-read}
 use Rattle.dir_block_rules.specs.Record.{target-of, kind-of, pad, Rec, rec, apart, entries, is-entry, name, number, entry-bytes}
 use Rattle.dir_block_rules.specs.Block.{Slot, slot}
 use Rattle.dir_block_rules.specs.Verdict.{names-ok, numbers-ok, own-in, number-ok, name-ok, entry-at}
@@ -31,26 +32,6 @@ use Rattle.dir_block_rules.proofs.IndexedEntries.{Kept, indexed-insert,
 use Rattle.dir_block_rules.proofs.OneMore.{every-mid, some-mid, once-mid}
 use Rattle.dir_block_rules.proofs.RecordPlaces.{Split, some-split, every-at, every-map, apart-keep, apart-front}
 use Rattle.dir_block_rules.proofs.GoodParts.{Good}
-
-ne-zero : (f : ℕ) → (f ≡ 0 → ⊥) → f ≤ 1 → f ≡ 1
-ne-zero zero h l = absurd (h refl)
-ne-zero (suc f) h l = omega arith
-
-type-fits : (e : Edition) (k : ℕ) → e .ftype ≡ 1 → (leb 1 k && leb k 8) ≡ true → k < 256 ^ e .ftype
-type-fits e k q h = rw q (omega (arith, leb-true k 8 (and-right (leb 1 k) (leb k 8) h)))
-
-no-bytes : (v : ℕ) → be (to-be 0 v) ≡ 0
-unfolding be be-from to-be
-no-bytes v = refl
-
--- a legal target has a legal number and a legal type
-pub target-number : (e : Edition) (i : Target) → legal-target e i ≡ true → legal-number (i .inode) ≡ true
-unfolding legal-target
-target-number e i h = and-left (legal-number (i .inode)) (legal-type e (i .kind)) h
-
-pub target-type : (e : Edition) (i : Target) → legal-target e i ≡ true → legal-type e (i .kind) ≡ true
-unfolding legal-target
-target-type e i h = and-right (legal-number (i .inode)) (legal-type e (i .kind)) h
 
 -- the name and the number of a new entry
 pub entry-name : (e : Edition) (o : ℕ) (i : Target) (n : List ℕ) → name (rec o (entry-bytes e o i n)) ≡ n
@@ -69,7 +50,7 @@ entry-number e o i n h =
 
 -- and its file type, where the edition has one
 pub entry-kind : (e : Edition) → Sane e → (o : ℕ) (i : Target) (n : List ℕ) → legal-type e (i .kind) ≡ true → kind-of e (rec o (entry-bytes e o i n)) ≡ kept-of e i .kind
-unfolding entry-bytes pad legal-type
+unfolding entry-bytes pad
 entry-kind e sane o i n h =
     let t : List ℕ = to-be (e .ftype) (i .kind) in
     let z : List ℕ = replicate (entry-size e (length n) - (11 + e .ftype + length n)) 0 in
@@ -79,9 +60,7 @@ entry-kind e sane o i n h =
     let nl : getD (entry-bytes e o i n) 8 0 ≡ length n = entry-namelen e o i n in
     ap₂ (λ (k : ℕ) (c : List ℕ). field (9 + k) (e .ftype) c) nl q
     ∙ ap be (part-at f t (z ++ to-be 2 o) (9 + length n) (e .ftype) l (length-to-be (e .ftype) (i .kind)))
-    ∙ by-cases (eqb (e .ftype) 0)
-    (λ y. rw (y, eqb-true (e .ftype) 0 y) (no-bytes (i .kind)))
-    (λ y. rw y (be-to-be (e .ftype) (i .kind) (type-fits e (i .kind) (ne-zero (e .ftype) (eqb-false (e .ftype) 0 y) (sane .ftype-most)) (rw y at h))))
+    ∙ kept-read e sane i h
 
 pub entry-target : (e : Edition) → Sane e → (o : ℕ) (i : Target) (n : List ℕ) → i .inode < 256 ^ 8 → legal-type e (i .kind) ≡ true → target-of e (rec o (entry-bytes e o i n)) ≡ kept-of e i
 entry-target e sane o i n h k = ap₂ (λ (j t : ℕ). target j t) (entry-number e o i n h) (entry-kind e sane o i n k)

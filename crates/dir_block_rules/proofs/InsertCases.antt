@@ -26,7 +26,8 @@ use Rattle.dir_block_rules.proofs.CutJoin.{join, Laid, laid-back}
 use Rattle.dir_block_rules.proofs.BlockParts.{length-slot-bytes}
 use Rattle.dir_block_rules.proofs.RecordPlaces.{Split}
 use Rattle.dir_block_rules.proofs.GoodParts.{tally-length}
-use Rattle.dir_block_rules.proofs.EntryMore.{entry-name, entry-target, target-type}
+use Rattle.dir.proofs.FileTypes.{target-type}
+use Rattle.dir_block_rules.proofs.EntryMore.{entry-name, entry-target}
 use Rattle.dir_block_rules.proofs.InsertGood.{new-records, new-entry, new-entries}
 use Rattle.dir_block_rules.proofs.AcceptedParts.{Found-in, keep-find, fit-of, good-of, end-of-data}
 use Rattle.dir_block_rules.proofs.ChangeAccepted.{After, longest-in}

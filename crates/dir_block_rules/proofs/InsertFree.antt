@@ -30,7 +30,7 @@ use Rattle.dir_block_rules.proofs.InsertGood.{new-records, new-apart, n
 use Rattle.dir_block_rules.proofs.GapsApart.{Follows, follows, follows-front, follows-back}
 use Rattle.dir_block_rules.proofs.AcceptedParts.{fit-of, good-of, block-around, index-bytes, place-of, fit-insert, fit-without, fit-keep}
 use Rattle.name.proofs.Legality.{number-bounds}
-use Rattle.dir_block_rules.proofs.EntryMore.{target-number}
+use Rattle.dir.proofs.FileTypes.{target-number}
 use Rattle.dir_block_rules.proofs.ChangeAccepted.{After, finish, short, laid-mod, length-insert, length-without, length-live, long-index}
 
 -- a legal request to insert name n with target i, where no live entry of the block bears the name

@@ -23,7 +23,8 @@ use Rattle.dir_block_rules.proofs.WritesLeave.{free, Gapful, gap-raw, e
 use Rattle.dir_block_rules.proofs.IndexedEntries.{Kept}
 use Rattle.dir_block_rules.proofs.GoodParts.{Good}
 use Rattle.dir_block_rules.proofs.OwnNumber.{number-stands}
-use Rattle.dir_block_rules.proofs.EntryMore.{good-insert, entry-name, entry-number, target-number}
+use Rattle.dir.proofs.FileTypes.{target-number}
+use Rattle.dir_block_rules.proofs.EntryMore.{good-insert, entry-name, entry-number}
 use Rattle.dir_block_rules.proofs.InsertWrites.{placed, placed-laid, length-placed}
 use Rattle.dir_block_rules.proofs.GapsApart.{Follows, from-follows, weaken, last-gap?, follows-append, follows-entry}
 

@@ -90,7 +90,7 @@ fn find<'a, 'b>(e: Edition, u: &'a [u8], at: usize, k: usize, wides: usize, name
 }
 
 // What stands behind a name that ends at an offset: file type and number.
-fn target_at(e: Edition, u: &[u8], o: usize, wides: usize) -> Target
+pub fn target_at(e: Edition, u: &[u8], o: usize, wides: usize) -> Target
     requires { ⌜ Sane e × (o + (e .ftype + width-of wides) ≤ length (now u)) ⌝ }
     ensures { λ r. ⌜ r ≡ target (field (o + e .ftype) (width-of wides) (now (u .entry))) (field o (e .ftype) (now (u .entry))) ⌝ }
 {

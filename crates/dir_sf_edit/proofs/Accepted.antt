@@ -23,7 +23,7 @@ use Rattle.dir_sf_edit.proofs.ReadBack.{Fits, filled-bytes, lay-count, 
 
 -- the file types fit their bytes
 abbrev pub kinds-ok : Edition → List SfEntry → Bool
-kinds-ok e xs = every (λ x. ltb (x .kind) (256 ^ e .ftype)) xs
+kinds-ok e xs = every (λ x. ltb (x .target .kind) (256 ^ e .ftype)) xs
 
 -- what may be stored in a fork, of a directory whose block size is told
 pub record Good (e : Edition) (told p : ℕ) (xs : List SfEntry) : Type 0 where
@@ -50,10 +50,10 @@ pub number-fits : (wides i : ℕ) → legal-number i ≡ true → (wides ≡ 0 �
 unfolding width-of
 number-fits wides i h n = by-cases (eqb wides 0) (λ q. rw q (narrow-below i (n (eqb-true _ _ q)))) (λ q. rw q (legal-below i h))
 
-no-wide-head : (x : SfEntry) (xs : List SfEntry) → tally (λ y. is-wide (y .inode)) (x ∷ xs) ≡ 0 → is-wide (x .inode) ≡ false
-no-wide-head x xs h = by-cases (is-wide (x .inode)) (λ q. absurd (omega (arith, rw q at h))) (λ q. q)
+no-wide-head : (x : SfEntry) (xs : List SfEntry) → tally (λ y. is-wide (y .target .inode)) (x ∷ xs) ≡ 0 → is-wide (x .target .inode) ≡ false
+no-wide-head x xs h = by-cases (is-wide (x .target .inode)) (λ q. absurd (omega (arith, rw q at h))) (λ q. q)
 
-no-wide-tail : (x : SfEntry) (xs : List SfEntry) → tally (λ y. is-wide (y .inode)) (x ∷ xs) ≡ 0 → tally (λ y. is-wide (y .inode)) xs ≡ 0
+no-wide-tail : (x : SfEntry) (xs : List SfEntry) → tally (λ y. is-wide (y .target .inode)) (x ∷ xs) ≡ 0 → tally (λ y. is-wide (y .target .inode)) xs ≡ 0
 no-wide-tail x xs h = omega arith
 
 -- tags rise
@@ -66,7 +66,7 @@ low-le-end e low (x ∷ xs) h =
     omega arith
 
 good-fits : (e : Edition) (low wides : ℕ) (xs : List SfEntry) → tags-ok e low xs ≡ true → end-tag e low xs < 65536 → every (name-ok e) xs ≡ true
-    → every (λ x. legal-number (x .inode)) xs ≡ true → kinds-ok e xs ≡ true → (wides ≡ 0 → tally (λ x. is-wide (x .inode)) xs ≡ 0)
+    → every (λ x. legal-number (x .target .inode)) xs ≡ true → kinds-ok e xs ≡ true → (wides ≡ 0 → tally (λ x. is-wide (x .target .inode)) xs ≡ 0)
     → Fits e (width-of wides) xs
 unfolding tags-ok end-tag next-tag
 good-fits e low wides [] t en ns is ks z = tt
@@ -77,11 +77,11 @@ good-fits e low wides (x ∷ xs) t en ns is ks z =
       record {
         name-fits = omega arith;
         tag-fits = omega arith;
-        kind-fits = ltb-true _ _ (every-head (λ y. ltb (y .kind) (256 ^ e .ftype)) x xs ks);
-        inode-fits = number-fits wides (x .inode) (every-head (λ y. legal-number (y .inode)) x xs is) (λ q. no-wide-head x xs (z q));
+        kind-fits = ltb-true _ _ (every-head (λ y. ltb (y .target .kind) (256 ^ e .ftype)) x xs ks);
+        inode-fits = number-fits wides (x .target .inode) (every-head (λ y. legal-number (y .target .inode)) x xs is) (λ q. no-wide-head x xs (z q));
       },
-      good-fits e (next-tag e x) wides xs tl en (every-tail (name-ok e) x xs ns) (every-tail (λ y. legal-number (y .inode)) x xs is)
-          (every-tail (λ y. ltb (y .kind) (256 ^ e .ftype)) x xs ks) (λ q. no-wide-tail x xs (z q)),
+      good-fits e (next-tag e x) wides xs tl en (every-tail (name-ok e) x xs ns) (every-tail (λ y. legal-number (y .target .inode)) x xs is)
+          (every-tail (λ y. ltb (y .target .kind) (256 ^ e .ftype)) x xs ks) (λ q. no-wide-tail x xs (z q)),
     )
 
 module _ (e : Edition) (told p : ℕ) (xs : List SfEntry) (small : told ≤ 65536) (g : Good e told p xs) where
@@ -136,7 +136,7 @@ module _ (e : Edition) (told p : ℕ) (xs : List SfEntry) (small : told ≤ 6553
 
 -- ---- the other way: what an accepted fork holds is good
 
-kind-in : (e : Edition) (w : ℕ) (d : List ℕ) → bytes d ≡ true → long-in e w d ≤ length d → ltb (entry-in e w d .kind) (256 ^ e .ftype) ≡ true
+kind-in : (e : Edition) (w : ℕ) (d : List ℕ) → bytes d ≡ true → long-in e w d ≤ length d → ltb (entry-in e w d .target .kind) (256 ^ e .ftype) ≡ true
 unfolding entry-in long-in
 kind-in e w d h l = lt-ltb _ _ (field-lt (3 + getD d 0 0) (e .ftype) d h (omega arith))
 

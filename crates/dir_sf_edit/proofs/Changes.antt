@@ -15,6 +15,8 @@ use Rattle.be.proofs.Writes.{put-nothing}
 use Rattle.be.proofs.Codes.{passes, both}
 use Rattle.edition.specs.declared.Edition.{Edition}
 use Rattle.edition.specs.Edition.{Sane}
+use Rattle.dir.specs.declared.Target.{Target}
+use Rattle.dir.specs.Target.{legal-target, kept-of}
 use Rattle.name.specs.Name.{legal-name, legal-number, fixed-name}
 use Rattle.name.proofs.Legality.{legal-bounds}
 use Rattle.dinode.specs.Core.{directory-code, data-length}
@@ -177,17 +179,17 @@ remove-done e told c b n b₁ h f k = k ∙ sym (rw (eq-eqb (remove-code e told 
 
 -- ---- insert
 
-pub insert-refused : (e : Edition) (told c : ℕ) (b n : List ℕ) (kind ino : ℕ) → c ≡ verdict e told b → (c ≡ 0 → ⊥) → c ≡ insert-code e told b n kind ino
+pub insert-refused : (e : Edition) (told c : ℕ) (b n : List ℕ) (to : Target) → c ≡ verdict e told b → (c ≡ 0 → ⊥) → c ≡ insert-code e told b n to
 unfolding insert-code
-insert-refused e told c b n kind ino h f = h ∙ sym (rw (ne-eqb (verdict e told b) 0 (λ q. f (h ∙ q))) refl)
+insert-refused e told c b n to h f = h ∙ sym (rw (ne-eqb (verdict e told b) 0 (λ q. f (h ∙ q))) refl)
 
-pub insert-passed : (e : Edition) (sane : Sane e) (told c z fork r : ℕ) (b n : List ℕ) (kind ino : ℕ) → c ≡ verdict e told b → c ≡ 0 → z ≡ field 56 8 b → fork ≡ data-length e b
-    → r ≡ insert-request e told fork n kind ino (parent (take (e .literal + z - e .literal) (drop (e .literal) b))) (entries e (take (e .literal + z - e .literal) (drop (e .literal) b)))
-    → r ≡ insert-code e told b n kind ino
+pub insert-passed : (e : Edition) (sane : Sane e) (told c z fork r : ℕ) (b n : List ℕ) (to : Target) → c ≡ verdict e told b → c ≡ 0 → z ≡ field 56 8 b → fork ≡ data-length e b
+    → r ≡ insert-request e told fork n to (parent (take (e .literal + z - e .literal) (drop (e .literal) b))) (entries e (take (e .literal + z - e .literal) (drop (e .literal) b)))
+    → r ≡ insert-code e told b n to
 unfolding insert-code
-insert-passed e sane told c z fork r b n kind ino h f q g k =
+insert-passed e sane told c z fork r b n to h f q g k =
     let v : verdict e told b ≡ 0 = sym h ∙ f in
-    k ∙ ap₂ (λ (j : ℕ) (u : List ℕ). insert-request e told j n kind ino (parent u) (entries e u)) g (used-is e sane told b v z q) ∙ sym (rw (eq-eqb _ _ v) refl)
+    k ∙ ap₂ (λ (j : ℕ) (u : List ℕ). insert-request e told j n to (parent u) (entries e u)) g (used-is e sane told b v z q) ∙ sym (rw (eq-eqb _ _ v) refl)
 
 pub tested-dir : (e : Edition) (sane : Sane e) (told c : ℕ) (b : List ℕ) → c ≡ verdict e told b → c ≡ 0 → directory-code e b ≡ 0
 tested-dir e sane told c b h f = is-directory e sane told b (sym h ∙ f)
@@ -199,34 +201,34 @@ lent-whole e sane told c z b h f q =
     let v : verdict e told b ≡ 0 = sym h ∙ f in
     rw (used-is e sane told b v z q) (same-long e told (used e b) (used-passes e sane told b v) (used-header e sane told b v))
 
-module _ (e : Edition) (sane : Sane e) (told : ℕ) (b n : List ℕ) (kind ino : ℕ) (h : insert-code e told b n kind ino ≡ 0) where
-  insert-parts : (verdict e told b ≡ 0) × (insert-request e told (data-length e b) n kind ino (parent (used e b)) (entries e (used e b)) ≡ 0)
+module _ (e : Edition) (sane : Sane e) (told : ℕ) (b n : List ℕ) (to : Target) (h : insert-code e told b n to ≡ 0) where
+  insert-parts : (verdict e told b ≡ 0) × (insert-request e told (data-length e b) n to (parent (used e b)) (entries e (used e b)) ≡ 0)
   unfolding insert-code
   insert-parts = both (verdict e told b) _ h
 
   pub insert-passes : verdict e told b ≡ 0
   insert-passes = insert-parts .0
 
-  pub insert-answers : insert-request e told (data-length e b) n kind ino (parent (used e b)) (entries e (used e b)) ≡ 0
+  pub insert-answers : insert-request e told (data-length e b) n to (parent (used e b)) (entries e (used e b)) ≡ 0
   insert-answers = insert-parts .1
 
   pub insert-dir : directory-code e b ≡ 0
   insert-dir = is-directory e sane told b insert-passes
 
-  all-tests : (legal-name e n ≡ true) × (legal-number ino ≡ true) × (fixed-name n ≡ false) × (holds e n (entries e (used e b)) ≡ false)
-      × ((tag-for e told (length n) (entries e (used e b)) ≡ 0 → ⊥)) × (length (lay e (parent (used e b)) (inserted e told n kind ino (entries e (used e b)))) ≤ data-length e b)
-  all-tests = inserts e told (parent (used e b)) n kind ino (entries e (used e b)) (data-length e b) (insert-parts .1)
+  all-tests : (legal-name e n ≡ true) × (legal-target e to ≡ true) × (fixed-name n ≡ false) × (holds e n (entries e (used e b)) ≡ false)
+      × ((tag-for e told (length n) (entries e (used e b)) ≡ 0 → ⊥)) × (length (lay e (parent (used e b)) (inserted e told n to (entries e (used e b)))) ≤ data-length e b)
+  all-tests = inserts e told (parent (used e b)) n to (entries e (used e b)) (data-length e b) (insert-parts .1)
 
   pub insert-short : length n < 256
   insert-short = omega (arith, legal-bounds e n (all-tests .0))
 
-  pub insert-fits : length (lay e (parent (used e b)) (inserted e told n kind ino (entries e (used e b)))) ≤ data-length e b
+  pub insert-fits : length (lay e (parent (used e b)) (inserted e told n to (entries e (used e b)))) ≤ data-length e b
   insert-fits = all-tests .5
 
   few-entries : count-of (used e b) < 255
   unfolding inserted names-ok
   few-entries =
-      let y : SfEntry = entry (tag-for e told (length n) (entries e (used e b))) n kind ino in
+      let y : SfEntry = entry (tag-for e told (length n) (entries e (used e b))) n (kept-of e to) in
       let u = used-bounds e sane told b insert-passes (field 56 8 b) refl in
       let k : every (name-ok e) (placed y (entries e (used e b))) ≡ true =
       every-placed (name-ok e) y (entries e (used e b)) (and-both _ _ (all-tests .0) (rw (all-tests .2) refl)) (names-known e told (used e b) (used-passes e sane told b insert-passes)) in
@@ -243,24 +245,24 @@ module _ (e : Edition) (sane : Sane e) (told : ℕ) (b n : List ℕ) (kind ino :
     insert-few = rw lent few-entries
 
     pub insert-room : (T : ℕ) → T ≡ 2048
-        → length (lay e (parent (take (e .literal + z - e .literal) (drop (e .literal) b))) (inserted e told n kind ino (entries e (take (e .literal + z - e .literal) (drop (e .literal) b))))) ≤ T
-    insert-room T e₀ = rw lent (room e sane told b insert-passes (inserted e told n kind ino (entries e (used e b))) insert-fits T e₀)
+        → length (lay e (parent (take (e .literal + z - e .literal) (drop (e .literal) b))) (inserted e told n to (entries e (take (e .literal + z - e .literal) (drop (e .literal) b))))) ≤ T
+    insert-room T e₀ = rw lent (room e sane told b insert-passes (inserted e told n to (entries e (used e b))) insert-fits T e₀)
 
     pub put-in-is : (m s : ℕ) (t b₁ : List ℕ) → m ≡ data-length e b
-        → t ≡ put (replicate 2048 0) 0 (lay e (parent (take (e .literal + z - e .literal) (drop (e .literal) b))) (inserted e told n kind ino (entries e (take (e .literal + z - e .literal) (drop (e .literal) b)))))
-        → s ≡ length (lay e (parent (take (e .literal + z - e .literal) (drop (e .literal) b))) (inserted e told n kind ino (entries e (take (e .literal + z - e .literal) (drop (e .literal) b)))))
-        → b₁ ≡ put (put b 56 (to-be 8 s)) (e .literal) (take m t) → b₁ ≡ with-entries e b (inserted e told n kind ino (entries e (used e b)))
+        → t ≡ put (replicate 2048 0) 0 (lay e (parent (take (e .literal + z - e .literal) (drop (e .literal) b))) (inserted e told n to (entries e (take (e .literal + z - e .literal) (drop (e .literal) b)))))
+        → s ≡ length (lay e (parent (take (e .literal + z - e .literal) (drop (e .literal) b))) (inserted e told n to (entries e (take (e .literal + z - e .literal) (drop (e .literal) b)))))
+        → b₁ ≡ put (put b 56 (to-be 8 s)) (e .literal) (take m t) → b₁ ≡ with-entries e b (inserted e told n to (entries e (used e b)))
     put-in-is m s t b₁ e₀ f g k =
-        written-back e sane told b insert-passes (inserted e told n kind ino (entries e (used e b))) insert-fits m s t b₁ e₀ (rw lent at f) (rw lent at g) k
+        written-back e sane told b insert-passes (inserted e told n to (entries e (used e b))) insert-fits m s t b₁ e₀ (rw lent at f) (rw lent at g) k
 
-pub insert-alone : (e : Edition) (told c : ℕ) (b n : List ℕ) (kind ino : ℕ) → c ≡ insert-code e told b n kind ino → (c ≡ 0 → ⊥) → b ≡ insert-bytes e told b n kind ino
+pub insert-alone : (e : Edition) (told c : ℕ) (b n : List ℕ) (to : Target) → c ≡ insert-code e told b n to → (c ≡ 0 → ⊥) → b ≡ insert-bytes e told b n to
 unfolding insert-bytes
-insert-alone e told c b n kind ino h f = sym (rw (ne-eqb (insert-code e told b n kind ino) 0 (λ q. f (h ∙ q))) refl)
+insert-alone e told c b n to h f = sym (rw (ne-eqb (insert-code e told b n to) 0 (λ q. f (h ∙ q))) refl)
 
-pub insert-done : (e : Edition) (told c : ℕ) (b n b₁ : List ℕ) (kind ino : ℕ) → c ≡ insert-code e told b n kind ino → c ≡ 0
-    → b₁ ≡ with-entries e b (inserted e told n kind ino (entries e (used e b))) → b₁ ≡ insert-bytes e told b n kind ino
+pub insert-done : (e : Edition) (told c : ℕ) (b n b₁ : List ℕ) (to : Target) → c ≡ insert-code e told b n to → c ≡ 0
+    → b₁ ≡ with-entries e b (inserted e told n to (entries e (used e b))) → b₁ ≡ insert-bytes e told b n to
 unfolding insert-bytes
-insert-done e told c b n b₁ kind ino h f k = k ∙ sym (rw (eq-eqb (insert-code e told b n kind ino) 0 (sym h ∙ f)) refl)
+insert-done e told c b n b₁ to h f k = k ∙ sym (rw (eq-eqb (insert-code e told b n to) 0 (sym h ∙ f)) refl)
 
 -- of the edition that was made
 pub remove-made : (e f : Edition) (told : ℕ) (b n : List ℕ) (r : ℕ) → r ≡ remove-code e told b n → e ≡ f → r ≡ remove-code f told b n
@@ -269,8 +271,8 @@ remove-made e f told b n r h q = h ∙ ap (λ (x : Edition). remove-code x told 
 pub removed-made : (e f : Edition) (told : ℕ) (b n b₁ : List ℕ) → b₁ ≡ remove-bytes e told b n → e ≡ f → b₁ ≡ remove-bytes f told b n
 removed-made e f told b n b₁ h q = h ∙ ap (λ (x : Edition). remove-bytes x told b n) q
 
-pub insert-made : (e f : Edition) (told : ℕ) (b n : List ℕ) (kind ino r : ℕ) → r ≡ insert-code e told b n kind ino → e ≡ f → r ≡ insert-code f told b n kind ino
-insert-made e f told b n kind ino r h q = h ∙ ap (λ (x : Edition). insert-code x told b n kind ino) q
+pub insert-made : (e f : Edition) (told : ℕ) (b n : List ℕ) (to : Target) (r : ℕ) → r ≡ insert-code e told b n to → e ≡ f → r ≡ insert-code f told b n to
+insert-made e f told b n to r h q = h ∙ ap (λ (x : Edition). insert-code x told b n to) q
 
-pub inserted-made : (e f : Edition) (told : ℕ) (b n : List ℕ) (kind ino : ℕ) (b₁ : List ℕ) → b₁ ≡ insert-bytes e told b n kind ino → e ≡ f → b₁ ≡ insert-bytes f told b n kind ino
-inserted-made e f told b n kind ino b₁ h q = h ∙ ap (λ (x : Edition). insert-bytes x told b n kind ino) q
+pub inserted-made : (e f : Edition) (told : ℕ) (b n : List ℕ) (to : Target) (b₁ : List ℕ) → b₁ ≡ insert-bytes e told b n to → e ≡ f → b₁ ≡ insert-bytes f told b n to
+inserted-made e f told b n to b₁ h q = h ∙ ap (λ (x : Edition). insert-bytes x told b n to) q

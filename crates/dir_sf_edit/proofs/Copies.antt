@@ -9,10 +9,12 @@ use lib.ListN.{length, take, drop, getD, length-append, length-take, length-drop
 use Rattle.be.specs.Bytes.{field, put}
 use Rattle.be.proofs.Writes.{put-nothing, length-put, put-then}
 use Rattle.edition.specs.declared.Edition.{Edition}
+use Rattle.dir.specs.declared.Target.{Target}
+use Rattle.dir.specs.Target.{target}
 use Rattle.dir_sf.specs.Entry.{SfEntry, entry, entry-in, entries-in, enough, entry-bytes, entries-bytes}
 use Rattle.dir_sf_edit.proofs.ReadBack.{length-entry-bytes}
 use Rattle.dir_sf.proofs.Leaves.{one-in}
-use Rattle.dir_sf.proofs.Run.{Run, run-start, run-on, run-passed, run-one, entries-take, name-at-is, tag-at-is, inode-at-is, kind-at-is}
+use Rattle.dir_sf.proofs.Run.{Run, run-start, run-on, run-passed, run-one, entries-take, name-at-is, tag-at-is, target-at-is}
 
 pub entries-bytes-append : (e : Edition) (w : ℕ) (xs ys : List SfEntry) → entries-bytes e w (xs ++ ys) ≡ entries-bytes e w xs ++ entries-bytes e w ys
 unfolding entries-bytes
@@ -66,17 +68,15 @@ module _ (e : Edition) (w : ℕ) (u : List ℕ) (p n : ℕ) (one : enough e w 1 
   copy-ends v o r h = omega (arith, read-long)
 
   -- as it is read and written
-  pub copy-one : (v tag kind ino o : ℕ) (b b₁ : List ℕ) → tag ≡ field (p + 1) 2 u → kind ≡ field (p + 3 + n) (e .ftype) u → ino ≡ field (p + 3 + n + e .ftype) w u
-      → b₁ ≡ put b o (entry-bytes e v (entry tag (take (p + 3 + n - (p + 3)) (drop (p + 3) u)) kind ino))
+  pub copy-one : (v tag : ℕ) (t : Target) (o : ℕ) (b b₁ : List ℕ) → tag ≡ field (p + 1) 2 u → t ≡ target (field (p + 3 + n + e .ftype) w u) (field (p + 3 + n) (e .ftype) u)
+      → b₁ ≡ put b o (entry-bytes e v (entry tag (take (p + 3 + n - (p + 3)) (drop (p + 3) u)) t))
       → b₁ ≡ put b o (entry-bytes e v (entry-in e w (drop p u)))
-  copy-one v tag kind ino o b b₁ t y z f =
+  copy-one v tag t o b b₁ h y f =
       let l : p + 3 + n - (p + 3) ≡ getD u p 0 = omega arith in
-      let m : p + 3 + n ≡ p + 3 + getD u p 0 = omega arith in
-      let m' : p + 3 + n + e .ftype ≡ p + 3 + getD u p 0 + e .ftype = omega arith in
       let x : SfEntry = entry-in e w (drop p u) in
-      let a : entry tag (take (p + 3 + n - (p + 3)) (drop (p + 3) u)) kind ino ≡ entry (x .tag) (x .name) (x .kind) (x .inode) =
-      ap₂ (λ (t : ℕ) (nm : List ℕ). entry t nm kind ino) (t ∙ sym (tag-at-is e w u p)) (ap (λ (j : ℕ). take j (drop (p + 3) u)) l ∙ sym (name-at-is e w u p))
-      ∙ ap₂ (λ (kd i : ℕ). entry (x .tag) (x .name) kd i) (y ∙ ap (λ (j : ℕ). field j (e .ftype) u) m ∙ sym (kind-at-is e w u p)) (z ∙ ap (λ (j : ℕ). field j w u) m' ∙ sym (inode-at-is e w u p)) in
+      let a : entry tag (take (p + 3 + n - (p + 3)) (drop (p + 3) u)) t ≡ entry (x .tag) (x .name) (x .target) =
+      ap₂ (λ (o : ℕ) (nm : List ℕ). entry o nm t) (h ∙ sym (tag-at-is e w u p)) (ap (λ (j : ℕ). take j (drop (p + 3) u)) l ∙ sym (name-at-is e w u p))
+      ∙ ap (λ (z : Target). entry (x .tag) (x .name) z) (y ∙ sym (target-at-is e w u p n q)) in
       f ∙ ap (λ (e₀ : SfEntry). put b o (entry-bytes e v e₀)) a
 
 module _ (e : Edition) (w v : ℕ) (b₀ : List ℕ) (to : ℕ) (u : List ℕ) (at k i p : ℕ) (b : List ℕ) (o : ℕ) (s : Copy e w v b₀ to u at k i p b o) (h : i < k) where

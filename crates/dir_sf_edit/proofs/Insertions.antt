@@ -8,10 +8,13 @@ use mathlib.Core.List.{List, [], _∷_}
 use lib.Dec.{ltb}
 use lib.ListN.{length, length-append}
 use borrow.Author.Tests.{le-leb, lt-leb, ne-eqb, not-true, not-false}
+use Rattle.refusal.specs.Refusal.{ASKED, FIXED, EXISTS, NOROOM}
 use Rattle.be.specs.Lists.{tally, every}
 use Rattle.be.specs.Bytes.{byte, put}
 use Rattle.be.proofs.Bools.{by-cases, and-left, every-head, every-tail}
 use Rattle.edition.specs.declared.Edition.{Edition}
+use Rattle.dir.specs.declared.Target.{Target}
+use Rattle.dir.specs.Target.{legal-target, kept-of}
 use Rattle.name.specs.Name.{legal-name, legal-number, fixed-name}
 use Rattle.name.proofs.Legality.{legal-bounds}
 use Rattle.dir_sf.specs.Entry.{SfEntry, entry, width-of, entry-bytes, entries-bytes, is-wide, wides-of}
@@ -43,14 +46,14 @@ tally-le p (x ∷ xs) = by-cases (p x) (λ q. rw q (omega (arith, tally-le p xs)
 
 wides-le : (p : ℕ) (xs : List SfEntry) → wides-of p xs ≤ length xs
 unfolding wides-of
-wides-le p xs = tally-le (λ x. is-wide (x .inode)) xs
+wides-le p xs = tally-le (λ x. is-wide (x .target .inode)) xs
 
 -- ---- the size with the new entry in
 
 -- one wide number more, if the new one is wide
-pub placed-wide : (p : ℕ) (y : SfEntry) (xs : List SfEntry) → wides-of p (placed y xs) ≡ cond (is-wide (y .inode)) 1 0 + wides-of p xs
+pub placed-wide : (p : ℕ) (y : SfEntry) (xs : List SfEntry) → wides-of p (placed y xs) ≡ cond (is-wide (y .target .inode)) 1 0 + wides-of p xs
 unfolding wides-of
-placed-wide p y xs = tally-placed (λ x. is-wide (x .inode)) y xs
+placed-wide p y xs = tally-placed (λ x. is-wide (x .target .inode)) y xs
 
 pub placed-bytes : (e : Edition) (w : ℕ) (y : SfEntry) (xs : List SfEntry) → length (entries-bytes e w (placed y xs)) ≡ length (entry-bytes e w y) + length (entries-bytes e w xs)
 unfolding placed entries-bytes
@@ -65,14 +68,14 @@ unfolding entries-bytes
 wider e [] = omega arith
 wider e (x ∷ xs) = simp length-append (omega (arith, wider e xs, length-entry-bytes e 8 x, length-entry-bytes e 4 x))
 
-module _ (e : Edition) (u name : List ℕ) (r : Readable e u) (whole : length (lay e (parent u) (entries e u)) ≡ length u) (wides one tag kind ino m s : ℕ)
-    (b : wides ≡ byte 1 u) (g : one ≡ cond (is-wide ino) 1 0) (f : m ≡ e .ftype + width-of (wides + one)) (n : s ≡ length name) where
+module _ (e : Edition) (u name : List ℕ) (r : Readable e u) (whole : length (lay e (parent u) (entries e u)) ≡ length u) (wides one tag : ℕ) (to : Target) (m s : ℕ)
+    (b : wides ≡ byte 1 u) (g : one ≡ cond (is-wide (to .inode)) 1 0) (f : m ≡ e .ftype + width-of (wides + one)) (n : s ≡ length name) where
   before : wides-of (parent u) (entries e u) ≡ wides
   unfolding stored-wides
   before = sym (r .wides) ∙ sym b
 
-  later : wides-of (parent u) (placed (entry tag name kind ino) (entries e u)) ≡ wides + one
-  later = omega (arith, placed-wide (parent u) (entry tag name kind ino) (entries e u), before)
+  later : wides-of (parent u) (placed (entry tag name to) (entries e u)) ≡ wides + one
+  later = omega (arith, placed-wide (parent u) (entry tag name to) (entries e u), before)
 
   old-long : 2 + width-of wides + length (entries-bytes e (width-of wides) (entries e u)) ≡ length u
   old-long =
@@ -80,27 +83,27 @@ module _ (e : Edition) (u name : List ℕ) (r : Readable e u) (whole : length (l
       length-lay e (parent u) (entries e u) ∙ ap (λ (k : ℕ). 2 + width-of k + length (entries-bytes e (width-of k) (entries e u))) before in
       omega arith
 
-  new-long : length (lay e (parent u) (placed (entry tag name kind ino) (entries e u)))
+  new-long : length (lay e (parent u) (placed (entry tag name to) (entries e u)))
       ≡ 2 + width-of (wides + one) + (3 + length name + (e .ftype + width-of (wides + one)) + length (entries-bytes e (width-of (wides + one)) (entries e u)))
   new-long =
       let v : ℕ = width-of (wides + one) in
-      let l : length (lay e (parent u) (placed (entry tag name kind ino) (entries e u))) ≡ 2 + v + length (entries-bytes e v (placed (entry tag name kind ino) (entries e u))) =
-      length-lay e (parent u) (placed (entry tag name kind ino) (entries e u)) ∙ ap (λ (k : ℕ). 2 + width-of k + length (entries-bytes e (width-of k) (placed (entry tag name kind ino) (entries e u)))) later in
-      omega (arith, placed-bytes e v (entry tag name kind ino) (entries e u), length-entry-bytes e v (entry tag name kind ino))
+      let l : length (lay e (parent u) (placed (entry tag name to) (entries e u))) ≡ 2 + v + length (entries-bytes e v (placed (entry tag name to) (entries e u))) =
+      length-lay e (parent u) (placed (entry tag name to) (entries e u)) ∙ ap (λ (k : ℕ). 2 + width-of k + length (entries-bytes e (width-of k) (placed (entry tag name to) (entries e u)))) later in
+      omega (arith, placed-bytes e v (entry tag name to) (entries e u), length-entry-bytes e v (entry tag name to))
 
-  same-width : width-of (wides + one) ≡ width-of wides → length u + 3 + s + m ≡ length (lay e (parent u) (placed (entry tag name kind ino) (entries e u)))
+  same-width : width-of (wides + one) ≡ width-of wides → length u + 3 + s + m ≡ length (lay e (parent u) (placed (entry tag name to) (entries e u)))
   same-width h =
       let k : length (entries-bytes e (width-of (wides + one)) (entries e u)) ≡ length (entries-bytes e (width-of wides) (entries e u)) =
       ap (λ (z : ℕ). length (entries-bytes e z (entries e u))) h in
       omega (arith, old-long, new-long)
 
-  pub grown-wide : (wides ≡ 0 → ⊥) → length u + 3 + s + m ≡ length (lay e (parent u) (placed (entry tag name kind ino) (entries e u)))
+  pub grown-wide : (wides ≡ 0 → ⊥) → length u + 3 + s + m ≡ length (lay e (parent u) (placed (entry tag name to) (entries e u)))
   grown-wide h = same-width (sym (broad (wides + one) (λ z. h (omega arith))) ∙ broad wides h)
 
-  pub grown-narrow : wides ≡ 0 → wides + one ≡ 0 → length u + 3 + s + m ≡ length (lay e (parent u) (placed (entry tag name kind ino) (entries e u)))
+  pub grown-narrow : wides ≡ 0 → wides + one ≡ 0 → length u + 3 + s + m ≡ length (lay e (parent u) (placed (entry tag name to) (entries e u)))
   grown-narrow h k = same-width (sym (narrow (wides + one) k) ∙ narrow wides h)
 
-  pub grown-first : (c : ℕ) → wides ≡ 0 → (wides + one ≡ 0 → ⊥) → c ≡ byte 0 u → length u + 3 + s + m + 4 * (c + 1) ≡ length (lay e (parent u) (placed (entry tag name kind ino) (entries e u)))
+  pub grown-first : (c : ℕ) → wides ≡ 0 → (wides + one ≡ 0 → ⊥) → c ≡ byte 0 u → length u + 3 + s + m + 4 * (c + 1) ≡ length (lay e (parent u) (placed (entry tag name to) (entries e u)))
   unfolding count-of
   grown-first c h k a =
       let v : 8 ≡ width-of (wides + one) = broad (wides + one) k in
@@ -116,28 +119,28 @@ module _ (e : Edition) (u name : List ℕ) (r : Readable e u) (whole : length (l
 pub short-name : (e : Edition) (n : List ℕ) (t : Bool) → t ≡ legal-name e n → not t ≡ false → length n < 256
 short-name e n t h f = omega (arith, legal-bounds e n (sym h ∙ not-false t f))
 
-module _ (e : Edition) (told fork : ℕ) (n : List ℕ) (kind i p : ℕ) (xs : List SfEntry) (t₁ : Bool) (h₁ : t₁ ≡ legal-name e n) where
-  pub insert-name : not t₁ ≡ true → _≡_ {A = ℕ} 11 (insert-request e told fork n kind i p xs)
+module _ (e : Edition) (told fork : ℕ) (n : List ℕ) (to : Target) (p : ℕ) (xs : List SfEntry) (t₁ : Bool) (h₁ : t₁ ≡ legal-name e n) where
+  pub insert-name : not t₁ ≡ true → _≡_ {A = ℕ} ASKED (insert-request e told fork n to p xs)
   unfolding insert-request
   insert-name f = sym (rw (sym h₁ ∙ not-true t₁ f) refl)
 
-  module _ (g₁ : not t₁ ≡ false) (t₂ : Bool) (h₂ : t₂ ≡ legal-number i) where
-    pub insert-asked : not t₂ ≡ true → _≡_ {A = ℕ} 11 (insert-request e told fork n kind i p xs)
+  module _ (g₁ : not t₁ ≡ false) (t₂ : Bool) (h₂ : t₂ ≡ legal-target e to) where
+    pub insert-asked : not t₂ ≡ true → _≡_ {A = ℕ} ASKED (insert-request e told fork n to p xs)
     unfolding insert-request
     insert-asked f = sym (rw (sym h₁ ∙ not-false t₁ g₁, sym h₂ ∙ not-true t₂ f) refl)
 
     module _ (g₂ : not t₂ ≡ false) (t₃ : Bool) (h₃ : t₃ ≡ fixed-name n) where
-      pub insert-12 : t₃ ≡ true → _≡_ {A = ℕ} 12 (insert-request e told fork n kind i p xs)
+      pub insert-fixed : t₃ ≡ true → _≡_ {A = ℕ} FIXED (insert-request e told fork n to p xs)
       unfolding insert-request
-      insert-12 f = sym (rw (sym h₁ ∙ not-false t₁ g₁, sym h₂ ∙ not-false t₂ g₂, sym h₃ ∙ f) refl)
+      insert-fixed f = sym (rw (sym h₁ ∙ not-false t₁ g₁, sym h₂ ∙ not-false t₂ g₂, sym h₃ ∙ f) refl)
 
       module _ (g₃ : t₃ ≡ false) (t₄ : Bool) (h₄ : t₄ ≡ holds e n xs) where
-        pub insert-14 : t₄ ≡ true → _≡_ {A = ℕ} 14 (insert-request e told fork n kind i p xs)
+        pub insert-exists : t₄ ≡ true → _≡_ {A = ℕ} EXISTS (insert-request e told fork n to p xs)
         unfolding insert-request
-        insert-14 f = sym (rw (sym h₁ ∙ not-false t₁ g₁, sym h₂ ∙ not-false t₂ g₂, sym h₃ ∙ g₃, sym h₄ ∙ f) refl)
+        insert-exists f = sym (rw (sym h₁ ∙ not-false t₁ g₁, sym h₂ ∙ not-false t₂ g₂, sym h₃ ∙ g₃, sym h₄ ∙ f) refl)
 
         module _ (g₄ : t₄ ≡ false) where
-          last : insert-request e told fork n kind i p xs ≡ cond (has-room e told fork n kind i p xs) 0 15
+          last : insert-request e told fork n to p xs ≡ cond (has-room e told fork n to p xs) 0 NOROOM
           unfolding insert-request
           last = rw (sym h₁ ∙ not-false t₁ g₁, sym h₂ ∙ not-false t₂ g₂, sym h₃ ∙ g₃, sym h₄ ∙ g₄) refl
 
@@ -145,57 +148,57 @@ module _ (e : Edition) (told fork : ℕ) (n : List ℕ) (kind i p : ℕ) (xs : L
             tag-is : tag-for e told (length n) xs ≡ tag
             tag-is = ap (λ (z : ℕ). tag-for e told z xs) (sym l) ∙ sym ht
 
-            pub insert-no-tag : tag ≡ 0 → _≡_ {A = ℕ} 15 (insert-request e told fork n kind i p xs)
+            pub insert-no-tag : tag ≡ 0 → _≡_ {A = ℕ} NOROOM (insert-request e told fork n to p xs)
             unfolding has-room
             insert-no-tag f = sym (last ∙ rw (tag-is ∙ f) refl)
 
-            module _ (f : tag ≡ 0 → ⊥) (z : ℕ) (hz : z ≡ length (lay e p (placed (entry tag n kind i) xs))) where
-              size-is : length (lay e p (inserted e told n kind i xs)) ≡ z
+            module _ (f : tag ≡ 0 → ⊥) (x : Target) (hx : x ≡ kept-of e to) (z : ℕ) (hz : z ≡ length (lay e p (placed (entry tag n x) xs))) where
+              size-is : length (lay e p (inserted e told n to xs)) ≡ z
               unfolding inserted
-              size-is = ap (λ (k : ℕ). length (lay e p (placed (entry k n kind i) xs))) tag-is ∙ sym hz
+              size-is = ap₂ (λ (k : ℕ) (y : Target). length (lay e p (placed (entry k n y) xs))) tag-is (sym hx) ∙ sym hz
 
-              pub insert-no-fit : fork < z → _≡_ {A = ℕ} 15 (insert-request e told fork n kind i p xs)
+              pub insert-no-fit : fork < z → _≡_ {A = ℕ} NOROOM (insert-request e told fork n to p xs)
               unfolding has-room
               insert-no-fit h = sym (last ∙ rw (tag-is, ne-eqb tag 0 f, size-is, lt-leb z fork h) refl)
 
-              pub insert-0 : z ≤ fork → _≡_ {A = ℕ} 0 (insert-request e told fork n kind i p xs)
+              pub insert-done : z ≤ fork → _≡_ {A = ℕ} 0 (insert-request e told fork n to p xs)
               unfolding has-room
-              insert-0 h = sym (last ∙ rw (tag-is, ne-eqb tag 0 f, size-is, le-leb z fork h) refl)
+              insert-done h = sym (last ∙ rw (tag-is, ne-eqb tag 0 f, size-is, le-leb z fork h) refl)
 
 -- ---- the directory with the entry in
 
-module _ (e : Edition) (u name : List ℕ) (r : Readable e u) (told wides one s tag kind ino index : ℕ) (b : wides ≡ byte 1 u) (g : one ≡ cond (is-wide ino) 1 0)
+module _ (e : Edition) (u name : List ℕ) (r : Readable e u) (told wides one s tag : ℕ) (to x : Target) (index : ℕ) (b : wides ≡ byte 1 u) (g : one ≡ cond (is-wide (to .inode)) 1 0) (hx : x ≡ kept-of e to)
     (n : s ≡ length name) (ht : tag ≡ tag-for e told s (entries e u)) (hi : index ≡ rank tag (entries e u)) where
-  new-is : inserted e told name kind ino (entries e u) ≡ with-nth index (entry tag name kind ino) (entries e u)
+  new-is : inserted e told name to (entries e u) ≡ with-nth index (entry tag name x) (entries e u)
   unfolding inserted
   new-is =
-      ap (λ (z : ℕ). placed (entry z name kind ino) (entries e u)) (ap (λ (z : ℕ). tag-for e told z (entries e u)) (sym n) ∙ sym ht)
-      ∙ placed-nth (entry tag name kind ino) (entries e u) ∙ ap (λ (z : ℕ). with-nth z (entry tag name kind ino) (entries e u)) (sym hi)
+      ap₂ (λ (z : ℕ) (y : Target). placed (entry z name y) (entries e u)) (ap (λ (z : ℕ). tag-for e told z (entries e u)) (sym n) ∙ sym ht) (sym hx)
+      ∙ placed-nth (entry tag name x) (entries e u) ∙ ap (λ (z : ℕ). with-nth z (entry tag name x) (entries e u)) (sym hi)
 
-  new-count : length (inserted e told name kind ino (entries e u)) ≡ count-of u + 1
+  new-count : length (inserted e told name to (entries e u)) ≡ count-of u + 1
   unfolding inserted
   new-count = length-placed _ (entries e u) ∙ omega (arith, count-is e u)
 
-  new-wides : wides-of (parent u) (inserted e told name kind ino (entries e u)) ≡ wides + one
+  new-wides : wides-of (parent u) (inserted e told name to (entries e u)) ≡ wides + one
   unfolding inserted stored-wides
-  new-wides = omega (arith, placed-wide (parent u) (entry (tag-for e told (length name) (entries e u)) name kind ino) (entries e u), r .wides)
+  new-wides = omega (arith, placed-wide (parent u) (entry (tag-for e told (length name) (entries e u)) name (kept-of e to)) (entries e u), r .wides)
 
-  grow-is : laid e (count-of u + 1) (wides + one) (parent u) (with-nth index (entry tag name kind ino) (entries e u)) ≡ lay e (parent u) (inserted e told name kind ino (entries e u))
+  grow-is : laid e (count-of u + 1) (wides + one) (parent u) (with-nth index (entry tag name x) (entries e u)) ≡ lay e (parent u) (inserted e told name to (entries e u))
   unfolding lay
   grow-is =
-      sym (ap₂ (λ (c₁ c₂ : ℕ). laid e c₁ c₂ (parent u) (inserted e told name kind ino (entries e u))) new-count new-wides
+      sym (ap₂ (λ (c₁ c₂ : ℕ). laid e c₁ c₂ (parent u) (inserted e told name to (entries e u))) new-count new-wides
       ∙ ap (laid e (count-of u + 1) (wides + one) (parent u)) new-is)
 
-  pub grow-room : (T : ℕ) → length (lay e (parent u) (inserted e told name kind ino (entries e u))) ≤ T
-      → length (laid e (count-of u + 1) (wides + one) (parent u) (with-nth index (entry tag name kind ino) (entries e u))) ≤ T
+  pub grow-room : (T : ℕ) → length (lay e (parent u) (inserted e told name to (entries e u))) ≤ T
+      → length (laid e (count-of u + 1) (wides + one) (parent u) (with-nth index (entry tag name x) (entries e u))) ≤ T
   grow-room T h = subst (λ (l : List ℕ). length l ≤ T) (sym grow-is) h
 
-  pub grow-bytes : (t t₁ : List ℕ) → t₁ ≡ put t 0 (laid e (count-of u + 1) (wides + one) (parent u) (with-nth index (entry tag name kind ino) (entries e u)))
-      → t₁ ≡ put t 0 (lay e (parent u) (inserted e told name kind ino (entries e u)))
+  pub grow-bytes : (t t₁ : List ℕ) → t₁ ≡ put t 0 (laid e (count-of u + 1) (wides + one) (parent u) (with-nth index (entry tag name x) (entries e u)))
+      → t₁ ≡ put t 0 (lay e (parent u) (inserted e told name to (entries e u)))
   grow-bytes t t₁ h = h ∙ ap (put t 0) grow-is
 
-  pub grow-size : (z : ℕ) → z ≡ length (laid e (count-of u + 1) (wides + one) (parent u) (with-nth index (entry tag name kind ino) (entries e u)))
-      → z ≡ length (lay e (parent u) (inserted e told name kind ino (entries e u)))
+  pub grow-size : (z : ℕ) → z ≡ length (laid e (count-of u + 1) (wides + one) (parent u) (with-nth index (entry tag name x) (entries e u)))
+      → z ≡ length (lay e (parent u) (inserted e told name to (entries e u)))
   grow-size z h = h ∙ ap length grow-is
 
 pub wides-small : (e : Edition) (u : List ℕ) (wides one : ℕ) → Readable e u → wides ≡ byte 1 u → one ≤ 1 → count-of u < 255 → wides + one < 256

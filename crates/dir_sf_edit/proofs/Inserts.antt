@@ -86,17 +86,17 @@ placed-once e y (x ∷ xs) h o =
     (λ q. rw q (once-cons e y (x ∷ xs) h o))
     (λ q. rw q (once-cons e x (placed y xs) (apart-from e y x xs h (once-head e x xs o)) (placed-once e y xs (rest-absent e (y .name) x xs h) (once-tail e x xs o))))
 
-pub placed-number : (e : Edition) (m : List ℕ) (y : SfEntry) (xs : List SfEntry) → holds e (y .name) xs ≡ false
-    → target-in e m (placed y xs) ≡ cond (same-name e m (y .name)) (y .inode) (target-in e m xs)
+pub placed-target : (e : Edition) (m : List ℕ) (y : SfEntry) (xs : List SfEntry) → holds e (y .name) xs ≡ false
+    → target-in e m (placed y xs) ≡ cond (same-name e m (y .name)) (y .target) (target-in e m xs)
 unfolding placed target-in
-placed-number e m y [] h = refl
-placed-number e m y (x ∷ xs) h =
+placed-target e m y [] h = refl
+placed-target e m y (x ∷ xs) h =
     by-cases (ltb (y .tag) (x .tag))
     (λ q. rw q refl)
     (λ q.
     by-cases (same-name e m (x .name))
     (λ r. rw (q, r, other-name e m y x xs h r) refl)
-    (λ r. rw (q, r) (placed-number e m y xs (rest-absent e (y .name) x xs h))))
+    (λ r. rw (q, r) (placed-target e m y xs (rest-absent e (y .name) x xs h))))
 
 -- ---- the tags
 

@@ -12,7 +12,10 @@ use Rattle.dir_sf.proofs.Inodes.{least}
 use Rattle.be.proofs.Bools.{and-left, and-right, and-both, by-cases}
 use Rattle.be.proofs.Codes.{passes}
 use Rattle.edition.specs.declared.Edition.{Edition}
-use Rattle.edition.specs.Edition.{entry-size}
+use Rattle.edition.specs.Edition.{entry-size, Sane}
+use Rattle.dir.specs.declared.Target.{Target}
+use Rattle.dir.specs.Target.{legal-target, kept-of}
+use Rattle.dir.proofs.FileTypes.{target-number, target-type, kept-fits}
 use Rattle.name.specs.Name.{legal-name, legal-number, same-name, fixed-name}
 use Rattle.dir_sf.specs.Entry.{SfEntry, entry, width-of, entries-bytes, is-wide, wides-of, next-tag, tags-ok, end-tag, in-block}
 use Rattle.dir_sf.specs.Fork.{name-ok, names-ok, numbers-ok, holds, lay, lay-fork, fork-verdict}
@@ -23,15 +26,15 @@ use Rattle.dir_sf_edit.proofs.Removes.{removed-good}
 use Rattle.dir_sf_edit.proofs.Inserts.{Tags, every-placed, length-placed, tally-placed, placed-once, placed-last, placed-in-gap, end-eights}
 
 -- what an insert that is done has passed
-module _ (e : Edition) (told p : ℕ) (n : List ℕ) (kind i : ℕ) (xs : List SfEntry) (fork : ℕ) (done : insert-request e told fork n kind i p xs ≡ 0) where
-  pub inserts : (legal-name e n ≡ true) × (legal-number i ≡ true) × (fixed-name n ≡ false) × (holds e n xs ≡ false)
-      × ((tag-for e told (length n) xs ≡ 0 → ⊥)) × (length (lay e p (inserted e told n kind i xs)) ≤ fork)
+module _ (e : Edition) (told p : ℕ) (n : List ℕ) (to : Target) (xs : List SfEntry) (fork : ℕ) (done : insert-request e told fork n to p xs ≡ 0) where
+  pub inserts : (legal-name e n ≡ true) × (legal-target e to ≡ true) × (fixed-name n ≡ false) × (holds e n xs ≡ false)
+      × ((tag-for e told (length n) xs ≡ 0 → ⊥)) × (length (lay e p (inserted e told n to xs)) ≤ fork)
   unfolding insert-request has-room
   inserts =
-      let a = passes (legal-name e n && legal-number i) 10 _ done in
+      let a = passes (legal-name e n && legal-target e to) 10 _ done in
       let b = passes (not (fixed-name n)) 11 _ (a .1) in
       let c = passes (not (holds e n xs)) 13 _ (b .1) in
-      let d = passes (not (eqb (tag-for e told (length n) xs) 0) && leb (length (lay e p (inserted e told n kind i xs))) fork) 14 _ (c .1) in (
+      let d = passes (not (eqb (tag-for e told (length n) xs) 0) && leb (length (lay e p (inserted e told n to xs))) fork) 14 _ (c .1) in (
         and-left _ _ (a .0),
         and-right (legal-name e n) _ (a .0),
         not-true _ (b .0),
@@ -40,7 +43,7 @@ module _ (e : Edition) (told p : ℕ) (n : List ℕ) (kind i : ℕ) (xs : List S
         leb-true _ _ (and-right (not (eqb (tag-for e told (length n) xs) 0)) _ (d .0)),
       )
 
-module _ (e : Edition) (ok : Tags e) (told p : ℕ) (n : List ℕ) (kind i : ℕ) (xs : List SfEntry) (g : Good e told p xs) where
+module _ (e : Edition) (ok : Tags e) (told p : ℕ) (n : List ℕ) (to : Target) (xs : List SfEntry) (g : Good e told p xs) where
   -- the tags and the block's limit, with the new entry in
   abbrev Fits-in : SfEntry → Type 0
   Fits-in y = (tags-ok e (e .first) (placed y xs) ≡ true) × (in-block told (end-tag e (e .first) (placed y xs)) (length (placed y xs)) ≡ true)
@@ -71,27 +74,28 @@ module _ (e : Edition) (ok : Tags e) (told p : ℕ) (n : List ℕ) (kind i : ℕ
       (λ b. in-gap y q b (sym (rw (a, b) at t)) z)
       (λ b. absurd (z (rw (a, b) at t))))
 
-  module _ (fork : ℕ) (fits : kind < 256 ^ e .ftype) (done : insert-request e told fork n kind i p xs ≡ 0) where
+  module _ (fork : ℕ) (sane : Sane e) (done : insert-request e told fork n to p xs ≡ 0) where
     -- good before, good after
-    pub inserted-good : Good e told p (inserted e told n kind i xs)
+    pub inserted-good : Good e told p (inserted e told n to xs)
     unfolding inserted names-ok numbers-ok wides-of
     inserted-good =
-        let y : SfEntry = entry (tag-for e told (length n) xs) n kind i in
-        let f = tag-fits y refl refl (inserts e told p n kind i xs fork done .4) in
+        let y : SfEntry = entry (tag-for e told (length n) xs) n (kept-of e to) in
+        let legal : legal-target e to ≡ true = inserts e told p n to xs fork done .1 in
+        let f = tag-fits y refl refl (inserts e told p n to xs fork done .4) in
         record {
           tags = f .0;
           within = f .1;
-          names = every-placed (name-ok e) y xs (and-both _ _ (inserts e told p n kind i xs fork done .0) (rw (inserts e told p n kind i xs fork done .2) refl)) (g .names);
-          numbers = and-both _ _ (and-left (legal-number p) _ (g .numbers)) (every-placed (λ x. legal-number (x .inode)) y xs (inserts e told p n kind i xs fork done .1) (and-right (legal-number p) _ (g .numbers)));
-          once = placed-once e y xs (inserts e told p n kind i xs fork done .3) (g .once);
-          kinds = every-placed (λ x. ltb (x .kind) (256 ^ e .ftype)) y xs (lt-ltb _ _ fits) (g .kinds);
-          parent-fits = λ z. g .parent-fits (omega (arith, tally-placed (λ x. is-wide (x .inode)) y xs));
+          names = every-placed (name-ok e) y xs (and-both _ _ (inserts e told p n to xs fork done .0) (rw (inserts e told p n to xs fork done .2) refl)) (g .names);
+          numbers = and-both _ _ (and-left (legal-number p) _ (g .numbers)) (every-placed (λ x. legal-number (x .target .inode)) y xs (target-number e to legal) (and-right (legal-number p) _ (g .numbers)));
+          once = placed-once e y xs (inserts e told p n to xs fork done .3) (g .once);
+          kinds = every-placed (λ x. ltb (x .target .kind) (256 ^ e .ftype)) y xs (lt-ltb _ _ (kept-fits e sane to (target-type e to legal))) (g .kinds);
+          parent-fits = λ z. g .parent-fits (omega (arith, tally-placed (λ x. is-wide (x .target .inode)) y xs));
         }
 
     -- 01's law: the fork that is left is accepted
     pub insert-accepted : told ≤ 65536
-        → fork-verdict e told (lay-fork e fork p (inserted e told n kind i xs)) (length (lay e p (inserted e told n kind i xs))) ≡ 0
-    insert-accepted s = laid-accepted e told p (inserted e told n kind i xs) s inserted-good fork (inserts e told p n kind i xs fork done .5)
+        → fork-verdict e told (lay-fork e fork p (inserted e told n to xs)) (length (lay e p (inserted e told n to xs))) ≡ 0
+    insert-accepted s = laid-accepted e told p (inserted e told n to xs) s inserted-good fork (inserts e told p n to xs fork done .5)
 
 -- ---- removal: what is left is no longer than what was there
 

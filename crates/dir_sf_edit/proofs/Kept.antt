@@ -10,6 +10,8 @@ use Rattle.be.specs.Bytes.{bytes}
 use Rattle.edition.specs.declared.Edition.{Edition}
 use Rattle.edition.specs.Edition.{Sane}
 use Rattle.edition.proofs.Sizes.{block-size-bounds}
+use Rattle.dir.specs.declared.Target.{Target}
+use Rattle.dir.specs.Target.{target, no-target, legal-type, kept-of}
 use Rattle.name.specs.Name.{same-name}
 use Rattle.dinode.specs.Core.{data-length}
 use Rattle.dir_sf.specs.Entry.{SfEntry, entry}
@@ -17,11 +19,11 @@ use Rattle.dir_sf.specs.Fork.{parent, entries, holds, lay}
 use Rattle.dir_sf.specs.Change.{target-in, tag-for, inserted, removed}
 use Rattle.dir_sf.specs.Inode.{used, verdict, insert-code, remove-code, with-entries, insert-bytes, remove-bytes}
 use Rattle.dir_sf.proofs.Tested.{is-told, used-passes, used-header}
-use Rattle.dir_sf_edit.specs.Laws.{Kind, Insert-accepted, Remove-accepted, Differs, Insert-names, Remove-names, Put-back}
+use Rattle.dir_sf_edit.specs.Laws.{Insert-accepted, Remove-accepted, Differs, Insert-names, Remove-names, Put-back}
 use Rattle.dir_sf_edit.proofs.ReadBack.{lay-entries, lay-parent}
 use Rattle.dir_sf_edit.proofs.Accepted.{Good, good-fit, good-parent, used-good, laid-accepted}
-use Rattle.dir_sf_edit.proofs.Removes.{removed-good, removed-number, removed-held}
-use Rattle.dir_sf_edit.proofs.Inserts.{Tags, placed-holds, placed-number}
+use Rattle.dir_sf_edit.proofs.Removes.{removed-good, removed-target, removed-held}
+use Rattle.dir_sf_edit.proofs.Inserts.{Tags, placed-holds, placed-target}
 use Rattle.dir_sf_edit.proofs.Keeps.{inserts, inserted-good}
 use Rattle.dir_sf_edit.proofs.Changes.{insert-passes, insert-answers, insert-fits, remove-passes, remove-answers, remove-fits, lay-fits}
 use Rattle.dir_sf_edit.proofs.Untouched.{fork-kept, used-after, verdict-after, used-bytes}
@@ -54,42 +56,42 @@ or-cond false b = refl
 
 -- ---- insert
 
-module _ (e : Edition) (sane : Sane e) (told : ℕ) (b n : List ℕ) (kind i : ℕ) (by : bytes b ≡ true) (k : Kind e kind) (done : insert-code e told b n kind i ≡ 0) where
+module _ (e : Edition) (sane : Sane e) (told : ℕ) (b n : List ℕ) (to : Target) (by : bytes b ≡ true) (done : insert-code e told b n to ≡ 0) where
   new : List SfEntry
-  new = inserted e told n kind i (entries e (used e b))
+  new = inserted e told n to (entries e (used e b))
 
   v : verdict e told b ≡ 0
-  v = insert-passes e sane told b n kind i done
+  v = insert-passes e sane told b n to done
 
   new-good : Good e told (parent (used e b)) new
   unfolding new
   new-good =
-      inserted-good e (tags-of e sane) told (parent (used e b)) n kind i (entries e (used e b)) (good e sane told b by v) (data-length e b) k
-      (insert-answers e sane told b n kind i done)
+      inserted-good e (tags-of e sane) told (parent (used e b)) n to (entries e (used e b)) (good e sane told b by v) (data-length e b) sane
+      (insert-answers e sane told b n to done)
 
   new-fits : length (lay e (parent (used e b)) new) ≤ data-length e b
   unfolding new
-  new-fits = insert-fits e sane told b n kind i done
+  new-fits = insert-fits e sane told b n to done
 
-  is-with : insert-bytes e told b n kind i ≡ with-entries e b new
+  is-with : insert-bytes e told b n to ≡ with-entries e b new
   unfolding insert-bytes new
   is-with = rw done refl
 
-  insert-keeps : verdict e told (insert-bytes e told b n kind i) ≡ 0
+  insert-keeps : verdict e told (insert-bytes e told b n to) ≡ 0
   insert-keeps = ap (verdict e told) is-with ∙ accepted e sane told b by v new new-good new-fits
 
   absent : holds e n (entries e (used e b)) ≡ false
-  absent = inserts e told (parent (used e b)) n kind i (entries e (used e b)) (data-length e b) (insert-answers e sane told b n kind i done) .3
+  absent = inserts e told (parent (used e b)) n to (entries e (used e b)) (data-length e b) (insert-answers e sane told b n to done) .3
 
-  insert-tells : Differs e b (insert-bytes e told b n kind i) n true i
+  insert-tells : Differs e b (insert-bytes e told b n to) n true (kept-of e to)
   unfolding new inserted
   insert-tells =
-      let y : SfEntry = entry (tag-for e told (length n) (entries e (used e b))) n kind i in
-      let r : entries e (used e (insert-bytes e told b n kind i)) ≡ new = ap (λ (c : List ℕ). entries e (used e c)) is-with ∙ read e sane told b by v new new-good new-fits in
+      let y : SfEntry = entry (tag-for e told (length n) (entries e (used e b))) n (kept-of e to) in
+      let r : entries e (used e (insert-bytes e told b n to)) ≡ new = ap (λ (c : List ℕ). entries e (used e c)) is-with ∙ read e sane told b by v new new-good new-fits in
       record {
         same-parent = ap (λ (c : List ℕ). parent (used e c)) is-with ∙ read-parent e sane told b by v new new-good new-fits;
         names = λ m. ap (holds e m) r ∙ placed-holds e m y (entries e (used e b)) ∙ or-cond (same-name e m n) (holds e m (entries e (used e b)));
-        numbers = λ m. ap (target-in e m) r ∙ placed-number e m y (entries e (used e b)) absent;
+        targets = λ m. ap (target-in e m) r ∙ placed-target e m y (entries e (used e b)) absent;
       }
 
 -- ---- removal
@@ -122,28 +124,28 @@ module _ (e : Edition) (sane : Sane e) (told : ℕ) (b n : List ℕ) (by : bytes
   now-parent : parent (used e (remove-bytes e told b n)) ≡ parent (used e b)
   now-parent = ap (λ (c : List ℕ). parent (used e c)) was-with ∙ read-parent e sane told b by u left left-good left-fits
 
-  remove-tells : Differs e b (remove-bytes e told b n) n false 0
+  remove-tells : Differs e b (remove-bytes e told b n) n false no-target
   unfolding left
   remove-tells =
       record {
         same-parent = now-parent;
         names = λ m. ap (holds e m) now-read ∙ removed-held e n m (entries e (used e b)) (good e sane told b by u .once);
-        numbers = λ m. ap (target-in e m) now-read ∙ removed-number e n m (entries e (used e b)) (good e sane told b by u .once);
+        targets = λ m. ap (target-in e m) now-read ∙ removed-target e n m (entries e (used e b)) (good e sane told b by u .once);
       }
 
-  goes-back : (kind : ℕ) → insert-code e told (remove-bytes e told b n) n kind (target-in e n (entries e (used e b))) ≡ 0
+  goes-back : (kind : ℕ) → legal-type e kind ≡ true → insert-code e told (remove-bytes e told b n) n (target (target-in e n (entries e (used e b)) .inode) kind) ≡ 0
   unfolding insert-code left
-  goes-back kind =
+  goes-back kind t =
       let f : data-length e (remove-bytes e told b n) ≡ data-length e b = ap (data-length e) was-with ∙ fork-kept e sane told b u left left-fits in
       rw (remove-keeps, now-read, now-parent, f)
-      (back-in e (tags-of e sane) told (parent (used e b)) (data-length e b) n kind (entries e (used e b)) (good e sane told b by u) (remove-answers e sane told b n done) (lay-fits e sane told b u))
+      (back-in e (tags-of e sane) told (parent (used e b)) (data-length e b) n kind t (entries e (used e b)) (good e sane told b by u) (remove-answers e sane told b n done) (lay-fits e sane told b u))
 
 -- ---- the laws
 
 module _ (e : Edition) (sane : Sane e) where
   pub insert-accepted : Insert-accepted e
   unfolding Insert-accepted
-  insert-accepted told b n kind i by k done = insert-keeps e sane told b n kind i by k done
+  insert-accepted told b n to by done = insert-keeps e sane told b n to by done
 
   pub remove-accepted : Remove-accepted e
   unfolding Remove-accepted
@@ -151,7 +153,7 @@ module _ (e : Edition) (sane : Sane e) where
 
   pub insert-names : Insert-names e
   unfolding Insert-names
-  insert-names told b n kind i by k done = insert-tells e sane told b n kind i by k done
+  insert-names told b n to by done = insert-tells e sane told b n to by done
 
   pub remove-names : Remove-names e
   unfolding Remove-names
@@ -159,4 +161,4 @@ module _ (e : Edition) (sane : Sane e) where
 
   pub put-back : Put-back e
   unfolding Put-back
-  put-back told b n kind by done = goes-back e sane told b n by done kind
+  put-back told b n kind by t done = goes-back e sane told b n by done kind t

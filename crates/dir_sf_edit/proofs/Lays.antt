@@ -11,6 +11,7 @@ use Rattle.be.specs.Bytes.{byte, to-be, put}
 use Rattle.be.proofs.Numbers.{length-to-be, to-be-1}
 use Rattle.be.proofs.Writes.{put-then}
 use Rattle.edition.specs.declared.Edition.{Edition}
+use Rattle.dir.specs.declared.Target.{Target}
 use Rattle.dir_sf.specs.Entry.{SfEntry, entry, width-of, entry-bytes, entries-bytes}
 use Rattle.dir_sf.specs.Fork.{laid, count-of, parent, entries}
 use Rattle.dir_sf.specs.Change.{without-nth, with-nth}
@@ -104,23 +105,23 @@ module _ (e : Edition) (u : List ℕ) (index after c : ℕ) (a : c ≡ byte 0 u)
 
 -- ---- with one more
 
-module _ (e : Edition) (u : List ℕ) (index after tag kind ino c : ℕ) (name : List ℕ) (a : c ≡ byte 0 u) where
-  more : laid e (count-of u + 1) after (parent u) (with-nth index (entry tag name kind ino) (entries e u))
-      ≡ laid e (c + 1) after (parent u) (take index (entries e u) ++ (entry tag name kind ino ∷ drop index (entries e u)))
+module _ (e : Edition) (u : List ℕ) (index after tag : ℕ) (to : Target) (c : ℕ) (name : List ℕ) (a : c ≡ byte 0 u) where
+  more : laid e (count-of u + 1) after (parent u) (with-nth index (entry tag name to) (entries e u))
+      ≡ laid e (c + 1) after (parent u) (take index (entries e u) ++ (entry tag name to ∷ drop index (entries e u)))
   unfolding with-nth count-of
-  more = ap (λ (j : ℕ). laid e (j + 1) after (parent u) (take index (entries e u) ++ (entry tag name kind ino ∷ drop index (entries e u)))) (sym a)
+  more = ap (λ (j : ℕ). laid e (j + 1) after (parent u) (take index (entries e u) ++ (entry tag name to ∷ drop index (entries e u)))) (sym a)
 
-  with-long : length (laid e (count-of u + 1) after (parent u) (with-nth index (entry tag name kind ino) (entries e u)))
+  with-long : length (laid e (count-of u + 1) after (parent u) (with-nth index (entry tag name to) (entries e u)))
       ≡ length (laid e (c + 1) after (parent u) (take index (entries e u))) + (3 + length name + (e .ftype + width-of after))
       + length (entries-bytes e (width-of after) (drop index (entries e u)))
   with-long =
-      let y : SfEntry = entry tag name kind ino in
+      let y : SfEntry = entry tag name to in
       let ys : List SfEntry = drop index (entries e u) in
       let g : length (entries-bytes e (width-of after) (y ∷ ys)) ≡ length (entry-bytes e (width-of after) y) + length (entries-bytes e (width-of after) ys) =
       ap length (bytes-cons e (width-of after) y ys) ∙ length-append (entry-bytes e (width-of after) y) (entries-bytes e (width-of after) ys) in
       ap length more ∙ append-long e (c + 1) after (parent u) (take index (entries e u)) (y ∷ ys) ∙ omega (arith, length-entry-bytes e (width-of after) y)
 
-  module _ (T : ℕ) (room : length (laid e (count-of u + 1) after (parent u) (with-nth index (entry tag name kind ino) (entries e u))) ≤ T) where
+  module _ (T : ℕ) (room : length (laid e (count-of u + 1) after (parent u) (with-nth index (entry tag name to) (entries e u))) ≤ T) where
     pub with-1 : length (laid e (c + 1) after (parent u) (take index (entries e u))) ≤ T
     with-1 = omega (arith, with-long)
 
@@ -133,16 +134,16 @@ module _ (e : Edition) (u : List ℕ) (index after tag kind ino c : ℕ) (name :
 
   pub with-size : (m z r : ℕ) → m ≡ length (laid e (c + 1) after (parent u) (take index (entries e u)))
       → z ≡ m + (3 + length name + (e .ftype + width-of after)) → r ≡ z + length (entries-bytes e (width-of after) (drop index (entries e u)))
-      → r ≡ length (laid e (count-of u + 1) after (parent u) (with-nth index (entry tag name kind ino) (entries e u)))
+      → r ≡ length (laid e (count-of u + 1) after (parent u) (with-nth index (entry tag name to) (entries e u)))
   with-size m z r b d f = omega (arith, with-long)
 
   pub with-laid : (m z : ℕ) (t t₁ t₂ t₃ : List ℕ) → t₁ ≡ put t 0 (laid e (c + 1) after (parent u) (take index (entries e u)))
       → m ≡ length (laid e (c + 1) after (parent u) (take index (entries e u)))
-      → t₂ ≡ put t₁ m (entry-bytes e (width-of after) (entry tag name kind ino)) → z ≡ m + (3 + length name + (e .ftype + width-of after))
+      → t₂ ≡ put t₁ m (entry-bytes e (width-of after) (entry tag name to)) → z ≡ m + (3 + length name + (e .ftype + width-of after))
       → t₃ ≡ put t₂ z (entries-bytes e (width-of after) (drop index (entries e u)))
-      → t₃ ≡ put t 0 (laid e (count-of u + 1) after (parent u) (with-nth index (entry tag name kind ino) (entries e u)))
+      → t₃ ≡ put t 0 (laid e (count-of u + 1) after (parent u) (with-nth index (entry tag name to) (entries e u)))
   with-laid m z t t₁ t₂ t₃ h b k d f =
-      let y : SfEntry = entry tag name kind ino in
+      let y : SfEntry = entry tag name to in
       let ys : List SfEntry = drop index (entries e u) in
       let l : z ≡ m + length (entry-bytes e (width-of after) y) = omega (arith, length-entry-bytes e (width-of after) y) in
       let q : t₃ ≡ put t₁ m (entries-bytes e (width-of after) (y ∷ ys)) =

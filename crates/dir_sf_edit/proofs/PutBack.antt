@@ -14,6 +14,9 @@ use Rattle.be.proofs.Bools.{by-cases, clash, and-right, every-head, every-tail}
 use Rattle.be.proofs.Codes.{passes}
 use Rattle.edition.specs.declared.Edition.{Edition}
 use Rattle.edition.specs.Edition.{entry-size}
+use Rattle.dir.specs.declared.Target.{Target}
+use Rattle.dir.specs.Target.{target, legal-type, legal-target, kept-of}
+use Rattle.dir.proofs.FileTypes.{target-both}
 use Rattle.name.specs.Name.{legal-name, legal-number, same-name, fixed-name}
 use Rattle.name.proofs.Same.{same-name-refl, same-name-length}
 use Rattle.dir_sf.specs.Entry.{SfEntry, entry, width-of, entries-bytes, wides-of, next-tag, tags-ok, end-tag, in-block}
@@ -96,15 +99,15 @@ removed-bytes e w n (x ∷ xs) h =
     (λ q. rw q (simp length-append (omega (arith, length-entry-bytes e w x, same-name-length e n (x .name) q))))
     (λ q. rw q (simp length-append (omega (arith, length-entry-bytes e w x, removed-bytes e w n xs (rw q at h)))))
 
-number-legal : (e : Edition) (n : List ℕ) (xs : List SfEntry) → holds e n xs ≡ true → every (λ x. legal-number (x .inode)) xs ≡ true → legal-number (target-in e n xs) ≡ true
+number-legal : (e : Edition) (n : List ℕ) (xs : List SfEntry) → holds e n xs ≡ true → every (λ x. legal-number (x .target .inode)) xs ≡ true → legal-number (target-in e n xs .inode) ≡ true
 unfolding holds target-in
 number-legal e n [] h k = absurd (clash h refl)
 number-legal e n (x ∷ xs) h k =
     by-cases (same-name e n (x .name))
-    (λ q. rw q (every-head (λ y. legal-number (y .inode)) x xs k))
-    (λ q. rw q (number-legal e n xs (rw q at h) (every-tail (λ y. legal-number (y .inode)) x xs k)))
+    (λ q. rw q (every-head (λ y. legal-number (y .target .inode)) x xs k))
+    (λ q. rw q (number-legal e n xs (rw q at h) (every-tail (λ y. legal-number (y .target .inode)) x xs k)))
 
-module _ (e : Edition) (ok : Tags e) (told p fork : ℕ) (n : List ℕ) (kind : ℕ) (xs : List SfEntry) (g : Good e told p xs) (done : remove-request e n p xs ≡ 0)
+module _ (e : Edition) (ok : Tags e) (told p fork : ℕ) (n : List ℕ) (kind : ℕ) (typed : legal-type e kind ≡ true) (xs : List SfEntry) (g : Good e told p xs) (done : remove-request e n p xs ≡ 0)
     (fits : length (lay e p xs) ≤ fork) where
   tests : (legal-name e n ≡ true) × (fixed-name n ≡ false) × (holds e n xs ≡ true)
   unfolding remove-request
@@ -117,10 +120,14 @@ module _ (e : Edition) (ok : Tags e) (told p fork : ℕ) (n : List ℕ) (kind : 
   gone : holds e n (removed e n xs) ≡ false
   gone = removed-held e n n xs (g .once) ∙ rw (same-name-refl e n) refl
 
+  -- what goes in again
+  abbrev again : Target
+  again = target (target-in e n xs .inode) kind
+
   -- the same size
-  size : (t : ℕ) → length (lay e p (placed (entry t n kind (target-in e n xs)) (removed e n xs))) ≡ length (lay e p xs)
+  size : (t : ℕ) → length (lay e p (placed (entry t n (kept-of e again)) (removed e n xs))) ≡ length (lay e p xs)
   size t =
-      let y : SfEntry = entry t n kind (target-in e n xs) in
+      let y : SfEntry = entry t n (kept-of e again) in
       let w : wides-of p (placed y (removed e n xs)) ≡ wides-of p xs = omega (arith, placed-wide p y (removed e n xs), removed-wide e n p xs (tests .2)) in
       let v : ℕ = width-of (wides-of p xs) in
       let l : length (lay e p (placed y (removed e n xs))) ≡ 2 + v + length (entries-bytes e v (placed y (removed e n xs))) =
@@ -152,10 +159,10 @@ module _ (e : Edition) (ok : Tags e) (told p fork : ℕ) (n : List ℕ) (kind : 
       (λ l. clash (less-in-block told _ _ _ _ (room .behind l) (omega arith) (g .within)) a)
       (λ l. positive (gap-tag e long (e .first) (removed e n xs)) (room .between l) (rw (a, b) at z)))
 
-  pub back-in : insert-request e told fork n kind (target-in e n xs) p (removed e n xs) ≡ 0
+  pub back-in : insert-request e told fork n again p (removed e n xs) ≡ 0
   unfolding insert-request has-room inserted numbers-ok
   back-in =
       let t : ℕ = tag-for e told (length n) (removed e n xs) in
-      let s : length (lay e p (placed (entry t n kind (target-in e n xs)) (removed e n xs))) ≤ fork = omega (arith, size t) in
-      let j : legal-number (target-in e n xs) ≡ true = number-legal e n xs (tests .2) (and-right (legal-number p) _ (g .numbers)) in
+      let s : length (lay e p (placed (entry t n (kept-of e again)) (removed e n xs))) ≤ fork = omega (arith, size t) in
+      let j : legal-target e again ≡ true = target-both e again (number-legal e n xs (tests .2) (and-right (legal-number p) _ (g .numbers))) typed in
       rw (tests .0, j, tests .1, gone, ne-eqb t 0 tagged-again, le-leb _ _ s) refl

@@ -10,6 +10,7 @@ use Rattle.be.proofs.Numbers.{length-to-be, to-be-1}
 use Rattle.be.proofs.Writes.{put-nothing, put-next, put-then}
 use Rattle.edition.specs.declared.Edition.{Edition}
 use Rattle.edition.specs.Edition.{Sane}
+use Rattle.dir.specs.declared.Target.{Target}
 use Rattle.dir_sf.specs.Entry.{entry, width-of, entry-bytes}
 use Rattle.dir_sf.proofs.Leaves.{narrow, broad}
 
@@ -24,20 +25,20 @@ pub put-broad : (wides o v : ℕ) (b c : List ℕ) → (wides ≡ 0 → ⊥) →
 put-broad wides o v b c h q = q ∙ ap (λ (w : ℕ). put b o (to-be w v)) (broad wides h)
 
 -- what stands behind a name, written
-pub rest-put : (e : Edition) (b b₁ b₂ : List ℕ) (o kind ino wides : ℕ) → b₁ ≡ put b o (to-be (e .ftype) kind) → b₂ ≡ put b₁ (o + e .ftype) (to-be (width-of wides) ino)
-    → b₂ ≡ put b o (to-be (e .ftype) kind ++ to-be (width-of wides) ino)
-rest-put e b b₁ b₂ o kind ino wides h k =
-    put-then b b₁ b₂ o (o + e .ftype) (to-be (e .ftype) kind) (to-be (width-of wides) ino) h k (rw length-to-be refl)
+pub rest-put : (e : Edition) (b b₁ b₂ : List ℕ) (o : ℕ) (to : Target) (wides : ℕ) → b₁ ≡ put b o (to-be (e .ftype) (to .kind)) → b₂ ≡ put b₁ (o + e .ftype) (to-be (width-of wides) (to .inode))
+    → b₂ ≡ put b o (to-be (e .ftype) (to .kind) ++ to-be (width-of wides) (to .inode))
+rest-put e b b₁ b₂ o to wides h k =
+    put-then b b₁ b₂ o (o + e .ftype) (to-be (e .ftype) (to .kind)) (to-be (width-of wides) (to .inode)) h k (rw length-to-be refl)
 
 -- an entry written field by field
-pub entry-put : (e : Edition) (b b₁ b₂ b₃ b₄ : List ℕ) (o n tag kind ino wides : ℕ) (name : List ℕ) → length name < 256 → n ≡ length name
+pub entry-put : (e : Edition) (b b₁ b₂ b₃ b₄ : List ℕ) (o n tag : ℕ) (to : Target) (wides : ℕ) (name : List ℕ) → length name < 256 → n ≡ length name
     → b₁ ≡ put b o (to-be 1 n) → b₂ ≡ put b₁ (o + 1) (to-be 2 tag) → b₃ ≡ put b₂ (o + 3) name
-    → b₄ ≡ put b₃ (o + 3 + n) (to-be (e .ftype) kind ++ to-be (width-of wides) ino)
-    → b₄ ≡ put b o (entry-bytes e (width-of wides) (entry tag name kind ino))
+    → b₄ ≡ put b₃ (o + 3 + n) (to-be (e .ftype) (to .kind) ++ to-be (width-of wides) (to .inode))
+    → b₄ ≡ put b o (entry-bytes e (width-of wides) (entry tag name to))
 unfolding entry-bytes
-entry-put e b b₁ b₂ b₃ b₄ o n tag kind ino wides name l e₀ e₁ e₂ e₃ e₄ =
+entry-put e b b₁ b₂ b₃ b₄ o n tag to wides name l e₀ e₁ e₂ e₃ e₄ =
     let t : List ℕ = to-be 2 tag in
-    let y : List ℕ = to-be (e .ftype) kind ++ to-be (width-of wides) ino in
+    let y : List ℕ = to-be (e .ftype) (to .kind) ++ to-be (width-of wides) (to .inode) in
     let lt : length t ≡ 2 = length-to-be 2 tag in
     let h : List ℕ = length name ∷ [] in
     let q₀ : b₁ ≡ put b o h = rw (e₁, e₀, to-be-1 (length name) l) refl in

@@ -13,6 +13,7 @@ use Rattle.edition.specs.declared.Edition.{Edition}
 use Rattle.be.proofs.Bools.{and-both}
 use Rattle.be.proofs.Numbers.{length-to-be, be-to-be}
 use Rattle.be.proofs.Parts.{part-at}
+use Rattle.dir.specs.Target.{target}
 use Rattle.dir_sf.specs.Entry.{SfEntry, entry, width-of, long-in, entry-in, entries-in, filled, entry-bytes, entries-bytes, wides-of}
 use Rattle.dir_sf.specs.Fork.{count-of, stored-wides, used-width, parent, list-of, entries, lay, lay-fork}
 
@@ -20,8 +21,8 @@ use Rattle.dir_sf.specs.Fork.{count-of, stored-wides, used-width, parent, list-
 pub record Fit (e : Edition) (w : ℕ) (x : SfEntry) : Type 0 where
   pub name-fits : length (x .name) < 256
   pub tag-fits : x .tag < 256 ^ 2
-  pub kind-fits : x .kind < 256 ^ e .ftype
-  pub inode-fits : x .inode < 256 ^ w
+  pub kind-fits : x .target .kind < 256 ^ e .ftype
+  pub inode-fits : x .target .inode < 256 ^ w
 
 abbrev pub Fits : Edition → ℕ → List SfEntry → Type 0
 Fits e w [] = Unit {0}
@@ -45,23 +46,23 @@ entry-in-bytes e w x d f =
     let l : ℕ = length (x .name) in
     let t : List ℕ = to-be 2 (x .tag) in
     let n : List ℕ = x .name in
-    let k : List ℕ = to-be (e .ftype) (x .kind) in
-    let i : List ℕ = to-be w (x .inode) in
+    let k : List ℕ = to-be (e .ftype) (x .target .kind) in
+    let i : List ℕ = to-be w (x .target .inode) in
     let b : List ℕ = (l ∷ t ++ (n ++ (k ++ i))) ++ d in
     let lt : length t ≡ 2 = length-to-be 2 (x .tag) in
-    let lk : length k ≡ e .ftype = length-to-be (e .ftype) (x .kind) in
+    let lk : length k ≡ e .ftype = length-to-be (e .ftype) (x .target .kind) in
     let q₁ : b ≡ (l ∷ []) ++ (t ++ (n ++ (k ++ (i ++ d)))) = simp append-assoc in
     let q₂ : b ≡ (l ∷ t) ++ (n ++ (k ++ (i ++ d))) = simp append-assoc in
     let q₃ : b ≡ ((l ∷ t) ++ n) ++ (k ++ (i ++ d)) = simp append-assoc in
     let q₄ : b ≡ (((l ∷ t) ++ n) ++ k) ++ (i ++ d) = simp append-assoc in
     let tag-is : field 1 2 b ≡ x .tag = rw (q₁, part-at (l ∷ []) t (n ++ (k ++ (i ++ d))) 1 2 refl lt) (be-to-be 2 (x .tag) (f .tag-fits)) in
     let name-is : part 3 l b ≡ n = rw (q₂, part-at (l ∷ t) n (k ++ (i ++ d)) 3 l (ap suc lt) refl) refl in
-    let kind-is : field (3 + l) (e .ftype) b ≡ x .kind =
-    rw (q₃, part-at ((l ∷ t) ++ n) k (i ++ d) (3 + l) (e .ftype) (simp length-append (omega arith)) lk) (be-to-be (e .ftype) (x .kind) (f .kind-fits)) in
-    let inode-is : field (3 + l + e .ftype) w b ≡ x .inode =
-    rw (q₄, part-at (((l ∷ t) ++ n) ++ k) i d (3 + l + e .ftype) w (simp length-append (omega arith)) (length-to-be w (x .inode))) (be-to-be w (x .inode) (f .inode-fits)) in
-    ap₂ (λ (u : ℕ) (v : List ℕ). entry u v (field (3 + l) (e .ftype) b) (field (3 + l + e .ftype) w b)) tag-is name-is
-    ∙ ap₂ (λ (u v : ℕ). entry (x .tag) n u v) kind-is inode-is
+    let kind-is : field (3 + l) (e .ftype) b ≡ x .target .kind =
+    rw (q₃, part-at ((l ∷ t) ++ n) k (i ++ d) (3 + l) (e .ftype) (simp length-append (omega arith)) lk) (be-to-be (e .ftype) (x .target .kind) (f .kind-fits)) in
+    let inode-is : field (3 + l + e .ftype) w b ≡ x .target .inode =
+    rw (q₄, part-at (((l ∷ t) ++ n) ++ k) i d (3 + l + e .ftype) w (simp length-append (omega arith)) (length-to-be w (x .target .inode))) (be-to-be w (x .target .inode) (f .inode-fits)) in
+    ap₂ (λ (u : ℕ) (v : List ℕ). entry u v (target (field (3 + l + e .ftype) w b) (field (3 + l) (e .ftype) b))) tag-is name-is
+    ∙ ap₂ (λ (u v : ℕ). entry (x .tag) n (target v u)) kind-is inode-is
 
 pub entries-in-bytes : (e : Edition) (w : ℕ) (xs : List SfEntry) (d : List ℕ) → Fits e w xs
     → entries-in e w (length xs) (entries-bytes e w xs ++ d) ≡ xs

@@ -8,9 +8,11 @@ use mathlib.Core.List.{List, [], _∷_}
 use lib.Dec.{eqb}
 use lib.ListN.{length}
 use borrow.Author.Tests.{not-true, not-false}
+use Rattle.refusal.specs.Refusal.{ASKED, FIXED, ABSENT, NARROW}
 use Rattle.be.specs.Bytes.{byte, put}
 use Rattle.be.proofs.Bools.{by-cases, clash}
 use Rattle.edition.specs.declared.Edition.{Edition}
+use Rattle.dir.specs.declared.Target.{Target}
 use Rattle.name.specs.Name.{legal-name, same-name, fixed-name}
 use Rattle.dir_sf.specs.Entry.{SfEntry, is-wide, wides-of}
 use Rattle.dir_sf.specs.Fork.{Readable, laid, lay, count-of, stored-wides, parent, entries, holds}
@@ -25,13 +27,13 @@ removed-nth e n [] h = absurd (clash h refl)
 removed-nth e n (x ∷ xs) h =
     by-cases (same-name e n (x .name)) (λ q. rw q refl) (λ q. rw q (ap (λ (l : List SfEntry). x ∷ l) (removed-nth e n xs (rw q at h))))
 
-module _ (e : Edition) (u n : List ℕ) (r : Readable e u) (there : holds e n (entries e u) ≡ true) (wides i one : ℕ) (b : wides ≡ byte 1 u)
-    (f : i ≡ target-in e n (entries e u)) (g : one ≡ cond (is-wide i) 1 0) where
+module _ (e : Edition) (u n : List ℕ) (r : Readable e u) (there : holds e n (entries e u) ≡ true) (wides : ℕ) (i : Target) (one : ℕ) (b : wides ≡ byte 1 u)
+    (f : i ≡ target-in e n (entries e u)) (g : one ≡ cond (is-wide (i .inode)) 1 0) where
   less : wides ≡ one + wides-of (parent u) (removed e n (entries e u))
   unfolding stored-wides
   less =
       b ∙ r .wides ∙ removed-wide e n (parent u) (entries e u) there
-      ∙ ap (λ (z : ℕ). z + wides-of (parent u) (removed e n (entries e u))) (ap (λ (z : ℕ). cond (is-wide z) 1 0) (sym f) ∙ sym g)
+      ∙ ap (λ (z : ℕ). z + wides-of (parent u) (removed e n (entries e u))) (ap (λ (z : Target). cond (is-wide (z .inode)) 1 0) (sym f) ∙ sym g)
 
   pub one-within : one ≤ wides
   one-within = omega (arith, less)
@@ -72,21 +74,21 @@ module _ (e : Edition) (u n : List ℕ) (r : Readable e u) (there : holds e n (e
 -- ---- the answer
 
 module _ (e : Edition) (n : List ℕ) (p : ℕ) (xs : List SfEntry) (t₁ : Bool) (h₁ : t₁ ≡ legal-name e n) where
-  pub remove-11 : not t₁ ≡ true → _≡_ {A = ℕ} 11 (remove-request e n p xs)
+  pub remove-asked : not t₁ ≡ true → _≡_ {A = ℕ} ASKED (remove-request e n p xs)
   unfolding remove-request
-  remove-11 f = sym (rw (sym h₁ ∙ not-true t₁ f) refl)
+  remove-asked f = sym (rw (sym h₁ ∙ not-true t₁ f) refl)
 
   module _ (g₁ : not t₁ ≡ false) (t₂ : Bool) (h₂ : t₂ ≡ fixed-name n) where
-    pub remove-12 : t₂ ≡ true → _≡_ {A = ℕ} 12 (remove-request e n p xs)
+    pub remove-fixed : t₂ ≡ true → _≡_ {A = ℕ} FIXED (remove-request e n p xs)
     unfolding remove-request
-    remove-12 f = sym (rw (sym h₁ ∙ not-false t₁ g₁, sym h₂ ∙ f) refl)
+    remove-fixed f = sym (rw (sym h₁ ∙ not-false t₁ g₁, sym h₂ ∙ f) refl)
 
     module _ (g₂ : t₂ ≡ false) (t₃ : Bool) (h₃ : t₃ ≡ holds e n xs) where
-      pub remove-13 : not t₃ ≡ true → _≡_ {A = ℕ} 13 (remove-request e n p xs)
+      pub remove-absent : not t₃ ≡ true → _≡_ {A = ℕ} ABSENT (remove-request e n p xs)
       unfolding remove-request
-      remove-13 f = sym (rw (sym h₁ ∙ not-false t₁ g₁, sym h₂ ∙ g₂, sym h₃ ∙ not-true t₃ f) refl)
+      remove-absent f = sym (rw (sym h₁ ∙ not-false t₁ g₁, sym h₂ ∙ g₂, sym h₃ ∙ not-true t₃ f) refl)
 
-      remove-last : (t₄ : Bool) → not t₃ ≡ false → narrows p xs (removed e n xs) ≡ t₄ → cond t₄ 16 0 ≡ remove-request e n p xs
+      remove-last : (t₄ : Bool) → not t₃ ≡ false → narrows p xs (removed e n xs) ≡ t₄ → cond t₄ NARROW 0 ≡ remove-request e n p xs
       unfolding remove-request
       remove-last t₄ f k = sym (rw (sym h₁ ∙ not-false t₁ g₁, sym h₂ ∙ g₂, sym h₃ ∙ not-false t₃ f, k) (by-cases t₄ (λ q. rw q refl) (λ q. rw q refl)))
 
@@ -94,15 +96,15 @@ pub held-of : (e : Edition) (n : List ℕ) (xs : List SfEntry) (t : Bool) → t 
 held-of e n xs t h f = sym h ∙ not-false t f
 
 module _ (e : Edition) (u n : List ℕ) (r : Readable e u) (t₁ t₂ t₃ : Bool) (h₁ : t₁ ≡ legal-name e n) (g₁ : not t₁ ≡ false) (h₂ : t₂ ≡ fixed-name n) (g₂ : t₂ ≡ false)
-    (h₃ : t₃ ≡ holds e n (entries e u)) (g₃ : not t₃ ≡ false) (wides i one q : ℕ) (b : wides ≡ byte 1 u) (f : i ≡ target-in e n (entries e u))
-    (g : one ≡ cond (is-wide i) 1 0) (k : q ≡ parent u) (t : Bool) (h : t ≡ (not (eqb wides 0) && eqb (wides - one) 0 && is-wide q)) where
-  last : cond t 16 0 ≡ remove-request e n (parent u) (entries e u)
+    (h₃ : t₃ ≡ holds e n (entries e u)) (g₃ : not t₃ ≡ false) (wides : ℕ) (i : Target) (one q : ℕ) (b : wides ≡ byte 1 u) (f : i ≡ target-in e n (entries e u))
+    (g : one ≡ cond (is-wide (i .inode)) 1 0) (k : q ≡ parent u) (t : Bool) (h : t ≡ (not (eqb wides 0) && eqb (wides - one) 0 && is-wide q)) where
+  last : cond t NARROW 0 ≡ remove-request e n (parent u) (entries e u)
   last =
       remove-last e n (parent u) (entries e u) t₁ h₁ g₁ t₂ h₂ g₂ t₃ h₃ t g₃
       (narrows-is e u n r (held-of e n (entries e u) t₃ h₃ g₃) wides i one b f g t q k h)
 
-  pub remove-16 : t ≡ true → _≡_ {A = ℕ} 16 (remove-request e n (parent u) (entries e u))
-  remove-16 z = sym (ap (λ (x : Bool). cond x 16 0) z) ∙ last
+  pub remove-narrow : t ≡ true → _≡_ {A = ℕ} NARROW (remove-request e n (parent u) (entries e u))
+  remove-narrow z = sym (ap (λ (x : Bool). cond x NARROW 0) z) ∙ last
 
-  pub remove-0 : t ≡ false → _≡_ {A = ℕ} 0 (remove-request e n (parent u) (entries e u))
-  remove-0 z = sym (ap (λ (x : Bool). cond x 16 0) z) ∙ last
+  pub remove-done : t ≡ false → _≡_ {A = ℕ} 0 (remove-request e n (parent u) (entries e u))
+  remove-done z = sym (ap (λ (x : Bool). cond x NARROW 0) z) ∙ last

@@ -14,11 +14,12 @@ use Rattle.edition.specs.declared.Edition.{Edition}
 use Rattle.name.proofs.Same.{same-name-sym, same-name-trans}
 use Rattle.name.specs.Name.{legal-name, legal-number, same-name, fixed-name}
 use Rattle.be.proofs.Bools.{and-left, and-right, and-both, by-cases, clash, every-head, every-tail, every-cons, neither}
+use Rattle.dir.specs.Target.{no-target}
 use Rattle.dir_sf.specs.Entry.{SfEntry, is-wide, wides-of, next-tag, tags-ok, end-tag, in-block}
 use Rattle.dir_sf.specs.Fork.{name-ok, names-ok, numbers-ok, holds, once-ok}
 use Rattle.dir_sf.specs.Change.{target-in, removed, narrows, remove-request}
 use Rattle.dir_sf.proofs.Tags.{tagged, untagged}
-use Rattle.dir_sf.proofs.Names.{fails, absent-same, absent-number, once-head, once-tail, once-cons}
+use Rattle.dir_sf.proofs.Names.{fails, absent-same, absent-target, once-head, once-tail, once-cons}
 use Rattle.dir_sf_edit.proofs.Accepted.{Good}
 
 pub end-lower : (e : Edition) (a b : ℕ) (xs : List SfEntry) → a ≤ b → end-tag e a xs ≤ end-tag e b xs
@@ -80,21 +81,21 @@ module _ (e : Edition) (n : List ℕ) where
       (λ q. rw q (once-tail e x xs h))
       (λ q. rw q (once-cons e x (removed e n xs) (removed-holds (x .name) xs (once-head e x xs h)) (removed-once xs (once-tail e x xs h))))
 
-  -- names and numbers: each other name keeps its number, and this one has none
-  pub removed-number : (m : List ℕ) (xs : List SfEntry) → once-ok e xs ≡ true
-      → target-in e m (removed e n xs) ≡ cond (same-name e m n) 0 (target-in e m xs)
+  -- names and targets: each other name keeps its own, and this one has none
+  pub removed-target : (m : List ℕ) (xs : List SfEntry) → once-ok e xs ≡ true
+      → target-in e m (removed e n xs) ≡ cond (same-name e m n) no-target (target-in e m xs)
   unfolding removed target-in
-  removed-number m [] o = by-cases (same-name e m n) (λ q. rw q refl) (λ q. rw q refl)
-  removed-number m (x ∷ xs) o =
+  removed-target m [] o = by-cases (same-name e m n) (λ q. rw q refl) (λ q. rw q refl)
+  removed-target m (x ∷ xs) o =
       by-cases (same-name e n (x .name))
       (λ q.
       by-cases (same-name e m n)
-      (λ s. rw (q, s) (absent-number e m xs (absent-same e (x .name) m xs (same-name-sym e m (x .name) (same-name-trans e m n (x .name) s q)) (once-head e x xs o))))
+      (λ s. rw (q, s) (absent-target e m xs (absent-same e (x .name) m xs (same-name-sym e m (x .name) (same-name-trans e m n (x .name) s q)) (once-head e x xs o))))
       (λ s. rw (q, s, fails (same-name e m (x .name)) (same-name e m n) (λ r. same-name-trans e m (x .name) n r (same-name-sym e n (x .name) q)) s) refl))
       (λ q.
       by-cases (same-name e m (x .name))
       (λ r. rw (q, r, fails (same-name e m n) (same-name e n (x .name)) (λ s. same-name-trans e n m (x .name) (same-name-sym e m n s) r) q) refl)
-      (λ r. rw (q, r) (removed-number m xs (once-tail e x xs o))))
+      (λ r. rw (q, r) (removed-target m xs (once-tail e x xs o))))
 
   pub removed-held : (m : List ℕ) (xs : List SfEntry) → once-ok e xs ≡ true
       → holds e m (removed e n xs) ≡ cond (same-name e m n) false (holds e m xs)
@@ -113,7 +114,7 @@ module _ (e : Edition) (n : List ℕ) where
 
 -- one wide number less, if that entry's is wide
 pub removed-wide : (e : Edition) (n : List ℕ) (p : ℕ) (xs : List SfEntry) → holds e n xs ≡ true
-    → wides-of p xs ≡ cond (is-wide (target-in e n xs)) 1 0 + wides-of p (removed e n xs)
+    → wides-of p xs ≡ cond (is-wide (target-in e n xs .inode)) 1 0 + wides-of p (removed e n xs)
 unfolding wides-of removed holds target-in
 removed-wide e n p [] h = absurd (clash h refl)
 removed-wide e n p (x ∷ xs) h =
@@ -148,8 +149,8 @@ module _ (e : Edition) (told p : ℕ) (n : List ℕ) (xs : List SfEntry) (g : Go
         tags = removed-tags e n (e .first) xs (g .tags);
         within = less-in-block told _ _ _ _ (removed-end e n (e .first) xs (g .tags)) (omega (arith, removed-length e n xs (removes .0))) (g .within);
         names = every-removed e n (name-ok e) xs (g .names);
-        numbers = and-both _ _ (and-left (legal-number p) _ (g .numbers)) (every-removed e n (λ x. legal-number (x .inode)) xs (and-right (legal-number p) _ (g .numbers)));
+        numbers = and-both _ _ (and-left (legal-number p) _ (g .numbers)) (every-removed e n (λ x. legal-number (x .target .inode)) xs (and-right (legal-number p) _ (g .numbers)));
         once = removed-once e n xs (g .once);
-        kinds = every-removed e n (λ x. ltb (x .kind) (256 ^ e .ftype)) xs (g .kinds);
+        kinds = every-removed e n (λ x. ltb (x .target .kind) (256 ^ e .ftype)) xs (g .kinds);
         parent-fits = narrow-parent p xs (removed e n xs) (removes .1) (g .parent-fits);
       }

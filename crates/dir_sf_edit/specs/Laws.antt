@@ -1,45 +1,44 @@
 -- What is proved of the changes: each law is a proposition about the definitions, over the edition.
 -- Assumes nothing.
-use Prim.Native.Nat.{ℕ, _^_, _<_}
+use Prim.Native.Nat.{ℕ}
 use mathlib.Core.Bool.{Bool, true, false, cond}
 use mathlib.Core.Path.{_≡_}
 use mathlib.Core.List.{List}
 use Rattle.be.specs.Bytes.{bytes}
 use Rattle.edition.specs.declared.Edition.{Edition}
+use Rattle.dir.specs.declared.Target.{Target}
+use Rattle.dir.specs.Target.{target, no-target, legal-type, kept-of}
 use Rattle.name.specs.Name.{same-name}
 use Rattle.dir_sf.specs.Fork.{parent, entries, holds}
 use Rattle.dir_sf.specs.Change.{target-in}
 use Rattle.dir_sf.specs.Inode.{used, verdict, insert-code, remove-code, insert-bytes, remove-bytes}
 
--- what the file type of a new entry has to be: it fits its bytes, and V4 has only 0
-abbrev pub Kind : Edition → ℕ → Type 0
-Kind e kind = kind < 256 ^ e .ftype
-
 -- an insert that is done leaves an accepted directory
 unfoldable pub Insert-accepted : Edition → Type 0
-Insert-accepted e = (told : ℕ) (b n : List ℕ) (kind i : ℕ) → bytes b ≡ true → Kind e kind → insert-code e told b n kind i ≡ 0
-    → verdict e told (insert-bytes e told b n kind i) ≡ 0
+Insert-accepted e = (told : ℕ) (b n : List ℕ) (to : Target) → bytes b ≡ true → insert-code e told b n to ≡ 0
+    → verdict e told (insert-bytes e told b n to) ≡ 0
 
 -- so does a removal
 unfoldable pub Remove-accepted : Edition → Type 0
 Remove-accepted e = (told : ℕ) (b n : List ℕ) → bytes b ≡ true → remove-code e told b n ≡ 0 → verdict e told (remove-bytes e told b n) ≡ 0
 
--- a directory's parent, and each name with its number, after a change: as before but for the name n, which is held or not, with number i
-pub record Differs (e : Edition) (b c n : List ℕ) (held : Bool) (i : ℕ) : Type 0 where
+-- a directory's parent, and each name with its number and type, after a change: as before but for the name n, which is held or not, and stands for t
+pub record Differs (e : Edition) (b c n : List ℕ) (held : Bool) (t : Target) : Type 0 where
   pub same-parent : parent (used e c) ≡ parent (used e b)
   pub names : (m : List ℕ) → holds e m (entries e (used e c)) ≡ cond (same-name e m n) held (holds e m (entries e (used e b)))
-  pub numbers : (m : List ℕ) → target-in e m (entries e (used e c)) ≡ cond (same-name e m n) i (target-in e m (entries e (used e b)))
+  pub targets : (m : List ℕ) → target-in e m (entries e (used e c)) ≡ cond (same-name e m n) t (target-in e m (entries e (used e b)))
 
 -- names and numbers after an insert are those before plus the one
 unfoldable pub Insert-names : Edition → Type 0
-Insert-names e = (told : ℕ) (b n : List ℕ) (kind i : ℕ) → bytes b ≡ true → Kind e kind → insert-code e told b n kind i ≡ 0
-    → Differs e b (insert-bytes e told b n kind i) n true i
+Insert-names e = (told : ℕ) (b n : List ℕ) (to : Target) → bytes b ≡ true → insert-code e told b n to ≡ 0
+    → Differs e b (insert-bytes e told b n to) n true (kept-of e to)
 
 -- after a removal they are those before less the one
 unfoldable pub Remove-names : Edition → Type 0
-Remove-names e = (told : ℕ) (b n : List ℕ) → bytes b ≡ true → remove-code e told b n ≡ 0 → Differs e b (remove-bytes e told b n) n false 0
+Remove-names e = (told : ℕ) (b n : List ℕ) → bytes b ≡ true → remove-code e told b n ≡ 0 → Differs e b (remove-bytes e told b n) n false no-target
 
--- right after a removal that is done the same name with the same number goes back in, always: if the end has no room, the gap that was left has
+-- right after a removal that is done the same name with the same number, and any legal type, goes back in, always: if the end has no room, the gap
+-- that was left has
 unfoldable pub Put-back : Edition → Type 0
-Put-back e = (told : ℕ) (b n : List ℕ) (kind : ℕ) → bytes b ≡ true → remove-code e told b n ≡ 0
-    → insert-code e told (remove-bytes e told b n) n kind (target-in e n (entries e (used e b))) ≡ 0
+Put-back e = (told : ℕ) (b n : List ℕ) (kind : ℕ) → bytes b ≡ true → legal-type e kind ≡ true → remove-code e told b n ≡ 0
+    → insert-code e told (remove-bytes e told b n) n (target (target-in e n (entries e (used e b)) .inode) kind) ≡ 0

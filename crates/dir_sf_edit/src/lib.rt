@@ -7,10 +7,12 @@ ghost use lib.Dec.{eqb};
 ghost use lib.ListN.{length, take, drop};
 ghost use Rattle.be.specs.Bytes.{byte, put, to-be};
 ghost use Rattle.edition.specs.Edition.{v4, Sane};
+ghost use Rattle.dir.specs.Target.{target};
 ghost use Rattle.dir_sf.specs.Entry.{entry, width-of, entry-in, entries-in, enough, start-of, entry-bytes, entries-bytes, is-wide, end-tag};
 ghost use Rattle.dir_sf.specs.Fork.{Readable, place-of, laid, lay, holds, count-of, parent, entries};
 ghost use Rattle.dir_sf.specs.Change.{rank, gap-tag, tag-for, placed, with-nth, inserted, insert-request, without-nth, removed, remove-request};
 ghost use Rattle.dir_sf.specs.Inode.{used, insert-code, remove-code, with-entries, insert-bytes, remove-bytes};
+use dir::Target;
 use dir_sf::Spot;
 use edition::Edition;
 use edition::V4;
@@ -30,12 +32,12 @@ fn put_number(b: &mut [u8], o: usize, v: u64, wides: usize)
 }
 
 // Stores what stands behind an entry's name, and gives where it ends.
-fn put_rest(e: Edition, b: &mut [u8], o: usize, kind: usize, ino: u64, wides: usize) -> usize
+fn put_rest(e: Edition, b: &mut [u8], o: usize, to: Target, wides: usize) -> usize
     requires { ⌜ Sane e × (o + (e .ftype + width-of wides) ≤ length (now b)) ⌝ }
-    ensures { λ r. ⌜ (now (b .exit) ≡ put (now (b .entry)) o (to-be (e .ftype) kind ++ to-be (width-of wides) ino)) × (r ≡ o + (e .ftype + width-of wides)) ⌝ }
+    ensures { λ r. ⌜ (now (b .exit) ≡ put (now (b .entry)) o (to-be (e .ftype) (to .kind) ++ to-be (width-of wides) (to .inode))) × (r ≡ o + (e .ftype + width-of wides)) ⌝ }
 {
-    dir::put_kind(e, b, o, kind);
-    put_number(b, o + e.ftype, ino, wides);
+    dir::put_kind(e, b, o, to.kind);
+    put_number(b, o + e.ftype, to.inode, wides);
     o + dir_sf::rest(e, wides)
 }
 
@@ -46,19 +48,18 @@ fn put_entry<'a, 'b>(
     o: usize,
     name: &'b [u8],
     tag: usize,
-    kind: usize,
-    ino: u64,
+    to: Target,
     wides: usize,
 ) -> usize
     requires { ⌜ Sane e × (o + (3 + length (now name) + (e .ftype + width-of wides)) ≤ length (now b)) × (length (now name) < 256) ⌝ }
-    ensures { λ r. ⌜ (now (b .exit) ≡ put (now (b .entry)) o (entry-bytes e (width-of wides) (entry tag (now (name .entry)) kind ino)))
+    ensures { λ r. ⌜ (now (b .exit) ≡ put (now (b .entry)) o (entry-bytes e (width-of wides) (entry tag (now (name .entry)) to)))
         × (r ≡ o + (3 + length (now (name .entry)) + (e .ftype + width-of wides))) ⌝ }
 {
     let n = name.len();
     be::put8(b, o, n);
     be::put16(b, o + 1, tag);
     be::copy_into(b, o + 3, name);
-    put_rest(e, b, o + 3 + n, kind, ino, wides)
+    put_rest(e, b, o + 3 + n, to, wides)
 }
 
 // Copies the entry at p in u to an offset, its number in another width. Gives where it ends.
@@ -78,9 +79,8 @@ fn copy_entry<'a, 'b>(
     let n = dir_sf::namelen(e, u, p, wides);
     let tag = be::be16(u, p + 1);
     let end = p + 3 + n;
-    let kind = dir::kind(e, u, end);
-    let ino = dir_sf::number(u, end + e.ftype, wides);
-    put_entry(e, b, o, &u[p + 3..end], tag, kind, ino, after)
+    let to = dir_sf::target_at(e, u, end, wides);
+    put_entry(e, b, o, &u[p + 3..end], tag, to, after)
 }
 
 // Copies the k entries of u from `at` on to an offset, their numbers in another width. Gives where they end.
@@ -220,7 +220,7 @@ fn shrink<'a, 'b, 'c>(e: Edition, t: &'a mut [u8], u: &'b [u8], name: &'c [u8]) 
         × (r ≡ length (lay e (parent (now (u .entry))) (removed e (now (name .entry)) (entries e (now (u .entry)))))) ⌝ }
 {
     let h = dir_sf::seek_name(e, u, name);
-    let after = be::be8(u, 1) - dir_sf::one_if_wide(h.number);
+    let after = be::be8(u, 1) - dir_sf::one_if_wide(h.target.inode);
     lay_without(e, t, u, h.index, h.at, after)
 }
 
@@ -249,7 +249,7 @@ fn removal_code<'a, 'b>(e: Edition, u: &'a [u8], name: &'b [u8]) -> usize
     let wides = be::be8(u, 1);
     if narrowing(
         wides,
-        wides - dir_sf::one_if_wide(h.number),
+        wides - dir_sf::one_if_wide(h.target.inode),
         dir_sf::parent_of(u),
     ) {
         return refusal::NARROW;
@@ -405,16 +405,15 @@ fn lay_with<'a, 'b, 'c>(
     after: usize,
     name: &'c [u8],
     tag: usize,
-    kind: usize,
-    ino: u64,
+    to: Target,
 ) -> usize
     requires { ⌜ Sane e × Readable e (now u) × (index ≤ count-of (now u)) × (at ≡ place-of e index (now u)) × (count-of (now u) < 255) × (after < 256) × (length (now name) < 256)
-        × (length (laid e (count-of (now u) + 1) after (parent (now u)) (with-nth index (entry tag (now name) kind ino) (entries e (now u)))) ≤ length (now t)) ⌝ }
-    ensures { λ r. ⌜ (now (t .exit) ≡ put (now (t .entry)) 0 (laid e (count-of (now (u .entry)) + 1) after (parent (now (u .entry))) (with-nth index (entry tag (now (name .entry)) kind ino) (entries e (now (u .entry))))))
-        × (r ≡ length (laid e (count-of (now (u .entry)) + 1) after (parent (now (u .entry))) (with-nth index (entry tag (now (name .entry)) kind ino) (entries e (now (u .entry)))))) ⌝ }
+        × (length (laid e (count-of (now u) + 1) after (parent (now u)) (with-nth index (entry tag (now name) to) (entries e (now u)))) ≤ length (now t)) ⌝ }
+    ensures { λ r. ⌜ (now (t .exit) ≡ put (now (t .entry)) 0 (laid e (count-of (now (u .entry)) + 1) after (parent (now (u .entry))) (with-nth index (entry tag (now (name .entry)) to) (entries e (now (u .entry))))))
+        × (r ≡ length (laid e (count-of (now (u .entry)) + 1) after (parent (now (u .entry))) (with-nth index (entry tag (now (name .entry)) to) (entries e (now (u .entry)))))) ⌝ }
 {
     let m = lay_first(e, t, u, index, be::be8(u, 0) + 1, after);
-    let q = put_entry(e, t, m, name, tag, kind, ino, after);
+    let q = put_entry(e, t, m, name, tag, to, after);
     copy_others(e, t, q, u, at, index, after)
 }
 
@@ -424,15 +423,14 @@ fn grown<'a, 'b>(
     u: &'a [u8],
     name: &'b [u8],
     tag: usize,
-    kind: usize,
-    ino: u64,
+    to: Target,
 ) -> usize
     requires { ⌜ Sane e × Readable e (now u) × (length (now u) ≤ 1948) × (length (now name) < 256)
         × (length (lay e (parent (now u)) (entries e (now u))) ≡ length (now u)) ⌝ }
-    ensures { λ r. ⌜ r ≡ length (lay e (parent (now (u .entry))) (placed (entry tag (now (name .entry)) kind ino) (entries e (now (u .entry))))) ⌝ }
+    ensures { λ r. ⌜ r ≡ length (lay e (parent (now (u .entry))) (placed (entry tag (now (name .entry)) to) (entries e (now (u .entry))))) ⌝ }
 {
     let wides = be::be8(u, 1);
-    let after = wides + dir_sf::one_if_wide(ino);
+    let after = wides + dir_sf::one_if_wide(to.inode);
     let plain = u.len() + 3 + name.len() + dir_sf::rest(e, after);
     if wides != 0 {
         return plain;
@@ -450,16 +448,15 @@ fn insertion_code<'a, 'b>(
     told: usize,
     fork: usize,
     name: &'b [u8],
-    kind: usize,
-    ino: u64,
+    to: Target,
 ) -> usize
     requires { ⌜ Sane e × Readable e (now u) × (length (now u) ≤ 1948) × (length (lay e (parent (now u)) (entries e (now u))) ≡ length (now u)) ⌝ }
-    ensures { λ r. ⌜ r ≡ insert-request e told fork (now (name .entry)) kind ino (parent (now (u .entry))) (entries e (now (u .entry))) ⌝ }
+    ensures { λ r. ⌜ r ≡ insert-request e told fork (now (name .entry)) to (parent (now (u .entry))) (entries e (now (u .entry))) ⌝ }
 {
     if !name::legal(e, name) {
         return refusal::ASKED;
     }
-    if !name::number_legal(ino) {
+    if !dir::target_legal(e, to) {
         return refusal::ASKED;
     }
     if name::fixed(name) {
@@ -473,7 +470,7 @@ fn insertion_code<'a, 'b>(
     if tag == 0 {
         return refusal::NOROOM;
     }
-    if fork < grown(e, u, name, tag, kind, ino) {
+    if fork < grown(e, u, name, tag, dir::kept(e, to)) {
         return refusal::NOROOM;
     }
     0
@@ -485,11 +482,10 @@ fn insert_answer<'a, 'b>(
     b: &'a [u8],
     told: usize,
     name: &'b [u8],
-    kind: usize,
-    ino: u64,
+    to: Target,
 ) -> usize
     requires { ⌜ Sane e ⌝ }
-    ensures { λ r. ⌜ r ≡ insert-code e told (now (b .entry)) (now (name .entry)) kind ino ⌝ }
+    ensures { λ r. ⌜ r ≡ insert-code e told (now (b .entry)) (now (name .entry)) to ⌝ }
 {
     let c = dir_sf::code(e, b, told);
     if c != 0 {
@@ -498,7 +494,7 @@ fn insert_answer<'a, 'b>(
     let fork = dir_sf::fork_long(e, b);
     let start = e.literal;
     let end = start + dir_sf::used_long(e, b, told);
-    insertion_code(e, &b[start..end], told, fork, name, kind, ino)
+    insertion_code(e, &b[start..end], told, fork, name, to)
 }
 
 // Lays out the directory in u with a new entry. Gives its size.
@@ -508,30 +504,29 @@ fn grow<'a, 'b, 'c>(
     u: &'b [u8],
     told: usize,
     name: &'c [u8],
-    kind: usize,
-    ino: u64,
+    to: Target,
 ) -> usize
     requires { ⌜ Sane e × Readable e (now u) × (length (now name) < 256) × (count-of (now u) < 255)
-        × (length (lay e (parent (now u)) (inserted e told (now name) kind ino (entries e (now u)))) ≤ length (now t)) ⌝ }
-    ensures { λ r. ⌜ (now (t .exit) ≡ put (now (t .entry)) 0 (lay e (parent (now (u .entry))) (inserted e told (now (name .entry)) kind ino (entries e (now (u .entry))))))
-        × (r ≡ length (lay e (parent (now (u .entry))) (inserted e told (now (name .entry)) kind ino (entries e (now (u .entry)))))) ⌝ }
+        × (length (lay e (parent (now u)) (inserted e told (now name) to (entries e (now u)))) ≤ length (now t)) ⌝ }
+    ensures { λ r. ⌜ (now (t .exit) ≡ put (now (t .entry)) 0 (lay e (parent (now (u .entry))) (inserted e told (now (name .entry)) to (entries e (now (u .entry))))))
+        × (r ≡ length (lay e (parent (now (u .entry))) (inserted e told (now (name .entry)) to (entries e (now (u .entry)))))) ⌝ }
 {
     let tag = tag_of(e, u, name.len(), told);
     let s = spot_of(e, u, tag);
-    let after = be::be8(u, 1) + dir_sf::one_if_wide(ino);
-    lay_with(e, t, u, s.index, s.at, after, name, tag, kind, ino)
+    let after = be::be8(u, 1) + dir_sf::one_if_wide(to.inode);
+    lay_with(e, t, u, s.index, s.at, after, name, tag, dir::kept(e, to))
 }
 
 // Puts a new entry in.
-fn put_in<'a, 'b>(e: Edition, b: &'a mut [u8], told: usize, name: &'b [u8], kind: usize, ino: u64)
-    requires { ⌜ Sane e × (insert-code e told (now b) (now name) kind ino ≡ 0) ⌝ }
-    ensures { λ _. ⌜ now (b .exit) ≡ with-entries e (now (b .entry)) (inserted e told (now (name .entry)) kind ino (entries e (used e (now (b .entry))))) ⌝ }
+fn put_in<'a, 'b>(e: Edition, b: &'a mut [u8], told: usize, name: &'b [u8], to: Target)
+    requires { ⌜ Sane e × (insert-code e told (now b) (now name) to ≡ 0) ⌝ }
+    ensures { λ _. ⌜ now (b .exit) ≡ with-entries e (now (b .entry)) (inserted e told (now (name .entry)) to (entries e (used e (now (b .entry))))) ⌝ }
 {
     let n = dir_sf::fork_long(e, &b[..]);
     let start = e.literal;
     let end = start + dir_sf::used_long(e, &b[..], told);
     let mut t = [0u8; 2048];
-    let size = grow(e, &mut t, &b[start..end], told, name, kind, ino);
+    let size = grow(e, &mut t, &b[start..end], told, name, to);
     write_back(e, b, &t[..], n, size);
 }
 
@@ -540,25 +535,28 @@ fn insert_into<'a, 'b>(
     b: &'a mut [u8],
     told: usize,
     name: &'b [u8],
-    kind: usize,
-    ino: u64,
+    to: Target,
 ) -> usize
     requires { ⌜ Sane e ⌝ }
-    ensures { λ r. ⌜ (r ≡ insert-code e told (now (b .entry)) (now (name .entry)) kind ino)
-        × (now (b .exit) ≡ insert-bytes e told (now (b .entry)) (now (name .entry)) kind ino) ⌝ }
+    ensures { λ r. ⌜ (r ≡ insert-code e told (now (b .entry)) (now (name .entry)) to)
+        × (now (b .exit) ≡ insert-bytes e told (now (b .entry)) (now (name .entry)) to) ⌝ }
 {
-    let c = insert_answer(e, &b[..], told, name, kind, ino);
+    let c = insert_answer(e, &b[..], told, name, to);
     if c != 0 {
         return c;
     }
-    put_in(e, b, told, name, kind, ino);
+    put_in(e, b, told, name, to);
     0
 }
 
 // Inserts an entry: 0, or why not.
-pub fn insert<'a, 'b>(b: &'a mut [u8], told: usize, name: &'b [u8], ino: u64) -> usize
-    ensures { λ r. ⌜ (r ≡ insert-code v4 told (now (b .entry)) (now (name .entry)) 0 ino)
-        × (now (b .exit) ≡ insert-bytes v4 told (now (b .entry)) (now (name .entry)) 0 ino) ⌝ }
+pub fn insert<'a, 'b>(b: &'a mut [u8], told: usize, name: &'b [u8], number: u64) -> usize
+    ensures { λ r. ⌜ (r ≡ insert-code v4 told (now (b .entry)) (now (name .entry)) (target number 0))
+        × (now (b .exit) ≡ insert-bytes v4 told (now (b .entry)) (now (name .entry)) (target number 0)) ⌝ }
 {
-    insert_into(V4::edition(), b, told, name, 0, ino)
+    let to = Target {
+        inode: number,
+        kind: 0,
+    };
+    insert_into(V4::edition(), b, told, name, to)
 }

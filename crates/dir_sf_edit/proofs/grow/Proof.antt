@@ -12,6 +12,7 @@ grow-spec =
     (λ c κs. search needs)
     (λ c κs. search needs)
     (λ c. search needs)
+    (λ c κs. search needs)
     (λ c κs. (search needs, search needs, search (needs, rank-in), search needs, search needs, search (needs, wides-small), search needs, search (needs, grow-room)))
     (λ c. search needs)
     (λ c. (search (needs, grow-bytes), search (needs, grow-size))))

@@ -1,5 +1,5 @@
 use borrow.Author.Needs.{needs}
-use Rattle.dir_sf_edit.proofs.Insertions.{insert-name, insert-asked, insert-12, insert-14, insert-no-tag, insert-no-fit, insert-0, short-name}
+use Rattle.dir_sf_edit.proofs.Insertions.{insert-name, insert-asked, insert-fixed, insert-exists, insert-no-tag, insert-no-fit, insert-done, short-name}
 use Rattle.dir_sf_edit.proofs.insertion_code.Statement.{statement}
 use Rattle.dir_sf_edit.proofs.insertion_code.Tie as tie
 
@@ -12,11 +12,12 @@ insertion-code-spec =
     (λ c κs. search needs)
     (λ c. search (needs, insert-asked))
     (λ c κs. search needs)
-    (λ c. search (needs, insert-12))
+    (λ c. search (needs, insert-fixed))
     (λ c κs. search needs)
-    (λ c. search (needs, insert-14))
+    (λ c. search (needs, insert-exists))
     (λ c κs. (search needs, search needs, search (needs, short-name)))
     (λ c. search (needs, insert-no-tag))
+    (λ c κs. search needs)
     (λ c κs. (search needs, search needs, search needs, search (needs, short-name), search needs))
     (λ c. search (needs, insert-no-fit))
-    (λ c. search (needs, insert-0)))
+    (λ c. search (needs, insert-done)))

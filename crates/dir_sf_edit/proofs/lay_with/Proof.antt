@@ -12,6 +12,6 @@ lay-with-spec =
     (λ c. search needs)
     (λ c κs. (search needs, search needs, search needs, count-more _ _ (c .be8 .ensures .0) (c .before .before .before .before .before .pre .4), search needs, search (needs, with-1)))
     (λ c κs. (search needs, search (needs, with-2), search needs))
-    (λ c κs. (search needs, search needs, search needs, search needs, with-3 _ _ _ _ _ _ _ _ _ (c .before .before .before .before .before .before .before .before .be8 .ensures .0) _ (c .before .before .before .before .before .before .before .before .before .before .before .before .before .pre .7) _ _ _ (c .before .before .before .before .before .before .before .lay-first .ensures .1) (c .before .before .before .put-entry .ensures .1) (search needs)))
+    (λ c κs. (search needs, search needs, search needs, search needs, with-3 _ _ _ _ _ _ _ _ (c .before .before .before .before .before .before .before .before .be8 .ensures .0) _ (c .before .before .before .before .before .before .before .before .before .before .before .before .before .pre .7) _ _ _ (c .before .before .before .before .before .before .before .lay-first .ensures .1) (c .before .before .before .put-entry .ensures .1) (search needs)))
     (λ c. search needs)
     (λ c. (search (needs, with-laid), search (needs, with-size))))
