@@ -2,6 +2,7 @@
 -- A refusal has its number only (a block lookup's 13 also the names compared): every other field is 0.
 -- Assumes nothing.
 use Prim.Native.Nat.{ℕ, _<_}
+use Rattle.refusal.specs.Refusal.{ABSENT}
 use Rattle.dinode.specs.declared.Core.{Core as Fields}
 use Rattle.dinode.specs.declared.Tested.{Tested}
 use Rattle.dinode.specs.declared.Tested.the-variants.{Sound, Refused as Not-sound}
@@ -11,14 +12,8 @@ use Rattle.attr_sf.specs.declared.Seen.{Seen as Attr-seen}
 use Rattle.attr_sf.specs.declared.Seen.the-variants.{Live as Attr-live, End as Attr-end}
 use Rattle.attr_sf.specs.declared.Walked.{Walked as Attr-walked}
 use Rattle.attr_sf.specs.declared.Walked.the-variants.{Stepped as Attr-stepped, Refused as Attr-refused}
-use Rattle.dir_sf.specs.declared.Looked.{Looked as Sf-looked}
-use Rattle.dir_sf.specs.declared.Looked.the-variants.{Found as Sf-found, Refused as Sf-not-found}
-use Rattle.dir_sf.specs.declared.Seen.{Seen as Sf-seen}
-use Rattle.dir_sf.specs.declared.Seen.the-variants.{Live as Sf-live, End as Sf-end}
-use Rattle.dir_sf.specs.declared.Walked.{Walked as Sf-walked}
-use Rattle.dir_sf.specs.declared.Walked.the-variants.{Stepped as Sf-stepped, Refused as Sf-refused}
 use Rattle.dir.specs.declared.Looked.{Looked}
-use Rattle.dir.specs.declared.Looked.the-variants.{Found as Block-found, Absent, Refused as Not-found}
+use Rattle.dir.specs.declared.Looked.the-variants.{Found as Found-target, Absent, Refused as Not-found}
 use Rattle.dir.specs.declared.Seen.{Seen}
 use Rattle.dir.specs.declared.Seen.the-variants.{Live, Gap, End}
 use Rattle.dir.specs.declared.Walked.{Walked}
@@ -64,16 +59,11 @@ as-core (Not-sound k) =
 abbrev pub looked : ℕ → ℕ → ℕ → Found
 looked k i c = record { refusal = k; number = i; compared = c }
 
--- in a block: 13 ABSENT has the names compared
+-- 13 ABSENT has the names compared; in a short form none are
 abbrev pub as-found : Looked → Found
-as-found (Block-found i c) = looked 0 i c
-as-found (Absent c) = looked 13 0 c
+as-found (Found-target t c) = looked 0 (t .inode) c
+as-found (Absent c) = looked ABSENT 0 c
 as-found (Not-found k) = looked k 0 0
-
--- in a short form: compared is 0
-abbrev pub as-found-sf : Sf-looked → Found
-as-found-sf (Sf-found i) = looked 0 i 0
-as-found-sf (Sf-not-found k) = looked k 0 0
 
 -- ---- a step of a directory's walk. seen: 0 end, 1 gap, 2 live
 
@@ -86,22 +76,13 @@ abbrev pub no-entry : ℕ → ℕ → ℕ → Step
 no-entry k s p = record { refusal = k; seen = s; next = p; number = 0; «name_start» = 0; «name_len» = 0 }
 
 abbrev pub as-seen : ℕ → Seen → Step
-as-seen p (Live l) = live p (l .number) (l .start) (l .len)
+as-seen p (Live l) = live p (l .target .inode) (l .start) (l .len)
 as-seen p Gap = no-entry 0 1 p
 as-seen p End = no-entry 0 0 p
 
 abbrev pub as-step : Walked → Step
 as-step (Stepped s) = as-seen (s .next) (s .seen)
 as-step (Refused k) = no-entry k 0 0
-
--- a short form has no gaps
-abbrev pub as-seen-sf : ℕ → Sf-seen → Step
-as-seen-sf p (Sf-live l) = live p (l .number) (l .start) (l .len)
-as-seen-sf p Sf-end = no-entry 0 0 p
-
-abbrev pub as-step-sf : Sf-walked → Step
-as-step-sf (Sf-stepped s) = as-seen-sf (s .next) (s .seen)
-as-step-sf (Sf-refused k) = no-entry k 0 0
 
 -- ---- attributes
 

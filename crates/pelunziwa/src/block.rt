@@ -6,12 +6,9 @@ ghost use Rattle.dir.specs.Target.{target};
 ghost use Rattle.dir_block_rules.specs.Lookup.{lookup};
 ghost use Rattle.dir_block_rules.specs.Change.{insert-code, insert-bytes, remove-code, remove-bytes};
 ghost use Rattle.dir_block_rules.specs.Walk.{walk-step};
-ghost use Rattle.pelunziwa.specs.Answers.{as-found, as-seen, as-step};
+ghost use Rattle.pelunziwa.specs.Answers.{as-found, as-step};
 use crate::Found;
 use crate::Step;
-use dir::Looked;
-use dir::Seen;
-use dir::Walked;
 
 // Tests a block.
 #[no_mangle]
@@ -26,11 +23,7 @@ pub extern "C" fn pzw_block_test(block: &[u8]) -> u32
 pub extern "C" fn pzw_block_lookup(block: &[u8], name: &[u8]) -> Found
     ensures { λ r. ⌜ r ≡ as-found (lookup v4 (now (block .entry)) (now (name .entry))) ⌝ }
 {
-    match dir_block_lookup::lookup(block, name) {
-        Looked::Found { number, compared } => crate::looked(0, number, compared),
-        Looked::Absent { compared } => crate::looked(crate::code(refusal::ABSENT), 0, compared),
-        Looked::Refused(n) => crate::looked(crate::code(n), 0, 0),
-    }
+    crate::lookup_answer(dir_block_lookup::lookup(block, name))
 }
 
 // Puts an entry in.
@@ -51,28 +44,10 @@ pub extern "C" fn pzw_block_remove(block: &mut [u8], name: &[u8]) -> u32
     crate::code(dir_block_edit::remove(block, name))
 }
 
-// What a step meets.
-fn seen_step(next: usize, seen: Seen) -> Step
-    ensures { λ r. ⌜ r ≡ as-seen next seen ⌝ }
-{
-    match seen {
-        Seen::Live(e) => crate::live(next, e.number, e.start, e.len),
-        Seen::Gap => crate::no_entry(0, 1, next),
-        Seen::End => crate::no_entry(0, 0, next),
-    }
-}
-
 // One step of the walk.
 #[no_mangle]
 pub extern "C" fn pzw_block_step(block: &[u8], place: u64) -> Step
     ensures { λ r. ⌜ r ≡ as-step (walk-step v4 (now (block .entry)) place) ⌝ }
 {
-    match dir_block_lookup::step(block, place as usize) {
-        Walked::Stepped(t) => {
-            let next = t.next;
-            let seen = t.seen;
-            seen_step(next, seen)
-        }
-        Walked::Refused(n) => crate::no_entry(crate::code(n), 0, 0),
-    }
+    crate::step_answer(dir_block_lookup::step(block, place as usize))
 }

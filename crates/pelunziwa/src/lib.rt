@@ -4,7 +4,11 @@
 ghost use mathlib.Core.Path.{_≡_};
 ghost use Prim.Native.Nat.{_≤_};
 ghost use Rattle.refusal.specs.Refusal.{HIGHEST};
-ghost use Rattle.pelunziwa.specs.Answers.{looked, live, no-entry};
+ghost use Rattle.pelunziwa.specs.Answers.{looked, as-found, live, no-entry, as-seen, as-step};
+ghost use Rattle.dir.specs.Answers.{looked-code, walked-code};
+use dir::Looked;
+use dir::Seen;
+use dir::Walked;
 
 mod attr;
 mod block;
@@ -83,6 +87,18 @@ fn looked(refusal: u32, number: u64, compared: usize) -> Found
     }
 }
 
+// A lookup's answer, of either directory form.
+fn lookup_answer(answer: Looked) -> Found
+    requires { ⌜ looked-code answer ≤ HIGHEST ⌝ }
+    ensures { λ r. ⌜ r ≡ as-found answer ⌝ }
+{
+    match answer {
+        Looked::Found { target, compared } => looked(0, target.inode, compared),
+        Looked::Absent { compared } => looked(code(refusal::ABSENT), 0, compared),
+        Looked::Refused(n) => looked(code(n), 0, 0),
+    }
+}
+
 // A step that meets a live entry.
 fn live(next: usize, number: u64, start: usize, len: usize) -> Step
     ensures { λ r. ⌜ r ≡ live next number start len ⌝ }
@@ -108,5 +124,31 @@ fn no_entry(refusal: u32, seen: u32, next: usize) -> Step
         number: 0,
         name_start: 0,
         name_len: 0,
+    }
+}
+
+// What a step meets.
+fn seen_step(next: usize, seen: Seen) -> Step
+    ensures { λ r. ⌜ r ≡ as-seen next seen ⌝ }
+{
+    match seen {
+        Seen::Live(e) => live(next, e.target.inode, e.start, e.len),
+        Seen::Gap => no_entry(0, 1, next),
+        Seen::End => no_entry(0, 0, next),
+    }
+}
+
+// A step's answer, of either directory form.
+fn step_answer(answer: Walked) -> Step
+    requires { ⌜ walked-code answer ≤ HIGHEST ⌝ }
+    ensures { λ r. ⌜ r ≡ as-step answer ⌝ }
+{
+    match answer {
+        Walked::Stepped(t) => {
+            let next = t.next;
+            let seen = t.seen;
+            seen_step(next, seen)
+        }
+        Walked::Refused(n) => no_entry(code(n), 0, 0),
     }
 }

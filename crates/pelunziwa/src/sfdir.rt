@@ -1,14 +1,12 @@
 // Short-form directories: the inode is lent, and the filesystem's directory block size told.
 ghost use mathlib.Core.Path.{_≡_};
 ghost use Rattle.edition.specs.Edition.{v4};
+ghost use Rattle.dir.specs.Target.{target};
 ghost use Rattle.dir_sf.specs.Inode.{verdict, lookup, insert-code, remove-code, insert-bytes, remove-bytes};
 ghost use Rattle.dir_sf.specs.Walk.{walk-step};
-ghost use Rattle.pelunziwa.specs.Answers.{as-found-sf, as-seen-sf, as-step-sf};
+ghost use Rattle.pelunziwa.specs.Answers.{as-found, as-step};
 use crate::Found;
 use crate::Step;
-use dir_sf::Looked;
-use dir_sf::Seen;
-use dir_sf::Walked;
 
 // Tests a directory.
 #[no_mangle]
@@ -21,12 +19,9 @@ pub extern "C" fn pzw_sfdir_test(inode: &[u8], told: u64) -> u32
 // The inode number stored with a name; ".." gives the parent.
 #[no_mangle]
 pub extern "C" fn pzw_sfdir_lookup<'a, 'b>(inode: &'a [u8], told: u64, name: &'b [u8]) -> Found
-    ensures { λ r. ⌜ r ≡ as-found-sf (lookup v4 told (now (inode .entry)) (now (name .entry))) ⌝ }
+    ensures { λ r. ⌜ r ≡ as-found (lookup v4 told (now (inode .entry)) (now (name .entry))) ⌝ }
 {
-    match dir_sf::lookup(inode, told as usize, name) {
-        Looked::Found { number } => crate::looked(0, number, 0),
-        Looked::Refused(n) => crate::looked(crate::code(n), 0, 0),
-    }
+    crate::lookup_answer(dir_sf::lookup(inode, told as usize, name))
 }
 
 // Puts an entry in.
@@ -37,8 +32,8 @@ pub extern "C" fn pzw_sfdir_insert<'a, 'b>(
     name: &'b [u8],
     number: u64,
 ) -> u32
-    ensures { λ r. ⌜ (r ≡ insert-code v4 told (now (inode .entry)) (now (name .entry)) 0 number)
-        × (now (inode .exit) ≡ insert-bytes v4 told (now (inode .entry)) (now (name .entry)) 0 number) ⌝ }
+    ensures { λ r. ⌜ (r ≡ insert-code v4 told (now (inode .entry)) (now (name .entry)) (target number 0))
+        × (now (inode .exit) ≡ insert-bytes v4 told (now (inode .entry)) (now (name .entry)) (target number 0)) ⌝ }
 {
     crate::code(dir_sf_edit::insert(inode, told as usize, name, number))
 }
@@ -52,27 +47,10 @@ pub extern "C" fn pzw_sfdir_remove<'a, 'b>(inode: &'a mut [u8], told: u64, name:
     crate::code(dir_sf_edit::remove(inode, told as usize, name))
 }
 
-// What a step meets.
-fn seen_step(next: usize, seen: Seen) -> Step
-    ensures { λ r. ⌜ r ≡ as-seen-sf next seen ⌝ }
-{
-    match seen {
-        Seen::Live(e) => crate::live(next, e.number, e.start, e.len),
-        Seen::End => crate::no_entry(0, 0, next),
-    }
-}
-
 // One step of the walk, from a place counted from the fork's start.
 #[no_mangle]
 pub extern "C" fn pzw_sfdir_step(inode: &[u8], told: u64, place: u64) -> Step
-    ensures { λ r. ⌜ r ≡ as-step-sf (walk-step v4 told (now (inode .entry)) place) ⌝ }
+    ensures { λ r. ⌜ r ≡ as-step (walk-step v4 told (now (inode .entry)) place) ⌝ }
 {
-    match dir_sf::step_at(inode, told as usize, place as usize) {
-        Walked::Stepped(t) => {
-            let next = t.next;
-            let seen = t.seen;
-            seen_step(next, seen)
-        }
-        Walked::Refused(n) => crate::no_entry(crate::code(n), 0, 0),
-    }
+    crate::step_answer(dir_sf::step_at(inode, told as usize, place as usize))
 }

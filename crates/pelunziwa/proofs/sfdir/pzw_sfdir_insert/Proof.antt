@@ -8,6 +8,6 @@ pzw-sfdir-insert-spec =
     tie.close
     (tie.spec
     (λ c κs. search needs)
-    (λ c κs. rw (c .before .before .insert .ensures .0) (insert-small _ _ _ _ _ _))
+    (λ c κs. rw (c .before .before .insert .ensures .0) (insert-small _ _ _ _ _))
     (λ c. search needs)
     (λ c. search needs))

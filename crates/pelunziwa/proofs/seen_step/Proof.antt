@@ -1,8 +1,8 @@
 use mathlib.Core.Path.{sym, _∙_, ap}
 use borrow.Author.Needs.{needs}
 use Rattle.pelunziwa.specs.Answers.{as-seen}
-use Rattle.pelunziwa.proofs.block.seen_step.Statement.{statement}
-use Rattle.pelunziwa.proofs.block.seen_step.Tie as tie
+use Rattle.pelunziwa.proofs.seen_step.Statement.{statement}
+use Rattle.pelunziwa.proofs.seen_step.Tie as tie
 
 pub seen-step-spec : {M : Type 1} → statement M
 seen-step-spec =
