@@ -5,7 +5,6 @@ use mathlib.Core.Bool.{Bool, cond}
 use lib.Dec.{eqb}
 
 infixr 10 _unless_then_ _and-then_
-
 -- the answer of a test that fails, and behind it the answer of those that follow: 'SIZE unless size-ok b then ..'
 abbrev pub _unless_then_ : {A : Type 0} → A → Bool → A → A
 x unless t then rest = cond t rest x

@@ -28,11 +28,8 @@ fn look(b: &[u8], name: &[u8]) {
     text(b"lookup ");
     text(name);
     match dir_block_lookup::lookup(b, name) {
-        Looked::Found {
-            number: i,
-            compared,
-        } => {
-            number(i);
+        Looked::Found { target, compared } => {
+            number(target.inode);
             number(compared as u64);
         }
         Looked::Absent { compared } => {
@@ -52,7 +49,7 @@ fn seen(s: Step) {
     match what {
         Seen::Live(n) => {
             text(b" live");
-            number(n.number);
+            number(n.target.inode);
             number(n.start as u64);
             number(n.len as u64);
         }

@@ -418,13 +418,7 @@ fn lay_with<'a, 'b, 'c>(
 }
 
 // The size with a new entry in: where the first wide number comes, each number grows by 4 bytes, the parent's too.
-fn grown<'a, 'b>(
-    e: Edition,
-    u: &'a [u8],
-    name: &'b [u8],
-    tag: usize,
-    to: Target,
-) -> usize
+fn grown<'a, 'b>(e: Edition, u: &'a [u8], name: &'b [u8], tag: usize, to: Target) -> usize
     requires { ⌜ Sane e × Readable e (now u) × (length (now u) ≤ 1948) × (length (now name) < 256)
         × (length (lay e (parent (now u)) (entries e (now u))) ≡ length (now u)) ⌝ }
     ensures { λ r. ⌜ r ≡ length (lay e (parent (now (u .entry))) (placed (entry tag (now (name .entry)) to) (entries e (now (u .entry))))) ⌝ }
@@ -477,13 +471,7 @@ fn insertion_code<'a, 'b>(
 }
 
 // What an insert answers.
-fn insert_answer<'a, 'b>(
-    e: Edition,
-    b: &'a [u8],
-    told: usize,
-    name: &'b [u8],
-    to: Target,
-) -> usize
+fn insert_answer<'a, 'b>(e: Edition, b: &'a [u8], told: usize, name: &'b [u8], to: Target) -> usize
     requires { ⌜ Sane e ⌝ }
     ensures { λ r. ⌜ r ≡ insert-code e told (now (b .entry)) (now (name .entry)) to ⌝ }
 {

@@ -1,7 +1,7 @@
 // Short-form directories: document 004's dumps, the room of a 256-byte inode, widths, a tag gap, and each refusal.
-use dir_sf::Looked;
-use dir_sf::Seen;
-use dir_sf::Walked;
+use dir::Looked;
+use dir::Seen;
+use dir::Walked;
 use libc::STDOUT_FILENO;
 
 fn say(word: &[u8]) {
@@ -34,7 +34,11 @@ fn same<'a, 'b>(a: &'a [u8], b: &'b [u8]) {
 fn look<'a, 'b>(b: &'a [u8], name: &'b [u8]) {
     say(b"lookup");
     match dir_sf::lookup(b, 4096, name) {
-        Looked::Found { number: n } => number(n),
+        Looked::Found { target, compared } => number(target.inode),
+        Looked::Absent { compared } => {
+            say(b" refused");
+            count(refusal::ABSENT);
+        }
         Looked::Refused(n) => {
             say(b" refused");
             count(n);
@@ -51,10 +55,11 @@ fn step(b: &[u8], place: usize) {
             let seen = s.seen;
             match seen {
                 Seen::Live(x) => {
-                    number(x.number);
+                    number(x.target.inode);
                     count(x.start);
                     count(x.len);
                 }
+                Seen::Gap => say(b" gap"),
                 Seen::End => say(b" end"),
             }
         }
