@@ -1,0 +1,77 @@
+-- Records written one after the other and read back, and records that are stored written out again.
+-- Assumes nothing.
+use Prim.Native.Nat.{ℕ, zero, suc, _+_, _-_, _≤_}
+use native.Mathlib.Omega.{arith}
+use mathlib.Core.Path.{_≡_, refl, sym, _∙_, ap, ap₂}
+use mathlib.Core.List.{List, [], _∷_, _++_, append-assoc, map}
+use lib.ListN.{length, length-append}
+use Rattle.be.specs.Bytes.{part}
+use Rattle.be.proofs.Parts.{part-add}
+use Rattle.records.specs.Records.{start, places, laid}
+use Rattle.records.proofs.Starts.{start-above}
+
+-- each element
+abbrev pub All : {A : Type 0} → (A → Type 0) → List A → Type 0
+All P [] = Unit {0}
+All P (x ∷ xs) = P x × All P xs
+
+pub all-of : {A : Type 0} (P : A → Type 0) → ((x : A) → P x) → (xs : List A) → All P xs
+all-of P h [] = tt
+all-of P h (x ∷ xs) = (h x, all-of P h xs)
+
+module _ {A : Type 0} (bytes-of : A → List ℕ) where
+  pub laid-append : (xs ys : List A) → laid bytes-of (xs ++ ys) ≡ laid bytes-of xs ++ laid bytes-of ys
+  unfolding laid
+  laid-append [] ys = refl
+  laid-append (x ∷ xs) ys =
+      ap (λ (l : List ℕ). bytes-of x ++ l) (laid-append xs ys) ∙ sym (append-assoc (bytes-of x) (laid bytes-of xs) (laid bytes-of ys))
+
+  regroup : (p : List ℕ) (x : A) (xs : List A) (r : List ℕ) → p ++ (laid bytes-of (x ∷ xs) ++ r) ≡ (p ++ bytes-of x) ++ (laid bytes-of xs ++ r)
+  unfolding laid
+  regroup p x xs r = simp append-assoc
+
+  -- records that are as long as they say, whatever stands before and behind them
+  module _ (size : List ℕ → ℕ → ℕ) (sized : (p : List ℕ) (x : A) (r : List ℕ) → size (p ++ (bytes-of x ++ r)) (length p) ≡ length (bytes-of x)) where
+    after : (p : List ℕ) (x : A) (xs : List A) (r : List ℕ)
+        → length p + size (p ++ (laid bytes-of (x ∷ xs) ++ r)) (length p) ≡ length (p ++ bytes-of x)
+    unfolding laid
+    after p x xs r =
+        let g : p ++ (laid bytes-of (x ∷ xs) ++ r) ≡ p ++ (bytes-of x ++ (laid bytes-of xs ++ r)) = simp append-assoc in
+        rw (g, sized p x (laid bytes-of xs ++ r)) (sym (length-append p (bytes-of x)))
+
+    pub laid-ends : (xs : List A) (p r : List ℕ)
+        → start (size (p ++ (laid bytes-of xs ++ r))) (length xs) (length p) ≡ length p + length (laid bytes-of xs)
+    unfolding start laid
+    laid-ends [] p r = omega arith
+    laid-ends (x ∷ xs) p r =
+        ap (start (size (p ++ (laid bytes-of (x ∷ xs) ++ r))) (length xs)) (after p x xs r)
+        ∙ ap (λ (l : List ℕ). start (size l) (length xs) (length (p ++ bytes-of x))) (regroup p x xs r)
+        ∙ laid-ends xs (p ++ bytes-of x) r ∙ simp length-append (omega arith)
+
+    -- and that are what was written
+    module _ (read : List ℕ → ℕ → A) (P : A → Type 0) (reads : (p : List ℕ) (x : A) (r : List ℕ) → P x → read (p ++ (bytes-of x ++ r)) (length p) ≡ x) where
+      pub laid-read : (xs : List A) (p r : List ℕ) → All P xs
+          → map (read (p ++ (laid bytes-of xs ++ r))) (places (size (p ++ (laid bytes-of xs ++ r))) (length xs) (length p)) ≡ xs
+      unfolding places laid
+      laid-read [] p r h = refl
+      laid-read (x ∷ xs) p r h =
+          let g : p ++ (laid bytes-of (x ∷ xs) ++ r) ≡ p ++ (bytes-of x ++ (laid bytes-of xs ++ r)) = simp append-assoc in
+          let f : List ℕ = p ++ (laid bytes-of (x ∷ xs) ++ r) in
+          ap₂ (λ (y : A) (ys : List A). y ∷ ys)
+          (ap (λ (l : List ℕ). read l (length p)) g ∙ reads p x (laid bytes-of xs ++ r) (h .0))
+          (ap (λ (at : ℕ). map (read f) (places (size f) (length xs) at)) (after p x xs r)
+          ∙ ap (λ (l : List ℕ). map (read l) (places (size l) (length xs) (length (p ++ bytes-of x)))) (regroup p x xs r)
+          ∙ laid-read xs (p ++ bytes-of x) r (h .1))
+
+-- stored records, each of which is written as it is read, written out again are the bytes that were read
+module _ {A : Type 0} (bytes-of : A → List ℕ) (f : List ℕ) (size : ℕ → ℕ) (read : ℕ → A)
+    (exact : (at : ℕ) → at + size at ≤ length f → part at (size at) f ≡ bytes-of (read at)) where
+  pub laid-stored : (n at : ℕ) → start size n at ≤ length f
+      → part at (start size n at - at) f ≡ laid bytes-of (map read (places size n at))
+  unfolding start places laid
+  laid-stored zero at h = let q : at - at ≡ 0 = omega arith in rw q
+  laid-stored (suc n) at h =
+      let up : at + size at ≤ start size n (at + size at) = start-above size n (at + size at) in
+      let d : start size n (at + size at) - at ≡ size at + (start size n (at + size at) - (at + size at)) = omega arith in
+      ap (λ (m : ℕ). part at m f) d ∙ part-add at (size at) (start size n (at + size at) - (at + size at)) f
+      ∙ ap₂ (λ (x y : List ℕ). x ++ y) (exact at (omega arith)) (laid-stored n (at + size at) h)

@@ -1,0 +1,68 @@
+-- A loop over records: its invariant, and the laws for its start, a turn and its end.
+-- Assumes nothing.
+use Prim.Native.Nat.{ℕ, _+_, _-_, _≤_, _<_}
+use native.Mathlib.Omega.{arith}
+use mathlib.Core.Path.{_≡_, refl, sym, _∙_, ap}
+use mathlib.Core.List.{List, [], _∷_, _++_}
+use Rattle.records.specs.Records.{start, places}
+use Rattle.records.proofs.Starts.{start-on, places-on, start-above, start-fits, start-split, start-more, places-more, start-fewer}
+
+-- ---- a loop that counts the records that are left
+
+-- n records from a place on, of which some are left: they end where all of them do, and what is asked of all is asked of them
+pub record Rest {A : Type 0} (g : ℕ → ℕ → A) (size : ℕ → ℕ) (n from left at : ℕ) : Type 0 where
+  pub ends : start size n from ≡ start size left at
+  pub whole : g n from ≡ g left at
+
+pub rest-all : {A : Type 0} (g : ℕ → ℕ → A) (size : ℕ → ℕ) (n from : ℕ) → Rest g size n from n from
+rest-all g size n from = record { ends = refl; whole = refl }
+
+module _ {A : Type 0} {g : ℕ → ℕ → A} {size : ℕ → ℕ} {n from left at : ℕ} (v : Rest g size n from left at) where
+  pub rest-stop : {r : A} → g left at ≡ r → r ≡ g n from
+  rest-stop q = sym (v .whole ∙ q)
+
+  pub rest-next : {s : ℕ} → 0 < left → s ≡ size at → g left at ≡ g (left - 1) (at + size at) → Rest g size n from (left - 1) (at + s)
+  rest-next h e q = rw e (record { ends = v .ends ∙ start-on size left at h; whole = v .whole ∙ q })
+
+  -- the next record lies before the end of all
+  pub rest-fits : 0 < left → at + size at ≤ start size n from
+  rest-fits h = omega (arith, v .ends, start-fits size left at h)
+
+-- ---- a loop that counts the records that are passed
+
+-- i of the k records from `at` on are passed, and the next one starts at p
+pub record Run (size : ℕ → ℕ) (at k i p : ℕ) : Type 0 where
+  pub upto : i ≤ k
+  pub place : p ≡ start size i at
+
+pub run-start : (size : ℕ → ℕ) (at k : ℕ) → Run size at k 0 at
+unfolding start
+run-start size at k = record { upto = omega arith; place = refl }
+
+module _ {size : ℕ → ℕ} {at k i p : ℕ} (r : Run size at k i p) where
+  -- what is left ends where all of them do
+  pub run-ends : start size k at ≡ start size (k - i) p
+  run-ends = start-split size i k at (r .upto) ∙ ap (start size (k - i)) (sym (r .place))
+
+  pub run-inside : p ≤ start size k at
+  run-inside = omega (arith, r .place, start-fewer size i k at (r .upto))
+
+  module _ (h : i < k) where
+    pub run-fits : p + size p ≤ start size k at
+    run-fits = omega (arith, run-ends, start-fits size (k - i) p (omega arith))
+
+    module _ {s : ℕ} (q : s ≡ size p) where
+      pub run-next : Run size at k (i + 1) (p + s)
+      run-next =
+          let a : start size i at + size (start size i at) ≡ p + s = rw (← r .place, ← q) refl in
+          record { upto = omega arith; place = sym (start-more size i at ∙ a) }
+
+      -- the places that are left: the next one, and the others
+      pub run-left : places size (k - i) p ≡ p ∷ places size (k - (i + 1)) (p + s)
+      run-left =
+          let n : k - i - 1 ≡ k - (i + 1) = omega arith in
+          rw (q, ← n) (places-on size (k - i) p (omega arith))
+
+    -- the places that are passed, and the next one
+    pub run-passed : places size (i + 1) at ≡ places size i at ++ (p ∷ [])
+    run-passed = rw (r .place) (places-more size i at)
