@@ -1,38 +1,27 @@
 -- A fork that passes, taken apart around the entry asked for; what the writes of a removal and of a set leave.
 -- Assumes nothing.
-use Prim.Native.Nat.{ℕ, zero, suc, _+_, _-_, _≤_, _<_}
+use Prim.Native.Nat.{ℕ, suc, _+_, _-_, _≤_, _<_}
 use native.Mathlib.Omega.{arith}
 use mathlib.Core.Bool.{false, cond}
-use mathlib.Core.Path.{_≡_, refl, sym, _∙_, ap}
+use mathlib.Core.Path.{_≡_, sym, _∙_, ap}
 use mathlib.Core.List.{List, [], _∷_, _++_, append-assoc, append-nil}
 use lib.Dec.{ltb}
-use lib.ListN.{length, take, drop, length-append, take-append-drop}
+use lib.ListN.{length, take, drop, length-append, length-map, take-append-drop}
 use borrow.Author.Tests.{ltb-true, ltb-false, lt-ltb, le-ltb}
 use Rattle.be.specs.Lists.{some-of}
 use Rattle.be.specs.Bytes.{part}
 use Rattle.be.proofs.Bools.{by-cases}
 use Rattle.be.proofs.Parts.{piece, part-length}
-use Rattle.attr_sf.specs.Entry.{Entry, is-key, others, entry-bytes, run}
-use Rattle.attr_sf.specs.Fork.{header, totsize, count, stored, size-at, entries, place-of, fork-code}
+use Rattle.records.specs.Records.{start, places, laid}
+use Rattle.records.proofs.Starts.{length-places}
+use Rattle.records.proofs.Laid.{laid-append, laid-stored}
+use Rattle.attr_sf.specs.Entry.{is-key, others, entry-bytes, run}
+use Rattle.attr_sf.specs.Fork.{header, totsize, count, stored, size-at, entry-at, place-of, fork-code}
 use Rattle.attr_sf.proofs.Tiling.{seek-some}
-use Rattle.attr_sf.proofs.ForkTests.{end-above, end-inside, all-tiled, all-once}
-use Rattle.attr_sf.proofs.StoredBytes.{stored-run}
+use Rattle.attr_sf.proofs.ForkTests.{end-above, end-inside, all-ends, all-once}
+use Rattle.attr_sf.proofs.StoredBytes.{stored-bytes}
 use Rattle.attr_sf.proofs.Seeking.{place-within}
 use Rattle.attr_sf.proofs.OtherEntries.{Split, split, others-all}
-
-pub run-append : (xs ys : List Entry) → run (xs ++ ys) ≡ run xs ++ run ys
-unfolding run
-run-append [] ys = refl
-run-append (x ∷ xs) ys = ap (λ (l : List ℕ). entry-bytes x ++ l) (run-append xs ys) ∙ sym (append-assoc (entry-bytes x) (run xs) (run ys))
-
-pub run-cons : (x : Entry) (xs : List Entry) → run (x ∷ xs) ≡ entry-bytes x ++ run xs
-unfolding run
-run-cons x xs = refl
-
-pub entries-length : (f : List ℕ) (n at : ℕ) → length (entries f n at) ≡ n
-unfolding entries
-entries-length f zero at = refl
-entries-length f (suc n) at = ap suc (entries-length f n (at + size-at f at))
 
 -- the bytes before the entry asked for, its own, and those behind it; its own are none when there is no such entry
 pub record Apart (f name : List ℕ) (flags : ℕ) : Type 0 where
@@ -49,7 +38,9 @@ pub record Apart (f name : List ℕ) (flags : ℕ) : Type 0 where
 module _ (f name : List ℕ) (flags : ℕ) (z : fork-code f ≡ 0) where
   body : part header (totsize f - header) f ≡ run (stored f)
   unfolding stored
-  body = stored-run f (totsize f) (count f) header (end-inside f z) (all-tiled f z)
+  body =
+      ap (λ (n : ℕ). part header (n - header) f) (sym (all-ends f z))
+      ∙ laid-stored entry-bytes f (size-at f) (entry-at f) (stored-bytes f) (count f) header (rw (all-ends f z) (end-inside f z))
 
   pub body-length : length (run (stored f)) ≡ totsize f - header
   body-length = ap length (sym body) ∙ part-length header (totsize f - header) f (omega (arith, end-above f z, end-inside f z))
@@ -61,19 +52,19 @@ module _ (f name : List ℕ) (flags : ℕ) (z : fork-code f ≡ 0) where
 
   pub number : length (stored f) ≡ count f
   unfolding stored
-  number = entries-length f (count f) header
+  number = length-map (places (size-at f) (count f) header) (entry-at f) ∙ length-places (size-at f) (count f) header
 
   pub splits : place-of f name flags < totsize f → Split f name flags (count f) header
   unfolding place-of stored
-  splits h = split f name flags (totsize f) (count f) header (end-inside f z) (all-tiled f z) (all-once f z) h
+  splits h = split f name flags (count f) header (rw (all-ends f z) (end-inside f z)) (all-once f z) (rw (← all-ends f z) at h)
 
   found : place-of f name flags < totsize f → Apart f name flags
-  unfolding place-of stored
+  unfolding place-of stored laid
   found h =
       let s = splits h in
       let a = s .around in
       let w : run (stored f) ≡ run (a .front) ++ (entry-bytes (a .mid) ++ run (a .back)) =
-      ap run (a .whole) ∙ run-append (a .front) (a .mid ∷ a .back) ∙ ap (λ (x : List ℕ). run (a .front) ++ x) (run-cons (a .mid) (a .back)) in
+      ap run (a .whole) ∙ laid-append entry-bytes (a .front) (a .mid ∷ a .back) in
       let lw : length (run (stored f)) ≡ length (run (a .front)) + (length (entry-bytes (a .mid)) + length (run (a .back))) = ap length w ∙ simp length-append in
       let ln : count f ≡ length (a .front) + suc (length (a .back)) = sym number ∙ ap length (a .whole) ∙ length-append (a .front) (a .mid ∷ a .back) in
       record {
@@ -84,14 +75,14 @@ module _ (f name : List ℕ) (flags : ℕ) (z : fork-code f ≡ 0) where
         starts = s .starts;
         sized = rw (lt-ltb _ _ h) (s .sized);
         stops = omega (arith, body-length, end-above f z);
-        rest = ap run (a .rest) ∙ run-append (a .front) (a .back);
+        rest = ap run (a .rest) ∙ laid-append entry-bytes (a .front) (a .back);
         kept = rw (lt-ltb _ _ h) (ap length (a .rest) ∙ length-append (a .front) (a .back) ∙ omega arith);
       }
 
   -- no entry has the name and the flags
   pub absent : totsize f ≤ place-of f name flags → some-of (is-key name flags) (stored f) ≡ false
   unfolding place-of stored
-  absent h = sym (seek-some f name flags (totsize f) (count f) header (all-tiled f z)) ∙ le-ltb _ _ h
+  absent h = sym (seek-some f name flags (count f) header) ∙ le-ltb (place-of f name flags) (start (size-at f) (count f) header) (rw (all-ends f z) h)
 
   missing : totsize f ≤ place-of f name flags → Apart f name flags
   missing h =

@@ -3,16 +3,17 @@
 use Prim.Native.Nat.{ℕ, _+_, _-_}
 use native.Mathlib.Nat.{add-sub-cancel-left}
 use mathlib.Core.Bool.{Bool, true, false}
-use mathlib.Core.Path.{_≡_, sym, _∙_, ap}
+use mathlib.Core.Path.{_≡_, sym, _∙_, ap, ap₂}
 use mathlib.Core.List.{List}
 use lib.Dec.{ltb}
 use lib.ListN.{take, drop}
-use borrow.Author.Tests.{eq-eqb, ne-eqb}
+use borrow.Author.Tests.{eq-eqb, ne-eqb, eqb-true}
 use Rattle.be.specs.Lists.{same, some-of}
 use Rattle.be.specs.Bytes.{byte, part}
+use Rattle.records.specs.Records.{start, tiled}
 use Rattle.name.specs.Name.{legal-attr-name}
 use Rattle.attr_sf.specs.Entry.{is-key, legal-flags}
-use Rattle.attr_sf.specs.Fork.{entry-at, entries, tiled, seek, name-legal-of, flags-legal-of}
+use Rattle.attr_sf.specs.Fork.{size-at, entry-at, entries, seek, name-legal-of, flags-legal-of}
 use Rattle.attr_sf.proofs.Tiling.{seek-some}
 
 module _ (f : List ℕ) (at : ℕ) where
@@ -41,9 +42,9 @@ module _ (f : List ℕ) (at : ℕ) where
 
   -- an entry's own name and flags, looked for among others
   pub again-test : (end n from k g r : ℕ) → k ≡ byte at f → g ≡ byte (at + 2) f
-      → r ≡ seek f (take (at + 3 + k - (at + 3)) (drop (at + 3) f)) g n from → tiled f end n from ≡ true
+      → r ≡ seek f (take (at + 3 + k - (at + 3)) (drop (at + 3) f)) g n from → tiled (size-at f) end n from ≡ true
       → ltb r end ≡ some-of (is-key (entry-at f at .name) (entry-at f at .flags)) (entries f n from)
   unfolding entry-at
   again-test end n from k g r e d h t =
       let q : r ≡ seek f (part (at + 3) (byte at f) f) (byte (at + 2) f) n from = h ∙ rw (add-sub-cancel-left (at + 3) k, e, d) in
-      ap (λ (x : ℕ). ltb x end) q ∙ seek-some f (part (at + 3) (byte at f) f) (byte (at + 2) f) end n from t
+      ap₂ (λ (x y : ℕ). ltb x y) q (sym (eqb-true (start (size-at f) n from) end t)) ∙ seek-some f (part (at + 3) (byte at f) f) (byte (at + 2) f) n from

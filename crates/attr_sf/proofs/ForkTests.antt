@@ -7,12 +7,13 @@ use mathlib.Core.Path.{_≡_, refl, sym, _∙_}
 use mathlib.Core.List.{List}
 use lib.Dec.{leb}
 use lib.ListN.{length}
-use borrow.Author.Tests.{le-leb, lt-leb, leb-true}
+use borrow.Author.Tests.{le-leb, lt-leb, leb-true, eqb-true}
 use Rattle.be.specs.Lists.{every}
 use Rattle.be.specs.Bytes.{byte, field}
 use Rattle.be.proofs.Bools.{by-cases, and-left, and-right}
+use Rattle.records.specs.Records.{start, tiled}
 use Rattle.attr_sf.specs.Entry.{distinct}
-use Rattle.attr_sf.specs.Fork.{header, totsize, count, stored, entries, tiled, name-legal-of, flags-legal-of, own-code, span-ok, tile-ok, names-ok, flags-ok, once-ok, fork-code}
+use Rattle.attr_sf.specs.Fork.{header, totsize, count, stored, size-at, entries, name-legal-of, flags-legal-of, own-code, span-ok, tile-ok, names-ok, flags-ok, once-ok, fork-code}
 
 module _ (f : List ℕ) where
   pub span-short : length f < header → 4 ≡ fork-code f
@@ -34,11 +35,11 @@ module _ (f : List ℕ) where
         unfolding span-ok totsize
         span-is = rw (← e, le-leb header (length f) h, le-leb header end k, le-leb end (length f) l)
 
-        pub not-tiled : tiled f end n header ≡ false → 5 ≡ fork-code f
+        pub not-tiled : tiled (size-at f) end n header ≡ false → 5 ≡ fork-code f
         unfolding fork-code tile-ok totsize count
         not-tiled t = rw (span-is, ← e, ← m, t)
 
-        module _ (t : tiled f end n header ≡ true) where
+        module _ (t : tiled (size-at f) end n header ≡ true) where
           -- what is left to test once the entries tile
           rest-is : cond (every name-legal-of (entries f n header)) (cond (every flags-legal-of (entries f n header)) (cond (distinct (entries f n header)) 0 10) 7) 6 ≡ fork-code f
           unfolding fork-code tile-ok names-ok flags-ok once-ok totsize count stored
@@ -95,9 +96,13 @@ module _ (f : List ℕ) (z : fork-code f ≡ 0) where
   unfolding span-ok
   end-inside = leb-true _ _ (and-right (leb header (totsize f)) _ (and-right (leb header (length f)) _ (passes .0 .0)))
 
-  pub all-tiled : tiled f (totsize f) (count f) header ≡ true
+  pub all-tiled : tiled (size-at f) (totsize f) (count f) header ≡ true
   unfolding tile-ok
   all-tiled = passes .0 .1
+
+  -- the entries end at totsize
+  pub all-ends : start (size-at f) (count f) header ≡ totsize f
+  all-ends = eqb-true (start (size-at f) (count f) header) (totsize f) all-tiled
 
   pub all-named : every name-legal-of (stored f) ≡ true
   unfolding names-ok

@@ -1,6 +1,5 @@
 pub mod FlagsLaw
 pub mod Tiling
-pub mod Turns
 pub mod EntryReads
 pub mod EntryTests
 pub mod ForkTests

@@ -21,7 +21,7 @@ use Rattle.attr_sf.specs.Fork.{header, totsize, count, stored, entry-at,
 use Rattle.attr_sf.specs.Calls.{attr-code, fork-if, asked-code, held, held-code, found-code, attr-at, found-in, looked-up, place-code, part-of}
 use Rattle.attr_sf.specs.Laws.{Found-law, Absent-law}
 use Rattle.attr_sf.proofs.Tiling.{seek-some}
-use Rattle.attr_sf.proofs.ForkTests.{all-tiled}
+use Rattle.attr_sf.proofs.ForkTests.{all-ends}
 use Rattle.attr_sf.proofs.InodeTests.{inode-passed, fork-passed, fork-length, tests-passed, lent-fork, if-passed, if-refused}
 use Rattle.attr_sf.proofs.Seeking.{at-never, found-inside}
 use Rattle.attr_sf.proofs.OtherEntries.{others-none}
@@ -48,7 +48,7 @@ module _ (p : Entry → Bool) where
 module _ (f name : List ℕ) (flags : ℕ) (z : fork-code f ≡ 0) where
   pub held-some : held f name flags ≡ some-of (is-key name flags) (stored f)
   unfolding held place-of stored
-  held-some = seek-some f name flags (totsize f) (count f) header (all-tiled f z)
+  held-some = rw (← all-ends f z) (seek-some f name flags (count f) header)
 
   held-place : held f name flags ≡ true → place-of f name flags < totsize f
   unfolding held

@@ -10,10 +10,11 @@ use lib.ListN.{length, length-append}
 use borrow.Author.Tests.{eq-eqb, eqb-true, not-true}
 use Rattle.be.specs.Lists.{every, some-of, same}
 use Rattle.be.proofs.Bools.{by-cases, and-left, and-right, and-both, clash, neither, or-false}
+use Rattle.records.specs.Records.{start, places, laid}
+use Rattle.records.proofs.Starts.{start-above}
 use Rattle.name.proofs.Same.{same-eq, same-refl}
 use Rattle.attr_sf.specs.Entry.{Entry, entry, is-key, distinct, others, entry-bytes, run}
-use Rattle.attr_sf.specs.Fork.{size-at, entry-at, entries, tiled, seek}
-use Rattle.attr_sf.proofs.Tiling.{tiled-end, tiled-fits, tiled-next}
+use Rattle.attr_sf.specs.Fork.{size-at, entry-at, entries, seek}
 use Rattle.attr_sf.proofs.StoredBytes.{stored-size}
 
 -- an entry that has the name and the flags
@@ -115,7 +116,7 @@ pub record Split (f name : List ℕ) (flags n at : ℕ) : Type 0 where
 here : (f name : List ℕ) (flags n at : ℕ) → is-key name flags (entry-at f at) ≡ true
     → some-of (is-key (entry-at f at .name) (entry-at f at .flags)) (entries f n (at + size-at f at)) ≡ false
     → length (entry-bytes (entry-at f at)) ≡ size-at f at → Split f name flags (suc n) at
-unfolding entries seek others run
+unfolding places seek others laid
 here f name flags n at k free sz =
     let i = key-is name flags (entry-at f at) k in
     let none : some-of (is-key name flags) (entries f n (at + size-at f at)) ≡ false = rw (i .0, i .1) free in
@@ -135,7 +136,7 @@ here f name flags n at k free sz =
 
 there : (f name : List ℕ) (flags n at : ℕ) → is-key name flags (entry-at f at) ≡ false
     → length (entry-bytes (entry-at f at)) ≡ size-at f at → Split f name flags n (at + size-at f at) → Split f name flags (suc n) at
-unfolding entries seek others run
+unfolding places seek others laid
 there f name flags n at k sz s =
     let a = s .around in
     let l : length (entry-bytes (entry-at f at) ++ run (a .front)) ≡ length (entry-bytes (entry-at f at)) + length (run (a .front)) = length-append (entry-bytes (entry-at f at)) (run (a .front)) in
@@ -153,17 +154,14 @@ there f name flags n at k sz s =
       reads = rw k (s .reads);
     }
 
-pub split : (f name : List ℕ) (flags end n at : ℕ) → end ≤ length f → tiled f end n at ≡ true → distinct (entries f n at) ≡ true
-    → seek f name flags n at < end → Split f name flags n at
-unfolding entries seek others distinct
-split f name flags end zero at l t d h = absurd (omega (arith, tiled-end f end 0 at (omega arith) t))
-split f name flags end (suc n) at l t d h =
-    let fit : at + size-at f at ≤ end = tiled-fits f end (suc n) at (omega arith) t in
-    let q : suc n - 1 ≡ n = omega arith in
-    let next : tiled f end n (at + size-at f at) ≡ true = rw q at (tiled-next f end (suc n) at (omega arith) t) in
+pub split : (f name : List ℕ) (flags n at : ℕ) → start (size-at f) n at ≤ length f → distinct (entries f n at) ≡ true
+    → seek f name flags n at < start (size-at f) n at → Split f name flags n at
+unfolding start places seek distinct
+split f name flags zero at l d h = absurd (omega arith)
+split f name flags (suc n) at l d h =
     let free : some-of (is-key (entry-at f at .name) (entry-at f at .flags)) (entries f n (at + size-at f at)) ≡ false = not-true _ (and-left _ (distinct (entries f n (at + size-at f at))) d) in
     let d' : distinct (entries f n (at + size-at f at)) ≡ true = and-right (not (some-of (is-key (entry-at f at .name) (entry-at f at .flags)) (entries f n (at + size-at f at)))) _ d in
-    let sz : length (entry-bytes (entry-at f at)) ≡ size-at f at = stored-size f at (omega arith) in
+    let sz : length (entry-bytes (entry-at f at)) ≡ size-at f at = stored-size f at (omega (arith, start-above (size-at f) n (at + size-at f at))) in
     by-cases (is-key name flags (entry-at f at))
     (λ k. here f name flags n at k free sz)
-    (λ k. there f name flags n at k sz (split f name flags end n (at + size-at f at) l next d' (rw k at h)))
+    (λ k. there f name flags n at k sz (split f name flags n (at + size-at f at) l d' (rw k at h)))

@@ -2,15 +2,15 @@
 -- Assumes nothing.
 use Prim.Native.Nat.{ℕ, _+_}
 use native.Mathlib.Omega.{arith}
-use mathlib.Core.Bool.{true}
 use mathlib.Core.Path.{_≡_, refl, sym, _∙_, ap}
 use mathlib.Core.List.{List, [], _∷_, _++_, append-assoc}
 use lib.ListN.{length, length-append}
-use borrow.Author.Tests.{eq-eqb, le-leb}
 use Rattle.be.specs.Bytes.{byte, part}
 use Rattle.be.proofs.Parts.{part-at}
+use Rattle.records.specs.Records.{start}
+use Rattle.records.proofs.Laid.{laid-ends, laid-read, all-of}
 use Rattle.attr_sf.specs.Entry.{Entry, entry-bytes, run}
-use Rattle.attr_sf.specs.Fork.{size-at, entry-at, entries, tiled}
+use Rattle.attr_sf.specs.Fork.{size-at, entry-at, entries}
 
 byte-at : (p : List ℕ) (x : ℕ) (r : List ℕ) (o : ℕ) → length p ≡ o → byte o (p ++ (x ∷ r)) ≡ x
 byte-at p x r o h = rw (← h) (go p)
@@ -69,28 +69,10 @@ module _ (p : List ℕ) (e : Entry) (r : List ℕ) (o : ℕ) (h : length p ≡ o
   unfolding size-at F
   read-size = rw (read-namelen, read-valuelen) (sym (bytes-length e))
 
-regroup : (p : List ℕ) (e : Entry) (es : List Entry) (r : List ℕ) → p ++ (run (e ∷ es) ++ r) ≡ (p ++ entry-bytes e) ++ (run es ++ r)
-unfolding run
-regroup p e es r = simp append-assoc
+-- entries end where their bytes do, and are what was written
+pub read-ends : (es : List Entry) (p r : List ℕ) → start (size-at (p ++ (run es ++ r))) (length es) (length p) ≡ length p + length (run es)
+read-ends es p r = laid-ends entry-bytes size-at (λ p x r. read-size p x r (length p) refl) es p r
 
-pub read-entries : (es : List Entry) (p r : List ℕ) (o : ℕ) → length p ≡ o → entries (p ++ (run es ++ r)) (length es) o ≡ es
-unfolding entries
-read-entries [] p r o h = refl
-read-entries (e ∷ es) p r o h =
-    let g : p ++ (run (e ∷ es) ++ r) ≡ p ++ (entry-bytes e ++ (run es ++ r)) = regroup p e es r ∙ append-assoc p (entry-bytes e) (run es ++ r) in
-    let tail : entries (p ++ (entry-bytes e ++ (run es ++ r))) (length es) (o + length (entry-bytes e)) ≡ es =
-    ap (λ (l : List ℕ). entries l (length es) (o + length (entry-bytes e))) (sym (append-assoc p (entry-bytes e) (run es ++ r)))
-    ∙ read-entries es (p ++ entry-bytes e) r (o + length (entry-bytes e)) (length-append p (entry-bytes e) ∙ omega arith) in
-    rw (g, read-entry p e (run es ++ r) o h, read-size p e (run es ++ r) o h, tail)
-
-pub read-tiled : (es : List Entry) (p r : List ℕ) (o end : ℕ) → length p ≡ o → end ≡ o + length (run es)
-    → tiled (p ++ (run es ++ r)) end (length es) o ≡ true
-unfolding tiled run
-read-tiled [] p r o end h k = eq-eqb o end (omega arith)
-read-tiled (e ∷ es) p r o end h k =
-    let g : p ++ (run (e ∷ es) ++ r) ≡ p ++ (entry-bytes e ++ (run es ++ r)) = regroup p e es r ∙ append-assoc p (entry-bytes e) (run es ++ r) in
-    let l : length (run (e ∷ es)) ≡ length (entry-bytes e) + length (run es) = length-append (entry-bytes e) (run es) in
-    let tail : tiled (p ++ (entry-bytes e ++ (run es ++ r))) end (length es) (o + length (entry-bytes e)) ≡ true =
-    ap (λ (x : List ℕ). tiled x end (length es) (o + length (entry-bytes e))) (sym (append-assoc p (entry-bytes e) (run es ++ r)))
-    ∙ read-tiled es (p ++ entry-bytes e) r (o + length (entry-bytes e)) end (length-append p (entry-bytes e) ∙ omega arith) (omega arith) in
-    rw (g, read-size p e (run es ++ r) o h, le-leb (o + length (entry-bytes e)) end (omega arith), tail)
+pub read-entries : (es : List Entry) (p r : List ℕ) → entries (p ++ (run es ++ r)) (length es) (length p) ≡ es
+read-entries es p r =
+    laid-read entry-bytes size-at (λ p x r. read-size p x r (length p) refl) entry-at (λ x. Unit {0}) (λ p x r u. read-entry p x r (length p) refl) es p r (all-of _ (λ x. tt) es)

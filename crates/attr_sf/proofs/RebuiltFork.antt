@@ -8,15 +8,16 @@ use mathlib.Core.List.{List, [], _++_, append-assoc}
 use lib.Dec.{leb}
 use lib.Seq.{drop-at}
 use lib.ListN.{drop, length, replicate, length-append, length-replicate}
-use borrow.Author.Tests.{le-leb, leb-true}
+use borrow.Author.Tests.{le-leb, leb-true, eq-eqb}
 use Rattle.be.specs.Lists.{every}
 use Rattle.be.specs.Bytes.{byte, part, be, to-be}
 use Rattle.be.proofs.Bools.{and-left, and-right}
 use Rattle.be.proofs.Numbers.{length-to-be, be-to-be}
 use Rattle.be.proofs.Parts.{part-at, part-length, field-1}
+use Rattle.records.specs.Records.{start, tiled}
 use Rattle.attr_sf.specs.Entry.{Entry, distinct, run}
-use Rattle.attr_sf.specs.Fork.{header, totsize, count, stored, tiled, name-legal-of, flags-legal-of, span-ok, tile-ok, names-ok, flags-ok, once-ok, fork-code, fork-with, fits}
-use Rattle.attr_sf.proofs.ReadBack.{read-entries, read-tiled}
+use Rattle.attr_sf.specs.Fork.{header, totsize, count, stored, size-at, name-legal-of, flags-legal-of, span-ok, tile-ok, names-ok, flags-ok, once-ok, fork-code, fork-with, fits}
+use Rattle.attr_sf.proofs.ReadBack.{read-entries, read-ends}
 
 -- the header that is written
 pub head-of : List ℕ → List Entry → List ℕ
@@ -85,10 +86,12 @@ module _ (f : List ℕ) (es : List Entry) where
     -- the entries are what was written
     pub with-stored : stored (fork-with f es) ≡ es
     unfolding stored
-    with-stored = rw (with-count, with-is) (read-entries es (head-of f es) (unused f es) header head-length)
+    with-stored = rw (with-count, with-is, ← head-length) (read-entries es (head-of f es) (unused f es))
 
-    with-tiled : tiled (fork-with f es) (totsize (fork-with f es)) (count (fork-with f es)) header ≡ true
-    with-tiled = rw (with-count, with-totsize, with-is) (read-tiled es (head-of f es) (unused f es) header (header + length (run es)) head-length refl)
+    with-tiled : tiled (size-at (fork-with f es)) (totsize (fork-with f es)) (count (fork-with f es)) header ≡ true
+    with-tiled =
+        eq-eqb (start (size-at (fork-with f es)) (count (fork-with f es)) header) (totsize (fork-with f es))
+        (rw (with-count, with-totsize, with-is, ← head-length) (read-ends es (head-of f es) (unused f es)))
 
     pub with-passes : every name-legal-of es ≡ true → every flags-legal-of es ≡ true → distinct es ≡ true → fork-code (fork-with f es) ≡ 0
     unfolding fork-code span-ok tile-ok names-ok flags-ok once-ok

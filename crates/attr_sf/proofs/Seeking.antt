@@ -12,36 +12,37 @@ use borrow.Author.Tests.{lt-ltb, le-ltb, ltb-true}
 use Rattle.refusal.specs.Refusal.{ABSENT}
 use Rattle.be.specs.Bytes.{byte, field}
 use Rattle.be.proofs.Bools.{by-cases}
+use Rattle.records.specs.Records.{tiled}
 use Rattle.attr_sf.specs.declared.Place.{Place}
 use Rattle.attr_sf.specs.declared.Place.the-variants.{At, Refused}
 use Rattle.attr_sf.specs.declared.Plan.{Plan}
-use Rattle.attr_sf.specs.Fork.{header, tiled, totsize, count, size-at, fork-code, place-of, seek}
+use Rattle.attr_sf.specs.Fork.{header, totsize, count, size-at, fork-code, place-of, seek}
 use Rattle.attr_sf.specs.Calls.{held, found-in, attr-at}
 use Rattle.attr_sf.specs.Plan.{plan-of}
 use Rattle.attr_sf.proofs.Tiling.{three, seek-count, seek-fits, seek-within, value-inside}
-use Rattle.attr_sf.proofs.ForkTests.{all-tiled, end-inside}
+use Rattle.attr_sf.proofs.ForkTests.{all-tiled, all-ends, end-inside}
 
 -- a refusal is no place
 pub at-never : {a n k : ℕ} → _≡_ {A = Place} (At a n) (Refused k) → ⊥
 at-never h = let q : _≡_ {A = ℕ} 0 1 = cc in omega arith
 
 -- the entries' end and count, as they are read
-pub seek-may : (f : List ℕ) {end n : ℕ} → end ≡ field 0 2 f → n ≡ byte 2 f → fork-code f ≡ 0 → (tiled f end n header ≡ true) × (end ≤ length f)
+pub seek-may : (f : List ℕ) {end n : ℕ} → end ≡ field 0 2 f → n ≡ byte 2 f → fork-code f ≡ 0 → (tiled (size-at f) end n header ≡ true) × (end ≤ length f)
 unfolding totsize count
 seek-may f e m z = rw (e, m) (all-tiled f z, end-inside f z)
 
 module _ (f name : List ℕ) (flags : ℕ) where
   pub place-fits : fork-code f ≡ 0 → place-of f name flags < totsize f → place-of f name flags + size-at f (place-of f name flags) ≤ totsize f
   unfolding place-of
-  place-fits z h = seek-fits f name flags (totsize f) (count f) header (all-tiled f z) h
+  place-fits z h = rw (← all-ends f z) (seek-fits f name flags (count f) header (rw (← all-ends f z) at h))
 
   pub count-above : fork-code f ≡ 0 → place-of f name flags < totsize f → 1 ≤ count f
   unfolding place-of
-  count-above z h = seek-count f name flags (totsize f) (count f) header (all-tiled f z) h
+  count-above z h = seek-count f name flags (count f) header (rw (← all-ends f z) at h)
 
   pub place-within : fork-code f ≡ 0 → place-of f name flags ≤ totsize f
   unfolding place-of
-  place-within z = seek-within f name flags (totsize f) (count f) header (all-tiled f z)
+  place-within z = rw (← all-ends f z) (seek-within f name flags (count f) header)
 
   -- as it is read
   pub place-is : {n r : ℕ} → n ≡ byte 2 f → fork-code f ≡ 0 → r ≡ seek f name flags n header → (r ≡ place-of f name flags) × (r ≤ totsize f)

@@ -1,19 +1,17 @@
 -- What is stored, written out again, is the bytes that were read.
 -- Assumes nothing.
-use Prim.Native.Nat.{ℕ, zero, suc, _+_, _-_, _≤_}
+use Prim.Native.Nat.{ℕ, suc, _+_, _≤_}
 use native.Mathlib.Omega.{arith}
 use native.Mathlib.Numerals.{add-one, add-two}
 use native.Mathlib.Nat.{add-assoc}
-use mathlib.Core.Bool.{true}
-use mathlib.Core.Path.{_≡_, sym, _∙_, ap, ap₂}
+use mathlib.Core.Path.{_≡_, sym, _∙_, ap}
 use mathlib.Core.List.{List, [], _∷_, _++_}
 use lib.ListN.{length}
 use lib.Seq.{drop-cons}
 use Rattle.be.specs.Bytes.{byte, part}
 use Rattle.be.proofs.Parts.{part-add, part-length}
-use Rattle.attr_sf.specs.Entry.{entry-bytes, run}
-use Rattle.attr_sf.specs.Fork.{size-at, entry-at, entries, tiled}
-use Rattle.attr_sf.proofs.Tiling.{tiled-end, tiled-fits, tiled-next}
+use Rattle.attr_sf.specs.Entry.{entry-bytes}
+use Rattle.attr_sf.specs.Fork.{size-at, entry-at}
 
 three-bytes : (o : ℕ) (f : List ℕ) → o + 3 ≤ length f → part o 3 f ≡ byte o f ∷ byte (o + 1) f ∷ byte (o + 2) f ∷ []
 three-bytes o f h =
@@ -30,15 +28,3 @@ stored-bytes f at h =
 
 pub stored-size : (f : List ℕ) (at : ℕ) → at + size-at f at ≤ length f → length (entry-bytes (entry-at f at)) ≡ size-at f at
 stored-size f at h = ap length (sym (stored-bytes f at h)) ∙ part-length at (size-at f at) f h
-
-pub stored-run : (f : List ℕ) (end n at : ℕ) → end ≤ length f → tiled f end n at ≡ true → part at (end - at) f ≡ run (entries f n at)
-unfolding entries run
-stored-run f end zero at l t =
-    let q : end - at ≡ 0 = omega (arith, tiled-end f end 0 at (omega arith) t) in rw q
-stored-run f end (suc n) at l t =
-    let fit : at + size-at f at ≤ end = tiled-fits f end (suc n) at (omega arith) t in
-    let q : suc n - 1 ≡ n = omega arith in
-    let next : tiled f end n (at + size-at f at) ≡ true = rw q at (tiled-next f end (suc n) at (omega arith) t) in
-    let d : end - at ≡ size-at f at + (end - (at + size-at f at)) = omega arith in
-    ap (λ (m : ℕ). part at m f) d ∙ part-add at (size-at f at) (end - (at + size-at f at)) f
-    ∙ ap₂ (λ (x y : List ℕ). x ++ y) (stored-bytes f at (omega arith)) (stored-run f end n (at + size-at f at) l next)

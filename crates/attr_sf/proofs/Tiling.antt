@@ -2,16 +2,20 @@
 -- Assumes nothing.
 use Prim.Native.Nat.{ℕ, zero, suc, _+_, _-_, _≤_, _<_}
 use native.Mathlib.Omega.{arith}
-use mathlib.Core.Bool.{Bool, true, false, cond, _&&_}
-use mathlib.Core.Path.{_≡_, refl, sym, _∙_}
-use mathlib.Core.List.{List, [], _∷_}
-use lib.Dec.{eqb, leb, ltb}
-use borrow.Author.Tests.{eqb-true, le-leb, lt-leb, leb-true, lt-ltb, le-ltb}
-use Rattle.be.specs.Lists.{every, some-of}
+use mathlib.Core.Bool.{true, false, cond}
+use mathlib.Core.Path.{_≡_, refl, _∙_, ap}
+use mathlib.Core.List.{List}
+use lib.Dec.{eqb, ltb}
+use lib.ListN.{length}
+use borrow.Author.Tests.{eqb-true, lt-ltb, le-ltb}
+use Rattle.be.specs.Lists.{some-of}
 use Rattle.be.specs.Bytes.{byte}
-use Rattle.be.proofs.Bools.{by-cases, and-left, and-right}
-use Rattle.attr_sf.specs.Entry.{Entry, is-key, distinct}
-use Rattle.attr_sf.specs.Fork.{header, size-at, entry-at, entries, tiled, seek}
+use Rattle.be.proofs.Bools.{by-cases}
+use Rattle.records.specs.Records.{start, places, tiled, stands}
+use Rattle.records.proofs.Starts.{start-on, places-on, start-done, places-done, start-above, tiled-over, stands-first, stands-later, stands-within, stands-fits}
+use Rattle.records.proofs.Turns.{Rest, rest-stop, rest-next, rest-within, rest-fits}
+use Rattle.attr_sf.specs.Entry.{is-key, distinct}
+use Rattle.attr_sf.specs.Fork.{header, size-at, entry-at, entries, seek}
 
 pub three : (f : List ℕ) (at : ℕ) → 3 ≤ size-at f at
 unfolding size-at
@@ -25,104 +29,66 @@ pub value-inside : (f : List ℕ) (at n : ℕ) → at + size-at f at ≤ n → a
 unfolding size-at
 value-inside f at n h = omega arith
 
-module _ (f : List ℕ) (end : ℕ) where
-  tiled-step : (n at : ℕ) → 0 < n → tiled f end n at ≡ (leb (at + size-at f at) end && tiled f end (n - 1) (at + size-at f at))
-  unfolding tiled
-  tiled-step zero at h = absurd (omega arith)
-  tiled-step (suc n) at h =
-      let q : suc n - 1 ≡ n = omega arith in rw q
-
-  tiled-over : (n at : ℕ) → 0 < n → end < at + size-at f at → tiled f end n at ≡ false
-  tiled-over n at h k = tiled-step n at h ∙ rw (lt-leb _ _ k)
-
-  tiled-short : (n at : ℕ) → 0 < n → end < at + 3 → tiled f end n at ≡ false
-  tiled-short n at h k = tiled-over n at h (omega (arith, three f at))
-
-  tiled-on : (n at : ℕ) → 0 < n → at + size-at f at ≤ end → tiled f end n at ≡ tiled f end (n - 1) (at + size-at f at)
-  tiled-on n at h k = tiled-step n at h ∙ rw (le-leb _ _ k)
-
-  pub tiled-done : (n at : ℕ) → n ≤ 0 → tiled f end n at ≡ eqb at end
-  unfolding tiled
-  tiled-done zero at h = refl
-  tiled-done (suc n) at h = absurd (omega arith)
-
-  pub tiled-fits : (n at : ℕ) → 0 < n → tiled f end n at ≡ true → at + size-at f at ≤ end
-  tiled-fits n at h t = leb-true _ _ (and-left _ (tiled f end (n - 1) (at + size-at f at)) (sym (tiled-step n at h) ∙ t))
-
-  pub tiled-next : (n at : ℕ) → 0 < n → tiled f end n at ≡ true → tiled f end (n - 1) (at + size-at f at) ≡ true
-  tiled-next n at h t = and-right (leb (at + size-at f at) end) _ (sym (tiled-step n at h) ∙ t)
-
-  pub tiled-end : (n at : ℕ) → n ≤ 0 → tiled f end n at ≡ true → at ≡ end
-  tiled-end n at h t = eqb-true at end (sym (tiled-done n at h) ∙ t)
-
-  -- entries that are there don't reach past their end
-  pub tiled-within : (n at : ℕ) → tiled f end n at ≡ true → at ≤ end
-  tiled-within zero at t = omega (arith, tiled-end 0 at (omega arith) t)
-  tiled-within (suc n) at t = omega (arith, tiled-fits (suc n) at (omega arith) t)
+-- ---- TILE, one entry at a time
 
 -- the entries so far lie within the end, and those that are left decide
 pub record Tiles (f : List ℕ) (end n left at : ℕ) : Type 0 where
-  pub within : at ≤ end
-  pub rest : tiled f end n header ≡ tiled f end left at
+  pub upto : at ≤ end
+  pub rest : Rest (tiled (size-at f) end) (size-at f) n header left at
 
 module _ {f : List ℕ} {end n left at : ℕ} (v : Tiles f end n left at) where
-  pub tiles-short : 0 < left → end - at < 3 → false ≡ tiled f end n header
-  tiles-short h k = sym (v .rest ∙ tiled-short f end left at h (omega (arith, v .within)))
+  module _ (h : 0 < left) where
+    pub tiles-short : end - at < 3 → false ≡ tiled (size-at f) end n header
+    tiles-short k = rest-stop (v .rest) (tiled-over (size-at f) left at end h (omega (arith, v .upto, three f at)))
 
-  module _ {s : ℕ} (h : 0 < left) (e : s ≡ size-at f at) where
-    pub tiles-over : end - at < s → false ≡ tiled f end n header
-    tiles-over k = sym (v .rest ∙ tiled-over f end left at h (omega (arith, v .within)))
+    module _ {s : ℕ} (e : s ≡ size-at f at) where
+      pub tiles-over : end - at < s → false ≡ tiled (size-at f) end n header
+      tiles-over k = rest-stop (v .rest) (tiled-over (size-at f) left at end h (omega (arith, v .upto)))
 
-    pub tiles-next : s ≤ end - at → Tiles f end n (left - 1) (at + s)
-    tiles-next k =
-        record { within = omega (arith, v .within); rest = v .rest ∙ tiled-on f end left at h (omega (arith, v .within)) ∙ rw e }
+      pub tiles-next : s ≤ end - at → Tiles f end n (left - 1) (at + s)
+      tiles-next k =
+          record {
+            upto = omega (arith, v .upto);
+            rest = rest-next (v .rest) h e (ap (λ (x : ℕ). eqb x end) (start-on (size-at f) left at h));
+          }
 
-  pub tiles-done : left ≤ 0 → eqb at end ≡ tiled f end n header
-  tiles-done h = sym (v .rest ∙ tiled-done f end left at h)
+  pub tiles-done : left ≤ 0 → eqb at end ≡ tiled (size-at f) end n header
+  tiles-done h = rest-stop (v .rest) (ap (λ (x : ℕ). eqb x end) (start-done (size-at f) left at h))
+
+-- a loop over entries that tile: it stays before their end, the next entry lies in the fork, and those behind it tile
+module _ {A : Type 0} {g : ℕ → ℕ → A} (f : List ℕ) (end : ℕ) {n from left at : ℕ} (v : Rest g (size-at f) n from left at)
+    (t : tiled (size-at f) end n from ≡ true) where
+  pub next-within : at ≤ end
+  next-within = omega (arith, rest-within v, eqb-true (start (size-at f) n from) end t)
+
+  module _ (h : 0 < left) where
+    pub next-fits : end ≤ length f → at + size-at f at ≤ length f
+    next-fits l = omega (arith, rest-fits v h, eqb-true (start (size-at f) n from) end t)
+
+    pub next-long : end ≤ length f → at + 3 ≤ length f
+    next-long l = omega (arith, next-fits l, three f at)
+
+    pub next-tiled : tiled (size-at f) end (left - 1) (at + size-at f at) ≡ true
+    next-tiled = rw (← start-on (size-at f) left at h, ← v .ends) t
+
+-- ---- TWICE and the search, one entry at a time
 
 module _ (f : List ℕ) where
-  pub entries-step : (n at : ℕ) → 0 < n → entries f n at ≡ entry-at f at ∷ entries f (n - 1) (at + size-at f at)
-  unfolding entries
-  entries-step zero at h = absurd (omega arith)
-  entries-step (suc n) at h = let q : suc n - 1 ≡ n = omega arith in rw q
-
-  pub entries-done : (n at : ℕ) → n ≤ 0 → entries f n at ≡ []
-  unfolding entries
-  entries-done zero at h = refl
-  entries-done (suc n) at h = absurd (omega arith)
-
-  -- a test of each entry
-  module _ (p : Entry → Bool) where
-    pub all-fails : (n at : ℕ) → 0 < n → p (entry-at f at) ≡ false → every p (entries f n at) ≡ false
-    all-fails n at h q = rw (entries-step n at h, q)
-
-    pub all-on : (n at : ℕ) → 0 < n → p (entry-at f at) ≡ true → every p (entries f n at) ≡ every p (entries f (n - 1) (at + size-at f at))
-    all-on n at h q = rw (entries-step n at h, q)
-
-    -- the test so far, and that of one entry more
-    pub all-and : (a : Bool) (n at : ℕ) → 0 < n
-        → (a && every p (entries f n at)) ≡ ((a && p (entry-at f at)) && every p (entries f (n - 1) (at + size-at f at)))
-    all-and true n at h = rw (entries-step n at h)
-    all-and false n at h = refl
-
-    pub all-done : (n at : ℕ) → n ≤ 0 → every p (entries f n at) ≡ true
-    all-done n at h = rw (entries-done n at h)
-
   pub distinct-fails : (n at : ℕ) → 0 < n
       → some-of (is-key (entry-at f at .name) (entry-at f at .flags)) (entries f (n - 1) (at + size-at f at)) ≡ true
       → distinct (entries f n at) ≡ false
   unfolding distinct
-  distinct-fails n at h q = rw (entries-step n at h, q)
+  distinct-fails n at h q = rw (places-on (size-at f) n at h, q)
 
   pub distinct-on : (n at : ℕ) → 0 < n
       → some-of (is-key (entry-at f at .name) (entry-at f at .flags)) (entries f (n - 1) (at + size-at f at)) ≡ false
       → distinct (entries f n at) ≡ distinct (entries f (n - 1) (at + size-at f at))
   unfolding distinct
-  distinct-on n at h q = rw (entries-step n at h, q)
+  distinct-on n at h q = rw (places-on (size-at f) n at h, q)
 
   pub distinct-done : (n at : ℕ) → n ≤ 0 → distinct (entries f n at) ≡ true
   unfolding distinct
-  distinct-done n at h = rw (entries-done n at h)
+  distinct-done n at h = rw (places-done (size-at f) n at h)
 
   -- the search
   module _ (name : List ℕ) (flags : ℕ) where
@@ -144,42 +110,33 @@ module _ (f : List ℕ) where
     seek-done zero at h = refl
     seek-done (suc n) at h = absurd (omega arith)
 
-    -- it ends before the entries' end exactly when one of them has the name and the flags
-    pub seek-some : (end n at : ℕ) → tiled f end n at ≡ true
-        → ltb (seek f name flags n at) end ≡ some-of (is-key name flags) (entries f n at)
-    unfolding entries seek
-    seek-some end zero at t = le-ltb at end (omega (arith, tiled-end f end 0 at (omega arith) t))
-    seek-some end (suc n) at t =
-        let fit : at + size-at f at ≤ end = tiled-fits f end (suc n) at (omega arith) t in
-        let q : suc n - 1 ≡ n = omega arith in
-        let next : tiled f end n (at + size-at f at) ≡ true = rw q at (tiled-next f end (suc n) at (omega arith) t) in
-        by-cases (is-key name flags (entry-at f at)) (λ k. rw k (lt-ltb at end (omega (arith, three f at))))
-        (λ k. rw k (seek-some end n (at + size-at f at) next))
-
-    pub seek-within : (end n at : ℕ) → tiled f end n at ≡ true → seek f name flags n at ≤ end
+    -- it gives an entry's start or the entries' end
+    pub seek-stands : (n at : ℕ) → stands (size-at f) n at (seek f name flags n at) ≡ true
     unfolding seek
-    seek-within end zero at t = omega (arith, tiled-end f end 0 at (omega arith) t)
-    seek-within end (suc n) at t =
-        let fit : at + size-at f at ≤ end = tiled-fits f end (suc n) at (omega arith) t in
-        let q : suc n - 1 ≡ n = omega arith in
-        let next : tiled f end n (at + size-at f at) ≡ true = rw q at (tiled-next f end (suc n) at (omega arith) t) in
-        by-cases (is-key name flags (entry-at f at)) (λ k. rw k (omega (arith, three f at)))
-        (λ k. rw k (seek-within end n (at + size-at f at) next))
+    seek-stands zero at = stands-first (size-at f) 0 at
+    seek-stands (suc n) at =
+        by-cases (is-key name flags (entry-at f at)) (λ k. rw k (stands-first (size-at f) (suc n) at))
+        (λ k. rw k (stands-later (size-at f) (seek f name flags n (at + size-at f at)) n at (seek-stands n (at + size-at f at))))
+
+    pub seek-within : (n at : ℕ) → seek f name flags n at ≤ start (size-at f) n at
+    seek-within n at = stands-within (size-at f) (seek f name flags n at) n at (seek-stands n at)
 
     -- an entry that is found lies within the entries
-    pub seek-fits : (end n at : ℕ) → tiled f end n at ≡ true → seek f name flags n at < end
-        → seek f name flags n at + size-at f (seek f name flags n at) ≤ end
-    unfolding seek
-    seek-fits end zero at t h = absurd (omega (arith, tiled-end f end 0 at (omega arith) t))
-    seek-fits end (suc n) at t h₀ =
-        let fit : at + size-at f at ≤ end = tiled-fits f end (suc n) at (omega arith) t in
-        let q : suc n - 1 ≡ n = omega arith in
-        let next : tiled f end n (at + size-at f at) ≡ true = rw q at (tiled-next f end (suc n) at (omega arith) t) in
-        by-cases (is-key name flags (entry-at f at)) (λ k. rw k fit)
-        (λ k. rw k (seek-fits end n (at + size-at f at) next (rw k at h₀)))
+    pub seek-fits : (n at : ℕ) → seek f name flags n at < start (size-at f) n at
+        → seek f name flags n at + size-at f (seek f name flags n at) ≤ start (size-at f) n at
+    seek-fits n at h = stands-fits (size-at f) (seek f name flags n at) n at (seek-stands n at) (λ q. omega arith)
 
     -- where one is found, there is one
-    pub seek-count : (end n at : ℕ) → tiled f end n at ≡ true → seek f name flags n at < end → 1 ≤ n
-    unfolding seek
-    seek-count end zero at t h = absurd (omega (arith, tiled-end f end 0 at (omega arith) t))
-    seek-count end (suc n) at t h = omega arith
+    pub seek-count : (n at : ℕ) → seek f name flags n at < start (size-at f) n at → 1 ≤ n
+    unfolding seek start
+    seek-count zero at h = absurd (omega arith)
+    seek-count (suc n) at h = omega arith
+
+    -- it stops before the entries' end exactly when one of them has the name and the flags
+    pub seek-some : (n at : ℕ) → ltb (seek f name flags n at) (start (size-at f) n at) ≡ some-of (is-key name flags) (entries f n at)
+    unfolding seek start places
+    seek-some zero at = le-ltb at at (omega arith)
+    seek-some (suc n) at =
+        by-cases (is-key name flags (entry-at f at))
+        (λ k. rw k (lt-ltb at (start (size-at f) n (at + size-at f at)) (omega (arith, three f at, start-above (size-at f) n (at + size-at f at)))))
+        (λ k. rw k (seek-some n (at + size-at f at)))

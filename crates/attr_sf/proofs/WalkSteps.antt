@@ -1,16 +1,18 @@
 -- The walk's steps: where a walk may stand, and what a step there answers.
 -- Assumes nothing.
-use Prim.Native.Nat.{ℕ, zero, suc, _+_, _-_, _≤_, _<_}
+use Prim.Native.Nat.{ℕ, _+_, _-_, _≤_}
 use native.Mathlib.Omega.{arith}
-use mathlib.Core.Bool.{true, false, _||_}
-use mathlib.Core.Path.{_≡_, sym, refl, _∙_, ap}
+use mathlib.Core.Bool.{true, false}
+use mathlib.Core.Path.{_≡_, sym, _∙_, ap}
 use mathlib.Core.List.{List}
 use lib.Dec.{eqb}
 use lib.ListN.{length, take, drop}
-use borrow.Author.Tests.{eq-eqb, ne-eqb, eqb-true}
+use borrow.Author.Tests.{eq-eqb, ne-eqb}
 use Rattle.refusal.specs.Refusal.{ASKED}
 use Rattle.be.proofs.Bools.{by-cases}
 use Rattle.be.specs.Bytes.{byte, field}
+use Rattle.records.specs.Records.{stands}
+use Rattle.records.proofs.Starts.{stands-fits}
 use Rattle.edition.specs.declared.Edition.{Edition}
 use Rattle.dinode.specs.Core.{attr-fork}
 use Rattle.dinode.specs.declared.Fork.the-variants.{At, Refused as Fork-refused}
@@ -18,11 +20,10 @@ use Rattle.attr_sf.specs.declared.Seen.the-variants.{Live, End}
 use Rattle.attr_sf.specs.declared.Step.{Step}
 use Rattle.attr_sf.specs.declared.Walked.{Walked}
 use Rattle.attr_sf.specs.declared.Walked.the-variants.{Stepped, Refused}
-use Rattle.attr_sf.specs.Fork.{fork-code, header, totsize, count, size-at, tiled}
+use Rattle.attr_sf.specs.Fork.{fork-code, header, totsize, count, size-at}
 use Rattle.attr_sf.specs.Calls.{attr-code, attr-at, fork-if}
-use Rattle.attr_sf.specs.Walk.{stands, live-step, end-step, step-in, walked-in, walked, step-code, walked-code}
-use Rattle.attr_sf.proofs.Tiling.{tiled-fits, tiled-next, tiled-end}
-use Rattle.attr_sf.proofs.ForkTests.{all-tiled, end-inside}
+use Rattle.attr_sf.specs.Walk.{live-step, end-step, step-in, walked-in, walked, step-code, walked-code}
+use Rattle.attr_sf.proofs.ForkTests.{all-ends, end-inside}
 use Rattle.attr_sf.proofs.InodeTests.{lent-fork, if-passed, if-refused}
 
 -- a step at an entry, as it is read
@@ -36,50 +37,23 @@ unfolding live-step attr-at
 live-is s f place n v g z a b d h = rw (a, b, d, h)
 
 module _ (f : List ℕ) (place : ℕ) where
-  stands-step : (n at : ℕ) → 0 < n → stands f place n at ≡ (eqb place at || stands f place (n - 1) (at + size-at f at))
-  unfolding stands
-  stands-step zero at h = absurd (omega arith)
-  stands-step (suc n) at h = let q : suc n - 1 ≡ n = omega arith in rw q
-
-  pub stands-here : (n at : ℕ) → 0 < n → place ≡ at → stands f place n at ≡ true
-  stands-here n at h e = stands-step n at h ∙ rw (eq-eqb place at e)
-
-  pub stands-on : (n at : ℕ) → 0 < n → (place ≡ at → ⊥) → stands f place n at ≡ stands f place (n - 1) (at + size-at f at)
-  stands-on n at h e = stands-step n at h ∙ rw (ne-eqb place at e)
-
-  pub stands-done : (n at : ℕ) → n ≤ 0 → stands f place n at ≡ eqb place at
-  unfolding stands
-  stands-done zero at h = refl
-  stands-done (suc n) at h = absurd (omega arith)
-
-  -- a place that is not the end is an entry's start
-  pub stands-fits : (end n at : ℕ) → tiled f end n at ≡ true → stands f place n at ≡ true → (place ≡ end → ⊥) → place + size-at f place ≤ end
-  unfolding stands
-  stands-fits end zero at t h d = absurd (d (eqb-true place at h ∙ tiled-end f end 0 at (omega arith) t))
-  stands-fits end (suc n) at t h d =
-      let q : suc n - 1 ≡ n = omega arith in
-      let next : tiled f end n (at + size-at f at) ≡ true = rw q at (tiled-next f end (suc n) at (omega arith) t) in
-      by-cases (eqb place at)
-      (λ k. rw (eqb-true place at k) (tiled-fits f end (suc n) at (omega arith) t))
-      (λ k. stands-fits end n (at + size-at f at) next (rw k at h) d)
-
   -- as the code reads the entries' end and count
   module _ {end n : ℕ} (e : end ≡ field 0 2 f) (m : n ≡ byte 2 f) where
-    pub walk-fits : fork-code f ≡ 0 → stands f place n header ≡ true → (place ≡ end → ⊥) → place + size-at f place ≤ length f
+    pub walk-fits : fork-code f ≡ 0 → stands (size-at f) n header place ≡ true → (place ≡ end → ⊥) → place + size-at f place ≤ length f
     unfolding totsize count
     walk-fits z h d =
-        omega (arith, stands-fits (totsize f) (count f) header (all-tiled f z) (rw m at h) (λ q. d (q ∙ sym e)), end-inside f z)
+        omega (arith, stands-fits (size-at f) place (count f) header (rw m at h) (λ q. d (q ∙ all-ends f z ∙ sym e)), all-ends f z, end-inside f z)
 
     module _ (s : ℕ) where
-      pub walk-not : stands f place n header ≡ false → Refused ASKED ≡ walked-in s f place
+      pub walk-not : stands (size-at f) n header place ≡ false → Refused ASKED ≡ walked-in s f place
       unfolding walked-in count
       walk-not h = rw (← m, h)
 
-      pub walk-end : stands f place n header ≡ true → place ≡ end → Stepped (record { next = place; seen = End }) ≡ walked-in s f place
+      pub walk-end : stands (size-at f) n header place ≡ true → place ≡ end → Stepped (record { next = place; seen = End }) ≡ walked-in s f place
       unfolding walked-in step-in end-step totsize count
       walk-end h q = rw (← m, ← e, h, eq-eqb place end q)
 
-      pub walk-live : {r : Step} → stands f place n header ≡ true → (place ≡ end → ⊥) → r ≡ live-step s f place → Stepped r ≡ walked-in s f place
+      pub walk-live : {r : Step} → stands (size-at f) n header place ≡ true → (place ≡ end → ⊥) → r ≡ live-step s f place → Stepped r ≡ walked-in s f place
       unfolding walked-in step-in totsize count
       walk-live h q r = rw (← m, ← e, h, ne-eqb place end q, r)
 
@@ -98,4 +72,4 @@ module _ (e : Edition) (b : List ℕ) (place : ℕ) where
   unfolding walked walked-in step-code
   step-is =
       by-cases (eqb (attr-code e b) 0)
-      (λ q. by-cases (stands (attr-fork e b) place (count (attr-fork e b)) header) (λ h. rw (q, h)) (λ h. rw (q, h))) (λ q. rw q)
+      (λ q. by-cases (stands (size-at (attr-fork e b)) (count (attr-fork e b)) header place) (λ h. rw (q, h)) (λ h. rw (q, h))) (λ q. rw q)

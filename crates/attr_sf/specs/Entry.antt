@@ -8,6 +8,7 @@ use lib.Count.{ones}
 use lib.Dec.{eqb, leb}
 use lib.ListN.{length}
 use Rattle.be.specs.Lists.{some-of, keep, same}
+use Rattle.records.specs.Records.{laid}
 use Rattle.name.specs.Name.{legal-attr-name}
 
 pub record Entry : Type 0 where
@@ -51,6 +52,5 @@ unfoldable pub entry-bytes : Entry → List ℕ
 entry-bytes x = length (x .name) ∷ length (x .value) ∷ x .flags ∷ (x .name ++ x .value)
 
 -- entries one after the other
-unfoldable pub run : List Entry → List ℕ
-run [] = []
-run (x ∷ xs) = entry-bytes x ++ run xs
+abbrev pub run : List Entry → List ℕ
+run xs = laid entry-bytes xs

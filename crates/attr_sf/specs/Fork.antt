@@ -2,13 +2,14 @@
 -- Assumes nothing.
 use Prim.Native.Nat.{ℕ, zero, suc, _+_, _-_}
 use mathlib.Core.Bool.{Bool, cond, _&&_}
-use mathlib.Core.List.{List, [], _∷_, _++_}
-use lib.Dec.{eqb, leb}
+use mathlib.Core.List.{List, _++_}
+use lib.Dec.{leb}
 use lib.ListN.{length, replicate}
 use Rattle.refusal.specs.Refusal.{SPAN, TILE, NAME, NUMBER, TWICE}
 use Rattle.be.specs.Codes.{_unless_then_}
 use Rattle.be.specs.Lists.{every}
 use Rattle.be.specs.Bytes.{byte, field, part, to-be}
+use Rattle.records.specs.Records.{records, tiled}
 use Rattle.name.specs.Name.{legal-attr-name}
 use Rattle.attr_sf.specs.Entry.{Entry, legal-flags, is-key, distinct, run}
 
@@ -35,14 +36,8 @@ entry-at f at =
     }
 
 -- n entries from a place on
-unfoldable pub entries : List ℕ → ℕ → ℕ → List Entry
-entries f zero at = []
-entries f (suc n) at = entry-at f at ∷ entries f n (at + size-at f at)
-
--- n entries from a place on use exactly the bytes up to end
-unfoldable pub tiled : List ℕ → ℕ → ℕ → ℕ → Bool
-tiled f end zero at = eqb at end
-tiled f end (suc n) at = leb (at + size-at f at) end && tiled f end n (at + size-at f at)
+abbrev pub entries : List ℕ → ℕ → ℕ → List Entry
+entries f n at = records (size-at f) (entry-at f) n at
 
 -- the entries that are stored
 unfoldable pub stored : List ℕ → List Entry
@@ -61,7 +56,7 @@ span-ok f = leb header (length f) && (leb header (totsize f) && leb (totsize f) 
 
 -- 5 TILE: count entries use exactly totsize bytes
 unfoldable pub tile-ok : List ℕ → Bool
-tile-ok f = tiled f (totsize f) (count f) header
+tile-ok f = tiled (size-at f) (totsize f) (count f) header
 
 -- 6 NAME: a stored name breaks the rules
 unfoldable pub names-ok : List ℕ → Bool

@@ -9,12 +9,13 @@ use lib.ListN.{length, take, drop, replicate}
 use Rattle.refusal.specs.Refusal.{ABSENT}
 use Rattle.be.specs.Bytes.{bytes, byte, part}
 use Rattle.be.specs.Lists.{some-of}
+use Rattle.records.specs.Records.{places}
 use Rattle.edition.specs.Edition.{Sane}
 use Rattle.edition.specs.declared.Edition.{Edition}
 use Rattle.dinode.specs.Core.{attr-start, attr-fork}
 use Rattle.attr_sf.specs.Entry.{Entry, entry, legal-flags, is-key, others}
-use Rattle.attr_sf.specs.Fork.{header, stored, count, totsize, entry-at}
-use Rattle.attr_sf.specs.Walk.{walk, places, live-step, end-step}
+use Rattle.attr_sf.specs.Fork.{header, stored, count, totsize, size-at, entry-at}
+use Rattle.attr_sf.specs.Walk.{walk, live-step, end-step}
 use Rattle.attr_sf.specs.Calls.{attr-code, asked-code, attr-at, looked-up, place-code, part-of, found-code, set-code, after-remove, after-set}
 use Rattle.attr_sf.specs.declared.Walked.the-variants.{Stepped}
 use Rattle.attr_sf.specs.declared.Place.the-variants.{Refused}
@@ -98,12 +99,12 @@ Absent-law = (e : Edition) (b name : List ℕ) (flags : ℕ) → looked-up e b n
 abbrev pub Walk-law : Type 0
 Walk-law = (e : Edition) (b : List ℕ) (k : ℕ) → attr-code e b ≡ 0
     → walk e b (count (attr-fork e b) + 1 + k) header
-    ≡ map (λ (at : ℕ). Stepped (live-step (attr-start e b) (attr-fork e b) at)) (places (attr-fork e b) (count (attr-fork e b)) header)
+    ≡ map (λ (at : ℕ). Stepped (live-step (attr-start e b) (attr-fork e b) at)) (places (size-at (attr-fork e b)) (count (attr-fork e b)) header)
     ++ (Stepped (end-step (totsize (attr-fork e b))) ∷ [])
 
 -- the places are those of the stored entries
 abbrev pub Places-law : Type 0
-Places-law = (f : List ℕ) → stored f ≡ map (entry-at f) (places f (count f) header)
+Places-law = (f : List ℕ) → stored f ≡ map (entry-at f) (places (size-at f) (count f) header)
 
 -- what a step says of an entry: the parts of the inode that it names are the entry's own
 abbrev pub Parts-law : Type 0

@@ -1,11 +1,12 @@
 -- The walk over an inode's attributes: one step, and the steps one after the other.
 -- Assumes nothing.
 use Prim.Native.Nat.{ℕ, zero, suc, _+_}
-use mathlib.Core.Bool.{Bool, true, false, cond, _||_}
+use mathlib.Core.Bool.{Bool, true, false, cond}
 use mathlib.Core.List.{List, [], _∷_}
 use lib.Dec.{eqb}
 use Rattle.refusal.specs.Refusal.{ASKED}
 use Rattle.be.specs.Codes.{_and-then_, _unless_then_}
+use Rattle.records.specs.Records.{stands}
 use Rattle.edition.specs.declared.Edition.{Edition}
 use Rattle.dinode.specs.Core.{attr-start, attr-fork}
 use Rattle.attr_sf.specs.Fork.{header, totsize, count, size-at}
@@ -16,14 +17,9 @@ use Rattle.attr_sf.specs.declared.Step.{Step}
 use Rattle.attr_sf.specs.declared.Walked.{Walked}
 use Rattle.attr_sf.specs.declared.Walked.the-variants.{Stepped, Refused}
 
--- places are record starts and the list's end: of n entries from a place on
-unfoldable pub stands : List ℕ → ℕ → ℕ → ℕ → Bool
-stands f place zero at = eqb place at
-stands f place (suc n) at = eqb place at || stands f place n (at + size-at f at)
-
--- 11 ASKED: the walk place is not legal, judged after the tests
+-- 11 ASKED: the walk place is not legal (record starts and the list's end are), judged after the tests
 unfoldable pub step-code : Edition → List ℕ → ℕ → ℕ
-step-code e b place = attr-code e b and-then ASKED unless stands (attr-fork e b) place (count (attr-fork e b)) header then 0
+step-code e b place = attr-code e b and-then ASKED unless stands (size-at (attr-fork e b)) (count (attr-fork e b)) header place then 0
 
 -- a step at an entry of the fork that starts at s
 unfoldable pub live-step : ℕ → List ℕ → ℕ → Step
@@ -38,7 +34,7 @@ step-in s f place = cond (eqb place (totsize f)) (end-step place) (live-step s f
 
 -- what a step answers: live entry or end, together with where the walk now stands; or the refusal
 unfoldable pub walked-in : ℕ → List ℕ → ℕ → Walked
-walked-in s f place = cond (stands f place (count f) header) (Stepped (step-in s f place)) (Refused ASKED)
+walked-in s f place = cond (stands (size-at f) (count f) header place) (Stepped (step-in s f place)) (Refused ASKED)
 
 unfoldable pub walked : Edition → List ℕ → ℕ → Walked
 walked e b place = cond (eqb (attr-code e b) 0) (walked-in (attr-start e b) (attr-fork e b) place) (Refused (attr-code e b))
@@ -67,8 +63,3 @@ walk e b zero place = []
 walk e b (suc n) place =
     let a = walked e b place in
     let rest = walk e b n (next-of (walked e b place)) in a ∷ cond (goes-on a) rest []
-
--- where n entries from a place on start
-unfoldable pub places : List ℕ → ℕ → ℕ → List ℕ
-places f zero at = []
-places f (suc n) at = at ∷ places f n (at + size-at f at)

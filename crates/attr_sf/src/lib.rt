@@ -5,11 +5,12 @@ ghost use Prim.Native.Nat.{_+_, _-_, _≤_, _<_};
 ghost use lib.ListN.{length, replicate};
 ghost use Rattle.be.specs.Bytes.{part, put, to-be};
 ghost use Rattle.be.specs.Lists.{some-of};
+ghost use Rattle.records.specs.Records.{tiled, stands};
 ghost use Rattle.edition.specs.Edition.{v4, Sane};
 ghost use Rattle.attr_sf.specs.Entry.{entry, entry-bytes, legal-flags, legal-key, is-key, distinct, others};
-ghost use Rattle.attr_sf.specs.Fork.{header, totsize, stored, size-at, entry-at, entries, tiled, name-legal-of, flags-legal-of, own-code, fork-code, seek, place-of};
+ghost use Rattle.attr_sf.specs.Fork.{header, totsize, stored, size-at, entry-at, entries, name-legal-of, flags-legal-of, own-code, fork-code, seek, place-of};
 ghost use Rattle.attr_sf.specs.Calls.{attr-code, asked-code, fork-if, found-in, looked-up, place-code, start-of, length-of, part-of, held-code, found-code, room-code, set-code, set-entries, fork-changed, after-remove, after-set};
-ghost use Rattle.attr_sf.specs.Walk.{stands, live-step, walked-in, walked, step-code, walked-code};
+ghost use Rattle.attr_sf.specs.Walk.{live-step, walked-in, walked, step-code, walked-code};
 ghost use Rattle.attr_sf.specs.Plan.{plan-of};
 use dinode::Fork;
 use edition::Edition;
@@ -85,7 +86,7 @@ fn size(f: &[u8], at: usize) -> usize
 // Whether n entries end exactly at end.
 fn tiles(f: &[u8], n: usize, end: usize) -> bool
     requires { ⌜ (header ≤ end) × (end ≤ length (now f)) ⌝ }
-    ensures { λ r. ⌜ r ≡ tiled (now (f .entry)) end n header ⌝ }
+    ensures { λ r. ⌜ r ≡ tiled (size-at (now (f .entry))) end n header ⌝ }
 {
     let mut left = n;
     let mut at = HEADER;
@@ -136,7 +137,7 @@ fn key_at<'a, 'b>(f: &'a [u8], at: usize, name: &'b [u8], flags: usize) -> bool
 
 // Tests 6 and 7 of n entries: 0, or the number of the first that fails.
 fn faults(f: &[u8], n: usize, end: usize) -> usize
-    requires { ⌜ (tiled (now f) end n header ≡ true) × (end ≤ length (now f)) ⌝ }
+    requires { ⌜ (tiled (size-at (now f)) end n header ≡ true) × (end ≤ length (now f)) ⌝ }
     ensures { λ r. ⌜ r ≡ own-code (entries (now (f .entry)) n header) ⌝ }
 {
     let mut left = n;
@@ -165,7 +166,7 @@ fn seek_from<'a, 'b>(
     name: &'b [u8],
     flags: usize,
 ) -> usize
-    requires { ⌜ (tiled (now f) end n from ≡ true) × (end ≤ length (now f)) ⌝ }
+    requires { ⌜ (tiled (size-at (now f)) end n from ≡ true) × (end ≤ length (now f)) ⌝ }
     ensures { λ r. ⌜ (r ≡ seek (now (f .entry)) (now (name .entry)) flags n from) × (r ≤ end) ⌝ }
 {
     let mut left = n;
@@ -182,7 +183,7 @@ fn seek_from<'a, 'b>(
 
 // Whether one of n entries from a place on has the name and the flags of the entry at another.
 fn again(f: &[u8], end: usize, n: usize, from: usize, at: usize) -> bool
-    requires { ⌜ (tiled (now f) end n from ≡ true) × ((end ≤ length (now f)) × (at + size-at (now f) at ≤ length (now f))) ⌝ }
+    requires { ⌜ (tiled (size-at (now f)) end n from ≡ true) × ((end ≤ length (now f)) × (at + size-at (now f) at ≤ length (now f))) ⌝ }
     ensures { λ r. ⌜ r ≡ some-of (is-key (entry-at (now (f .entry)) at .name) (entry-at (now (f .entry)) at .flags)) (entries (now (f .entry)) n from) ⌝ }
 {
     let start = at + 3;
@@ -193,7 +194,7 @@ fn again(f: &[u8], end: usize, n: usize, from: usize, at: usize) -> bool
 
 // Whether no two of n entries have the same name and flags.
 fn once(f: &[u8], n: usize, end: usize) -> bool
-    requires { ⌜ (tiled (now f) end n header ≡ true) × (end ≤ length (now f)) ⌝ }
+    requires { ⌜ (tiled (size-at (now f)) end n header ≡ true) × (end ≤ length (now f)) ⌝ }
     ensures { λ r. ⌜ r ≡ distinct (entries (now (f .entry)) n header) ⌝ }
 {
     let mut left = n;
@@ -346,8 +347,8 @@ pub fn value<'a, 'b>(b: &'a [u8], name: &'b [u8], flags: usize) -> &'a [u8]
 
 // Whether a place is the start of one of n entries, or their end.
 fn stands_in(f: &[u8], n: usize, end: usize, place: usize) -> bool
-    requires { ⌜ (tiled (now f) end n header ≡ true) × (end ≤ length (now f)) ⌝ }
-    ensures { λ r. ⌜ r ≡ stands (now (f .entry)) place n header ⌝ }
+    requires { ⌜ (tiled (size-at (now f)) end n header ≡ true) × (end ≤ length (now f)) ⌝ }
+    ensures { λ r. ⌜ r ≡ stands (size-at (now (f .entry))) n header place ⌝ }
 {
     let mut left = n;
     let mut at = HEADER;

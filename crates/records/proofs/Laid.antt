@@ -3,11 +3,11 @@
 use Prim.Native.Nat.{ℕ, zero, suc, _+_, _-_, _≤_}
 use native.Mathlib.Omega.{arith}
 use mathlib.Core.Path.{_≡_, refl, sym, _∙_, ap, ap₂}
-use mathlib.Core.List.{List, [], _∷_, _++_, append-assoc, map}
+use mathlib.Core.List.{List, [], _∷_, _++_, append-assoc}
 use lib.ListN.{length, length-append}
 use Rattle.be.specs.Bytes.{part}
 use Rattle.be.proofs.Parts.{part-add}
-use Rattle.records.specs.Records.{start, places, laid}
+use Rattle.records.specs.Records.{start, places, records, laid}
 use Rattle.records.proofs.Starts.{start-above}
 
 -- each element
@@ -51,7 +51,7 @@ module _ {A : Type 0} (bytes-of : A → List ℕ) where
     -- and that are what was written
     module _ (read : List ℕ → ℕ → A) (P : A → Type 0) (reads : (p : List ℕ) (x : A) (r : List ℕ) → P x → read (p ++ (bytes-of x ++ r)) (length p) ≡ x) where
       pub laid-read : (xs : List A) (p r : List ℕ) → All P xs
-          → map (read (p ++ (laid bytes-of xs ++ r))) (places (size (p ++ (laid bytes-of xs ++ r))) (length xs) (length p)) ≡ xs
+          → records (size (p ++ (laid bytes-of xs ++ r))) (read (p ++ (laid bytes-of xs ++ r))) (length xs) (length p) ≡ xs
       unfolding places laid
       laid-read [] p r h = refl
       laid-read (x ∷ xs) p r h =
@@ -59,15 +59,15 @@ module _ {A : Type 0} (bytes-of : A → List ℕ) where
           let f : List ℕ = p ++ (laid bytes-of (x ∷ xs) ++ r) in
           ap₂ (λ (y : A) (ys : List A). y ∷ ys)
           (ap (λ (l : List ℕ). read l (length p)) g ∙ reads p x (laid bytes-of xs ++ r) (h .0))
-          (ap (λ (at : ℕ). map (read f) (places (size f) (length xs) at)) (after p x xs r)
-          ∙ ap (λ (l : List ℕ). map (read l) (places (size l) (length xs) (length (p ++ bytes-of x)))) (regroup p x xs r)
+          (ap (λ (at : ℕ). records (size f) (read f) (length xs) at) (after p x xs r)
+          ∙ ap (λ (l : List ℕ). records (size l) (read l) (length xs) (length (p ++ bytes-of x))) (regroup p x xs r)
           ∙ laid-read xs (p ++ bytes-of x) r (h .1))
 
 -- stored records, each of which is written as it is read, written out again are the bytes that were read
 module _ {A : Type 0} (bytes-of : A → List ℕ) (f : List ℕ) (size : ℕ → ℕ) (read : ℕ → A)
     (exact : (at : ℕ) → at + size at ≤ length f → part at (size at) f ≡ bytes-of (read at)) where
   pub laid-stored : (n at : ℕ) → start size n at ≤ length f
-      → part at (start size n at - at) f ≡ laid bytes-of (map read (places size n at))
+      → part at (start size n at - at) f ≡ laid bytes-of (records size read n at)
   unfolding start places laid
   laid-stored zero at h = let q : at - at ≡ 0 = omega arith in rw q
   laid-stored (suc n) at h =

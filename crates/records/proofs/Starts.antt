@@ -1,17 +1,15 @@
 -- Where records start: one by one, the first of them and those behind, and seen from another place.
 -- Assumes nothing.
 use Prim.Native.Nat.{ℕ, zero, suc, _+_, _-_, _≤_, _<_}
-use native.Mathlib.Numerals.{add-one}
 use native.Mathlib.Omega.{arith}
-use mathlib.Core.Bool.{true, false, _||_}
+use mathlib.Core.Bool.{true, false}
 use mathlib.Core.Path.{_≡_, refl, sym, _∙_, ap}
-use mathlib.Core.List.{List, [], _∷_, _++_, map}
+use mathlib.Core.List.{List, [], _∷_, _++_}
 use lib.Dec.{eqb}
-use lib.ListN.{length, take, drop}
+use lib.ListN.{length}
 use borrow.Author.Tests.{eq-eqb, ne-eqb, eqb-true, eqb-false}
-use Rattle.be.specs.Lists.{some-of}
-use Rattle.be.proofs.Bools.{by-cases, or-right}
-use Rattle.records.specs.Records.{start, places, stands}
+use Rattle.be.proofs.Bools.{by-cases}
+use Rattle.records.specs.Records.{start, places, tiled, stands}
 
 module _ (size : ℕ → ℕ) where
   -- the first record, and those behind it
@@ -84,6 +82,12 @@ module _ (size : ℕ → ℕ) where
   unfolding places
   length-places zero at = refl
   length-places (suc n) at = ap suc (length-places n (at + size at))
+
+  -- ---- TILE
+
+  -- a record that reaches past the end
+  pub tiled-over : (n at end : ℕ) → 0 < n → end < at + size at → tiled size end n at ≡ false
+  tiled-over n at end h k = ne-eqb (start size n at) end (λ q. omega (arith, start-fits n at h))
 
   -- ---- the places of a walk
 

@@ -2,10 +2,12 @@
 -- Assumes nothing.
 use Prim.Native.Nat.{ℕ, _+_, _-_, _≤_, _<_}
 use native.Mathlib.Omega.{arith}
+use mathlib.Core.Bool.{Bool, true, false, _&&_}
 use mathlib.Core.Path.{_≡_, refl, sym, _∙_, ap}
-use mathlib.Core.List.{List, [], _∷_, _++_}
-use Rattle.records.specs.Records.{start, places}
-use Rattle.records.proofs.Starts.{start-on, places-on, start-above, start-fits, start-split, start-more, places-more, start-fewer}
+use mathlib.Core.List.{[], _∷_, _++_}
+use Rattle.be.specs.Lists.{every}
+use Rattle.records.specs.Records.{start, places, records}
+use Rattle.records.proofs.Starts.{start-on, places-on, places-done, start-above, start-fits, start-split, start-more, places-more, start-fewer}
 
 -- ---- a loop that counts the records that are left
 
@@ -24,9 +26,30 @@ module _ {A : Type 0} {g : ℕ → ℕ → A} {size : ℕ → ℕ} {n from left 
   pub rest-next : {s : ℕ} → 0 < left → s ≡ size at → g left at ≡ g (left - 1) (at + size at) → Rest g size n from (left - 1) (at + s)
   rest-next h e q = rw e (record { ends = v .ends ∙ start-on size left at h; whole = v .whole ∙ q })
 
+  pub rest-within : at ≤ start size n from
+  rest-within = omega (arith, v .ends, start-above size left at)
+
   -- the next record lies before the end of all
   pub rest-fits : 0 < left → at + size at ≤ start size n from
   rest-fits h = omega (arith, v .ends, start-fits size left at h)
+
+-- ---- a test of each record, one record at a time
+
+module _ {A : Type 0} (size : ℕ → ℕ) (read : ℕ → A) (p : A → Bool) where
+  pub every-fails : (n at : ℕ) → 0 < n → p (read at) ≡ false → every p (records size read n at) ≡ false
+  every-fails n at h q = rw (places-on size n at h, q)
+
+  pub every-on : (n at : ℕ) → 0 < n → p (read at) ≡ true → every p (records size read n at) ≡ every p (records size read (n - 1) (at + size at))
+  every-on n at h q = rw (places-on size n at h, q)
+
+  -- the test so far, and that of one record more
+  pub every-and : (a : Bool) (n at : ℕ) → 0 < n
+      → (a && every p (records size read n at)) ≡ ((a && p (read at)) && every p (records size read (n - 1) (at + size at)))
+  every-and true n at h = rw (places-on size n at h)
+  every-and false n at h = refl
+
+  pub every-done : (n at : ℕ) → n ≤ 0 → every p (records size read n at) ≡ true
+  every-done n at h = rw (places-done size n at h)
 
 -- ---- a loop that counts the records that are passed
 

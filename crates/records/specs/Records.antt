@@ -2,7 +2,7 @@
 -- Assumes nothing.
 use Prim.Native.Nat.{ℕ, zero, suc, _+_}
 use mathlib.Core.Bool.{Bool, _||_}
-use mathlib.Core.List.{List, [], _∷_, _++_}
+use mathlib.Core.List.{List, [], _∷_, _++_, map}
 use lib.Dec.{eqb, leb}
 use Rattle.be.specs.Lists.{some-of}
 
@@ -15,6 +15,10 @@ start size (suc n) at = start size n (at + size at)
 unfoldable pub places : (ℕ → ℕ) → ℕ → ℕ → List ℕ
 places size zero at = []
 places size (suc n) at = at ∷ places size n (at + size at)
+
+-- these records, as they are read
+abbrev pub records : {A : Type 0} → (ℕ → ℕ) → (ℕ → A) → ℕ → ℕ → List A
+records size read n at = map read (places size n at)
 
 -- TILE: n records from a place on use exactly the bytes up to end. Lengths only add up, so none of them reaches past it
 abbrev pub tiled : (ℕ → ℕ) → ℕ → ℕ → ℕ → Bool

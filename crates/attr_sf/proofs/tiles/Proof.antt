@@ -1,5 +1,5 @@
-use mathlib.Core.Path.{refl}
 use borrow.Author.Needs.{needs}
+use Rattle.records.proofs.Turns.{rest-all}
 use Rattle.attr_sf.proofs.Tiling.{Tiles, tiles-short, tiles-over, tiles-next, tiles-done}
 use Rattle.attr_sf.proofs.tiles.Statement.{statement}
 use Rattle.attr_sf.proofs.tiles.Tie as tie
@@ -16,7 +16,7 @@ tiles-spec =
     (tie.spec
     Inv-loop
     μ-loop
-    (λ c. record { within = search needs; rest = refl })
+    (λ c. record { upto = search needs; rest = rest-all _ _ _ _ })
     (λ c. search needs)
     (λ c. tiles-short (c .before .before .loop .inv) (c .before .loop-test .taken) (c .if1 .taken))
     (λ c κs. search needs)
