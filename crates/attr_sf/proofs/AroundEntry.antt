@@ -6,14 +6,14 @@ use mathlib.Core.Bool.{false, cond}
 use mathlib.Core.Path.{_≡_, sym, _∙_, ap}
 use mathlib.Core.List.{List, [], _∷_, _++_, append-assoc, append-nil}
 use lib.Dec.{ltb}
-use lib.ListN.{length, take, drop, length-append, length-map, take-append-drop}
+use lib.ListN.{length, take, drop, length-append, take-append-drop}
 use borrow.Author.Tests.{ltb-true, ltb-false, lt-ltb, le-ltb}
 use Rattle.be.specs.Lists.{some-of}
 use Rattle.be.specs.Bytes.{part}
 use Rattle.be.proofs.Bools.{by-cases}
 use Rattle.be.proofs.Parts.{piece, part-length}
-use Rattle.records.specs.Records.{start, places, laid}
-use Rattle.records.proofs.Starts.{length-places}
+use Rattle.records.specs.Records.{start, laid}
+use Rattle.records.proofs.Starts.{length-records}
 use Rattle.records.proofs.Laid.{laid-append, laid-stored}
 use Rattle.attr_sf.specs.Entry.{is-key, others, entry-bytes, run}
 use Rattle.attr_sf.specs.Fork.{header, totsize, count, stored, size-at, entry-at, place-of, fork-code}
@@ -52,7 +52,7 @@ module _ (f name : List ℕ) (flags : ℕ) (z : fork-code f ≡ 0) where
 
   pub number : length (stored f) ≡ count f
   unfolding stored
-  number = length-map (places (size-at f) (count f) header) (entry-at f) ∙ length-places (size-at f) (count f) header
+  number = length-records (size-at f) (entry-at f) (count f) header
 
   pub splits : place-of f name flags < totsize f → Split f name flags (count f) header
   unfolding place-of stored

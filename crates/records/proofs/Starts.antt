@@ -4,12 +4,13 @@ use Prim.Native.Nat.{ℕ, zero, suc, _+_, _-_, _≤_, _<_}
 use native.Mathlib.Omega.{arith}
 use mathlib.Core.Bool.{true, false}
 use mathlib.Core.Path.{_≡_, refl, sym, _∙_, ap}
-use mathlib.Core.List.{List, [], _∷_, _++_}
+use mathlib.Core.List.{List, [], _∷_, _++_, map, map-append}
 use lib.Dec.{eqb}
-use lib.ListN.{length}
+use lib.ListN.{length, take, drop, length-map}
+use lib.Seq.{take-at, drop-at}
 use borrow.Author.Tests.{eq-eqb, ne-eqb, eqb-true, eqb-false}
 use Rattle.be.proofs.Bools.{by-cases}
-use Rattle.records.specs.Records.{start, places, tiled, stands}
+use Rattle.records.specs.Records.{start, places, records, tiled, stands}
 
 module _ (size : ℕ → ℕ) where
   -- the first record, and those behind it
@@ -82,6 +83,22 @@ module _ (size : ℕ → ℕ) where
   unfolding places
   length-places zero at = refl
   length-places (suc n) at = ap suc (length-places n (at + size at))
+
+  -- ---- the records themselves
+
+  module _ {A : Type 0} (read : ℕ → A) where
+    pub length-records : (n at : ℕ) → length (records size read n at) ≡ n
+    length-records n at = length-map (places size n at) read ∙ length-places n at
+
+    module _ (j k at : ℕ) (h : j ≤ k) where
+      pub records-split : records size read k at ≡ records size read j at ++ records size read (k - j) (start size j at)
+      records-split = ap (map read) (places-split j k at h) ∙ map-append read (places size j at) (places size (k - j) (start size j at))
+
+      pub records-take : take j (records size read k at) ≡ records size read j at
+      records-take = ap (take j) records-split ∙ take-at (records size read j at) (records size read (k - j) (start size j at)) j (length-records j at)
+
+      pub records-drop : drop j (records size read k at) ≡ records size read (k - j) (start size j at)
+      records-drop = ap (drop j) records-split ∙ drop-at (records size read j at) (records size read (k - j) (start size j at)) j (length-records j at)
 
   -- ---- TILE
 

@@ -53,32 +53,34 @@ module _ {A : Type 0} (size : ℕ → ℕ) (read : ℕ → A) (p : A → Bool) w
 
 -- ---- a loop that counts the records that are passed
 
--- i of the k records from `at` on are passed, and the next one starts at p
-pub record Run (size : ℕ → ℕ) (at k i p : ℕ) : Type 0 where
+-- i of the k records from `at` on are passed, and the next one starts at p; all of them lie before end
+pub record Run (size : ℕ → ℕ) (end at k i p : ℕ) : Type 0 where
   pub upto : i ≤ k
   pub place : p ≡ start size i at
+  pub lies : start size k at ≤ end
 
-pub run-start : (size : ℕ → ℕ) (at k : ℕ) → Run size at k 0 at
+pub run-start : (size : ℕ → ℕ) (end at k : ℕ) → start size k at ≤ end → Run size end at k 0 at
 unfolding start
-run-start size at k = record { upto = omega arith; place = refl }
+run-start size end at k h = record { upto = omega arith; place = refl; lies = h }
 
-module _ {size : ℕ → ℕ} {at k i p : ℕ} (r : Run size at k i p) where
-  -- what is left ends where all of them do
+module _ {size : ℕ → ℕ} {end at k i p : ℕ} (r : Run size end at k i p) where
+  -- those that are left end where all of them do
   pub run-ends : start size k at ≡ start size (k - i) p
   run-ends = start-split size i k at (r .upto) ∙ ap (start size (k - i)) (sym (r .place))
 
-  pub run-inside : p ≤ start size k at
-  run-inside = omega (arith, r .place, start-fewer size i k at (r .upto))
+  pub run-inside : p ≤ end
+  run-inside = omega (arith, r .place, r .lies, start-fewer size i k at (r .upto))
 
   module _ (h : i < k) where
-    pub run-fits : p + size p ≤ start size k at
-    run-fits = omega (arith, run-ends, start-fits size (k - i) p (omega arith))
+    -- the next record
+    pub run-fits : p + size p ≤ end
+    run-fits = omega (arith, r .lies, run-ends, start-fits size (k - i) p (omega arith))
 
     module _ {s : ℕ} (q : s ≡ size p) where
-      pub run-next : Run size at k (i + 1) (p + s)
+      pub run-next : Run size end at k (i + 1) (p + s)
       run-next =
           let a : start size i at + size (start size i at) ≡ p + s = rw (← r .place, ← q) refl in
-          record { upto = omega arith; place = sym (start-more size i at ∙ a) }
+          record { upto = omega arith; place = sym (start-more size i at ∙ a); lies = r .lies }
 
       -- the places that are left: the next one, and the others
       pub run-left : places size (k - i) p ≡ p ∷ places size (k - (i + 1)) (p + s)
