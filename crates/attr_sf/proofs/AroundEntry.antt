@@ -12,9 +12,9 @@ use Rattle.be.specs.Lists.{some-of}
 use Rattle.be.specs.Bytes.{part}
 use Rattle.be.proofs.Bools.{by-cases}
 use Rattle.be.proofs.Parts.{piece, part-length}
-use Rattle.records.specs.Records.{start, laid}
+use Rattle.records.specs.Records.{start, joined}
 use Rattle.records.proofs.Starts.{length-records}
-use Rattle.records.proofs.Laid.{laid-append, laid-stored}
+use Rattle.records.proofs.Joined.{joined-append, joined-stored}
 use Rattle.attr_sf.specs.Entry.{is-key, others, entry-bytes, run}
 use Rattle.attr_sf.specs.Fork.{header, totsize, count, stored, size-at, entry-at, place-of, fork-code}
 use Rattle.attr_sf.proofs.Tiling.{seek-some}
@@ -40,7 +40,7 @@ module _ (f name : List ℕ) (flags : ℕ) (z : fork-code f ≡ 0) where
   unfolding stored
   body =
       ap (λ (n : ℕ). part header (n - header) f) (sym (all-ends f z))
-      ∙ laid-stored entry-bytes f (size-at f) (entry-at f) (stored-bytes f) (count f) header (rw (all-ends f z) (end-inside f z))
+      ∙ joined-stored entry-bytes f (size-at f) (entry-at f) (stored-bytes f) (count f) header (rw (all-ends f z) (end-inside f z))
 
   pub body-length : length (run (stored f)) ≡ totsize f - header
   body-length = ap length (sym body) ∙ part-length header (totsize f - header) f (omega (arith, end-above f z, end-inside f z))
@@ -59,12 +59,12 @@ module _ (f name : List ℕ) (flags : ℕ) (z : fork-code f ≡ 0) where
   splits h = split f name flags (count f) header (rw (all-ends f z) (end-inside f z)) (all-once f z) (rw (← all-ends f z) at h)
 
   found : place-of f name flags < totsize f → Apart f name flags
-  unfolding place-of stored laid
+  unfolding place-of stored joined
   found h =
       let s = splits h in
       let a = s .around in
       let w : run (stored f) ≡ run (a .front) ++ (entry-bytes (a .mid) ++ run (a .back)) =
-      ap run (a .whole) ∙ laid-append entry-bytes (a .front) (a .mid ∷ a .back) in
+      ap run (a .whole) ∙ joined-append entry-bytes (a .front) (a .mid ∷ a .back) in
       let lw : length (run (stored f)) ≡ length (run (a .front)) + (length (entry-bytes (a .mid)) + length (run (a .back))) = ap length w ∙ simp length-append in
       let ln : count f ≡ length (a .front) + suc (length (a .back)) = sym number ∙ ap length (a .whole) ∙ length-append (a .front) (a .mid ∷ a .back) in
       record {
@@ -75,7 +75,7 @@ module _ (f name : List ℕ) (flags : ℕ) (z : fork-code f ≡ 0) where
         starts = s .starts;
         sized = rw (lt-ltb _ _ h) (s .sized);
         stops = omega (arith, body-length, end-above f z);
-        rest = ap run (a .rest) ∙ laid-append entry-bytes (a .front) (a .back);
+        rest = ap run (a .rest) ∙ joined-append entry-bytes (a .front) (a .back);
         kept = rw (lt-ltb _ _ h) (ap length (a .rest) ∙ length-append (a .front) (a .back) ∙ omega arith);
       }
 

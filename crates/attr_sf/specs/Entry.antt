@@ -8,7 +8,7 @@ use lib.Count.{ones}
 use lib.Dec.{eqb, leb}
 use lib.ListN.{length}
 use Rattle.be.specs.Lists.{some-of, keep, same}
-use Rattle.records.specs.Records.{laid}
+use Rattle.records.specs.Records.{joined}
 use Rattle.name.specs.Name.{legal-attr-name}
 
 pub record Entry : Type 0 where
@@ -53,4 +53,4 @@ entry-bytes x = length (x .name) ∷ length (x .value) ∷ x .flags ∷ (x .name
 
 -- entries one after the other
 abbrev pub run : List Entry → List ℕ
-run xs = laid entry-bytes xs
+run xs = joined entry-bytes xs

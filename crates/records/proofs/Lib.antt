@@ -1,3 +1,3 @@
 pub mod Starts
 pub mod Turns
-pub mod Laid
+pub mod Joined

@@ -1,6 +1,6 @@
 -- A loop over records: its invariant, and the laws for its start, a turn and its end.
 -- Assumes nothing.
-use Prim.Native.Nat.{ℕ, _+_, _-_, _≤_, _<_}
+use Prim.Native.Nat.{ℕ, zero, suc, _+_, _-_, _≤_, _<_}
 use native.Mathlib.Omega.{arith}
 use mathlib.Core.Bool.{Bool, true, false, _&&_}
 use mathlib.Core.Path.{_≡_, refl, sym, _∙_, ap}
@@ -50,6 +50,12 @@ module _ {A : Type 0} (size : ℕ → ℕ) (read : ℕ → A) (p : A → Bool) w
 
   pub every-done : (n at : ℕ) → n ≤ 0 → every p (records size read n at) ≡ true
   every-done n at h = rw (places-done size n at h)
+
+  -- a test that each record before the end passes
+  pub every-all : (end : ℕ) → ((at : ℕ) → at + size at ≤ end → p (read at) ≡ true) → (n at : ℕ) → start size n at ≤ end → every p (records size read n at) ≡ true
+  unfolding start places
+  every-all end t zero at h = refl
+  every-all end t (suc n) at h = rw (t at (omega (arith, start-above size n (at + size at)))) (every-all end t n (at + size at) h)
 
 -- ---- a loop that counts the records that are passed
 
