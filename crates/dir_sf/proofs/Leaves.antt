@@ -1,20 +1,19 @@
 -- Numbers, file types and single entries, read.
 -- Assumes nothing.
-use Prim.Native.Nat.{ℕ, zero, suc, _+_, _-_, _≤_, _<_}
+use Prim.Native.Nat.{ℕ, _+_, _-_, _≤_, _<_}
 use native.Mathlib.Omega.{arith}
 use mathlib.Core.Bool.{true}
-use mathlib.Core.Path.{_≡_, refl, sym, _∙_, ap}
+use mathlib.Core.Path.{_≡_, refl, _∙_, ap}
 use mathlib.Core.List.{List}
 use lib.Dec.{eqb}
-use lib.ListN.{length, drop, getD, length-drop}
-use borrow.Author.Tests.{leb-true, ne-eqb}
-use Rattle.be.specs.Bytes.{be, be-from, byte, field}
-use Rattle.be.proofs.Bools.{and-left, by-cases}
-use Rattle.be.proofs.Parts.{field-1}
+use lib.ListN.{length, getD}
+use borrow.Author.Tests.{ne-eqb}
+use Rattle.be.specs.Bytes.{field}
+use Rattle.be.proofs.Bools.{by-cases}
+use Rattle.records.proofs.Starts.{start-fits}
 use Rattle.edition.specs.declared.Edition.{Edition}
-use Rattle.edition.specs.Edition.{Sane}
-use Rattle.dir_sf.specs.Entry.{width-of, long-in, enough}
-use Rattle.dir_sf.proofs.Run.{long-at-is}
+use Rattle.dir_sf.specs.Entry.{width-of, size-at, enough}
+use Rattle.dir_sf.proofs.Run.{enough-lies, long-at-is}
 
 pub width-least : (wides : ℕ) → 4 ≤ width-of wides
 unfolding width-of
@@ -40,17 +39,12 @@ field-narrow wides o r u h q = q ∙ ap (λ (w : ℕ). field o w u) (narrow wide
 pub field-broad : (wides o r : ℕ) (u : List ℕ) → (wides ≡ 0 → ⊥) → r ≡ field o 8 u → r ≡ field o (width-of wides) u
 field-broad wides o r u h q = q ∙ ap (λ (w : ℕ). field o w u) (broad wides h)
 
-one-long : (e : Edition) (w : ℕ) (d : List ℕ) → enough e w 1 d ≡ true → long-in e w d ≤ length d
-unfolding enough
-one-long e w d h = leb-true _ _ (and-left _ _ h)
-
-pub one-in : (e : Edition) (w p : ℕ) (u : List ℕ) → enough e w 1 (drop p u) ≡ true → p + 3 + getD u p 0 + (e .ftype + w) ≤ length u
+pub one-in : (e : Edition) (w p : ℕ) (u : List ℕ) → enough e w u 1 p ≡ true → p + 3 + getD u p 0 + (e .ftype + w) ≤ length u
 one-in e w p u h =
-    let a : long-in e w (drop p u) ≤ length u - p = rw length-drop at (one-long e w (drop p u) h) in
-    omega (arith, long-at-is e w u p)
+    omega (arith, enough-lies e w u 1 p h, start-fits (size-at e w u) 1 p (omega arith), long-at-is e w u p)
 
-pub one-starts : (e : Edition) (w p : ℕ) (u : List ℕ) → enough e w 1 (drop p u) ≡ true → p < length u
+pub one-starts : (e : Edition) (w p : ℕ) (u : List ℕ) → enough e w u 1 p ≡ true → p < length u
 one-starts e w p u h = omega (arith, one-in e w p u h)
 
-pub one-ends : (e : Edition) (w p n : ℕ) (u : List ℕ) → enough e w 1 (drop p u) ≡ true → n ≡ getD u p 0 → p + 3 + n + (e .ftype + w) ≤ length u
+pub one-ends : (e : Edition) (w p n : ℕ) (u : List ℕ) → enough e w u 1 p ≡ true → n ≡ getD u p 0 → p + 3 + n + (e .ftype + w) ≤ length u
 one-ends e w p n u h q = omega (arith, one-in e w p u h)

@@ -6,12 +6,13 @@ use mathlib.Core.Bool.{true}
 use mathlib.Core.Path.{_≡_, refl, sym, _∙_, ap}
 use mathlib.Core.List.{List}
 use lib.ListN.{length, take, drop}
-use lib.Seq.{drop-drop}
 use Rattle.be.specs.Bytes.{byte, field, put}
+use Rattle.records.specs.Records.{start}
+use Rattle.records.proofs.Turns.{run-inside}
 use Rattle.edition.specs.declared.Edition.{Edition}
-use Rattle.dir_sf.specs.Entry.{SfEntry, width-of, entries-in, enough, start-of, entries-bytes}
-use Rattle.dir_sf.specs.Fork.{Readable, count-of, stored-wides, used-width, parent, list-of, entries, place-of}
-use Rattle.dir_sf.proofs.Run.{Run, run-at, run-on, run-one, enough-fewer, entries-take, entries-drop, length-entries-in}
+use Rattle.dir_sf.specs.Entry.{SfEntry, width-of, entries-in, size-at, enough, entries-bytes}
+use Rattle.dir_sf.specs.Fork.{Readable, count-of, stored-wides, used-width, parent, entries, place-of}
+use Rattle.dir_sf.proofs.Run.{Run, run-at, run-left, run-on, run-one, enough-fewer, entries-take, entries-drop, length-entries-in}
 
 -- the header, as it is read
 pub header-in : (u : List ℕ) (wides w : ℕ) → 2 + used-width u ≤ length u → wides ≡ byte 1 u → w ≡ width-of wides → 2 + w ≤ length u
@@ -26,23 +27,23 @@ unfolding parent used-width stored-wides
 parent-is u wides r a h = h ∙ ap (λ (z : ℕ). field 2 (width-of z) u) a
 
 pub list-enough : (e : Edition) (u : List ℕ) (k wides w : ℕ) → k ≡ byte 0 u → wides ≡ byte 1 u → w ≡ width-of wides
-    → enough e (used-width u) (count-of u) (list-of u) ≡ true → enough e (width-of wides) k (drop (2 + w) u) ≡ true
-unfolding used-width stored-wides count-of list-of
+    → enough e (used-width u) u (count-of u) (2 + used-width u) ≡ true → enough e (width-of wides) u k (2 + w) ≡ true
+unfolding used-width stored-wides count-of
 list-enough e u k wides w a b c h = rw (c, a, b) h
 
 pub entries-is : (e : Edition) (u : List ℕ) (k wides w : ℕ) → k ≡ byte 0 u → wides ≡ byte 1 u → w ≡ width-of wides
-    → entries e u ≡ entries-in e (width-of wides) k (drop (2 + w) u)
-unfolding entries used-width stored-wides count-of list-of
+    → entries e u ≡ entries-in e (width-of wides) u k (2 + w)
+unfolding entries used-width stored-wides count-of
 entries-is e u k wides w a b c = rw (c, a, b) refl
 
 pub place-is : (e : Edition) (u : List ℕ) (wides w i p : ℕ) → wides ≡ byte 1 u → w ≡ width-of wides
-    → p ≡ 2 + w + start-of e (width-of wides) i (drop (2 + w) u) → p ≡ place-of e i u
-unfolding place-of used-width stored-wides list-of
+    → p ≡ start (size-at e (width-of wides) u) i (2 + w) → p ≡ place-of e i u
+unfolding place-of used-width stored-wides
 place-is e u wides w i p b c h = h ∙ rw (c, b) refl
 
 pub count-is : (e : Edition) (u : List ℕ) → length (entries e u) ≡ count-of u
 unfolding entries
-count-is e u = length-entries-in e (used-width u) (count-of u) (list-of u)
+count-is e u = length-entries-in e (used-width u) u (count-of u) (2 + used-width u)
 
 -- what the header's count leaves known
 pub count-some : (u : List ℕ) (k index : ℕ) → k ≡ byte 0 u → index < count-of u → 1 ≤ k
@@ -64,38 +65,36 @@ index-small u k index a l h = omega arith
 -- the run of entries up to the one at a place
 module _ (e : Edition) (u : List ℕ) (wides index at : ℕ) (b : wides ≡ byte 1 u) (r : Readable e u) (l : index ≤ count-of u) (q : at ≡ place-of e index u) where
   there : Run e (width-of wides) u (2 + width-of wides) (count-of u) index at
-  unfolding place-of used-width stored-wides list-of count-of
+  unfolding place-of used-width stored-wides count-of
   there =
-      run-at e (width-of wides) u (2 + width-of wides) (byte 0 u) index at (header-in u wides (width-of wides) (r .header) b refl)
+      run-at e (width-of wides) u (2 + width-of wides) (byte 0 u) index at
       (list-enough e u (byte 0 u) wides (width-of wides) refl b refl (r .listed)) l (q ∙ rw b refl)
 
   pub place-in : at ≤ length u
-  place-in = there .inside
+  place-in = run-inside there
 
   -- the entries from there on
   module _ (k : ℕ) (a : k ≡ byte 0 u) where
-    pub others-enough : enough e (width-of wides) (k - index) (drop at u) ≡ true
+    pub others-enough : enough e (width-of wides) u (k - index) at ≡ true
     unfolding count-of
-    others-enough = rw a (there .left)
+    others-enough = rw a (run-left e (width-of wides) u (2 + width-of wides) (count-of u) index at there)
 
-    pub others-is : entries-in e (width-of wides) (k - index) (drop at u) ≡ drop index (entries e u)
+    pub others-is : entries-in e (width-of wides) u (k - index) at ≡ drop index (entries e u)
     unfolding count-of
     others-is =
         let W : ℕ = width-of wides in
-        let d : List ℕ = drop (2 + W) u in
-        let z : drop (start-of e W index d) d ≡ drop at u = drop-drop (start-of e W index d) (2 + W) u ∙ ap (λ (j : ℕ). drop j u) (sym (there .place)) in
         let m : index ≤ k = omega arith in
-        ap (entries-in e W (k - index)) (sym z) ∙ sym (entries-drop e W index k d m) ∙ ap (drop index) (sym (entries-is e u k wides W a b refl))
+        ap (entries-in e W u (k - index)) (there .place) ∙ sym (entries-drop e W u index k (2 + W) m) ∙ ap (drop index) (sym (entries-is e u k wides W a b refl))
 
     pub others-room : (after o T : ℕ) → o + length (entries-bytes e (width-of after) (drop index (entries e u))) ≤ T
-        → o + length (entries-bytes e (width-of after) (entries-in e (width-of wides) (k - index) (drop at u))) ≤ T
+        → o + length (entries-bytes e (width-of after) (entries-in e (width-of wides) u (k - index) at)) ≤ T
     others-room after o T h = rw others-is h
 
-    pub others-bytes : (after o : ℕ) (t t₁ : List ℕ) → t₁ ≡ put t o (entries-bytes e (width-of after) (entries-in e (width-of wides) (k - index) (drop at u)))
+    pub others-bytes : (after o : ℕ) (t t₁ : List ℕ) → t₁ ≡ put t o (entries-bytes e (width-of after) (entries-in e (width-of wides) u (k - index) at))
         → t₁ ≡ put t o (entries-bytes e (width-of after) (drop index (entries e u)))
     others-bytes after o t t₁ h = h ∙ ap (λ (xs : List SfEntry). put t o (entries-bytes e (width-of after) xs)) others-is
 
-    pub others-end : (after o z : ℕ) → z ≡ o + length (entries-bytes e (width-of after) (entries-in e (width-of wides) (k - index) (drop at u)))
+    pub others-end : (after o z : ℕ) → z ≡ o + length (entries-bytes e (width-of after) (entries-in e (width-of wides) u (k - index) at))
         → z ≡ o + length (entries-bytes e (width-of after) (drop index (entries e u)))
     others-end after o z h = h ∙ ap (λ (xs : List SfEntry). o + length (entries-bytes e (width-of after) xs)) others-is
 
@@ -104,7 +103,7 @@ module _ (e : Edition) (u : List ℕ) (wides index at : ℕ) (b : wides ≡ byte
   at-hand : Run e (width-of wides) u (2 + width-of wides) (count-of u) index at
   at-hand = there e u wides index at b r (omega arith) q
 
-  pub place-one : enough e (width-of wides) 1 (drop at u) ≡ true
+  pub place-one : enough e (width-of wides) u 1 at ≡ true
   place-one = run-one e (width-of wides) u (2 + width-of wides) (count-of u) index at at-hand l
 
   pub place-next : (n v : ℕ) → n ≡ byte at u → v ≡ e .ftype + width-of wides → at + 3 + n + v ≡ place-of e (index + 1) u
@@ -113,22 +112,22 @@ module _ (e : Edition) (u : List ℕ) (wides index at : ℕ) (b : wides ≡ byte
 
 -- the first entries
 module _ (e : Edition) (u : List ℕ) (wides w index : ℕ) (b : wides ≡ byte 1 u) (c : w ≡ width-of wides) (l : index ≤ count-of u) where
-  first-is : entries-in e (width-of wides) index (drop (2 + w) u) ≡ take index (entries e u)
+  first-is : entries-in e (width-of wides) u index (2 + w) ≡ take index (entries e u)
   unfolding count-of
-  first-is = sym (ap (take index) (entries-is e u (byte 0 u) wides w refl b c) ∙ entries-take e (width-of wides) index (byte 0 u) (drop (2 + w) u) l)
+  first-is = sym (ap (take index) (entries-is e u (byte 0 u) wides w refl b c) ∙ entries-take e (width-of wides) u index (byte 0 u) (2 + w) l)
 
-  pub first-enough : Readable e u → enough e (width-of wides) index (drop (2 + w) u) ≡ true
+  pub first-enough : Readable e u → enough e (width-of wides) u index (2 + w) ≡ true
   unfolding count-of
-  first-enough r = enough-fewer e (width-of wides) index (byte 0 u) (drop (2 + w) u) l (list-enough e u (byte 0 u) wides w refl b c (r .listed))
+  first-enough r = enough-fewer e (width-of wides) u index (byte 0 u) (2 + w) l (list-enough e u (byte 0 u) wides w refl b c (r .listed))
 
   pub first-room : (after o T : ℕ) → o + length (entries-bytes e (width-of after) (take index (entries e u))) ≤ T
-      → o + length (entries-bytes e (width-of after) (entries-in e (width-of wides) index (drop (2 + w) u))) ≤ T
+      → o + length (entries-bytes e (width-of after) (entries-in e (width-of wides) u index (2 + w))) ≤ T
   first-room after o T h = rw first-is h
 
-  pub first-bytes : (after o : ℕ) (t t₁ : List ℕ) → t₁ ≡ put t o (entries-bytes e (width-of after) (entries-in e (width-of wides) index (drop (2 + w) u)))
+  pub first-bytes : (after o : ℕ) (t t₁ : List ℕ) → t₁ ≡ put t o (entries-bytes e (width-of after) (entries-in e (width-of wides) u index (2 + w)))
       → t₁ ≡ put t o (entries-bytes e (width-of after) (take index (entries e u)))
   first-bytes after o t t₁ h = h ∙ ap (λ (xs : List SfEntry). put t o (entries-bytes e (width-of after) xs)) first-is
 
-  pub first-end : (after o z : ℕ) → z ≡ o + length (entries-bytes e (width-of after) (entries-in e (width-of wides) index (drop (2 + w) u)))
+  pub first-end : (after o z : ℕ) → z ≡ o + length (entries-bytes e (width-of after) (entries-in e (width-of wides) u index (2 + w)))
       → z ≡ o + length (entries-bytes e (width-of after) (take index (entries e u)))
   first-end after o z h = h ∙ ap (λ (xs : List SfEntry). o + length (entries-bytes e (width-of after) xs)) first-is

@@ -7,25 +7,25 @@ use mathlib.Core.Path.{_≡_, refl, sym, _∙_, ap, ap₂}
 use mathlib.Core.List.{List, [], _∷_}
 use lib.Arith.{lt-of-le-ne}
 use lib.Dec.{ltb}
-use lib.ListN.{length, drop}
-use lib.Seq.{drop-drop}
+use lib.ListN.{length}
 use borrow.Author.Tests.{lt-ltb, le-ltb, ltb-true, not-true, not-false}
 use Rattle.refusal.specs.Refusal.{ASKED, FIXED}
 use Rattle.be.specs.Lists.{same}
 use Rattle.be.specs.Bytes.{byte, field}
 use Rattle.be.proofs.Bools.{by-cases}
+use Rattle.records.specs.Records.{start, places}
 use Rattle.edition.specs.declared.Edition.{Edition}
 use Rattle.name.specs.Name.{legal-name, same-name}
 use Rattle.dir.specs.declared.Looked.the-variants.{Found, Absent, Refused}
 use Rattle.dir.specs.declared.Target.{Target}
 use Rattle.dir.specs.Target.{target, no-target, kept-of}
-use Rattle.dir_sf.specs.Entry.{SfEntry, width-of, long-in, entry-in, entries-in, enough, start-of}
+use Rattle.dir_sf.specs.Entry.{SfEntry, width-of, size-at, entry-at, entries-in, enough}
 use Rattle.dir_sf.specs.Fork.{Readable, entries, holds, count-of}
 use Rattle.dir_sf.specs.Change.{Hits, seek, target-in, target-for}
 use Rattle.dir_sf.specs.Inode.{looked}
 use Rattle.dir_sf.proofs.Names.{absent-target}
 use Rattle.dir_sf.proofs.Tests.{seek-holds}
-use Rattle.dir_sf.proofs.Listed.{header-in, list-enough, entries-is, place-is, count-is}
+use Rattle.dir_sf.proofs.Listed.{list-enough, entries-is, place-is, count-is}
 use Rattle.dir_sf.proofs.Run.{run-at, run-one, length-entries-in, target-at-is}
 
 seek-le : (e : Edition) (n : List ℕ) (xs : List SfEntry) → seek e n xs ≤ length xs
@@ -34,22 +34,20 @@ seek-le e n [] = omega arith
 seek-le e n (x ∷ xs) = by-cases (same-name e n (x .name)) (λ q. rw q (omega arith)) (λ q. rw q (omega (arith, seek-le e n xs)))
 
 -- what the entry that the search finds stands for
-target-seek : (e : Edition) (n : List ℕ) (w k : ℕ) (d : List ℕ) → seek e n (entries-in e w k d) < k
-    → target-in e n (entries-in e w k d) ≡ entry-in e w (drop (start-of e w (seek e n (entries-in e w k d)) d) d) .target
-unfolding entries-in seek target-in start-of
-target-seek e n w zero d h = absurd (omega arith)
-target-seek e n w (suc k) d h =
-    by-cases (same-name e n (entry-in e w d .name))
+target-seek : (e : Edition) (n : List ℕ) (w : ℕ) (u : List ℕ) (k at : ℕ) → seek e n (entries-in e w u k at) < k
+    → target-in e n (entries-in e w u k at) ≡ entry-at e w u (start (size-at e w u) (seek e n (entries-in e w u k at)) at) .target
+unfolding entries-in seek target-in start places
+target-seek e n w u zero at h = absurd (omega arith)
+target-seek e n w u (suc k) at h =
+    by-cases (same-name e n (entry-at e w u at .name))
     (λ q. rw q refl)
     (λ q.
-    let d' : List ℕ = drop (long-in e w d) d in
-    let j : ℕ = seek e n (entries-in e w k d') in
-    let l : suc j < suc k = rw q at h in
-    rw (q, ← drop-drop (start-of e w j d') (long-in e w d) d) (target-seek e n w k d' (omega arith)))
+    let l : suc (seek e n (entries-in e w u k (at + size-at e w u at))) < suc k = rw q at h in
+    rw q (target-seek e n w u k (at + size-at e w u at) (omega arith)))
 
 module _ (e : Edition) (u n : List ℕ) (k wides w i q : ℕ) (a : k ≡ byte 0 u) (b : wides ≡ byte 1 u) (c : w ≡ width-of wides)
-    (s : i ≡ seek e n (entries-in e (width-of wides) k (drop (2 + w) u))) (pl : q ≡ 2 + w + start-of e (width-of wides) i (drop (2 + w) u)) where
-  es : entries e u ≡ entries-in e (width-of wides) k (drop (2 + w) u)
+    (s : i ≡ seek e n (entries-in e (width-of wides) u k (2 + w))) (pl : q ≡ start (size-at e (width-of wides) u) i (2 + w)) where
+  es : entries e u ≡ entries-in e (width-of wides) u k (2 + w)
   es = entries-is e u k wides w a b c
 
   index : i ≡ seek e n (entries e u)
@@ -57,8 +55,8 @@ module _ (e : Edition) (u n : List ℕ) (k wides w i q : ℕ) (a : k ≡ byte 0 
 
   held : holds e n (entries e u) ≡ ltb i k
   held =
-      ap (holds e n) es ∙ seek-holds e n (entries-in e (width-of wides) k (drop (2 + w) u))
-      ∙ ap₂ (λ (x y : ℕ). ltb x y) (sym s) (length-entries-in e (width-of wides) k (drop (2 + w) u))
+      ap (holds e n) es ∙ seek-holds e n (entries-in e (width-of wides) u k (2 + w))
+      ∙ ap₂ (λ (x y : ℕ). ltb x y) (sym s) (length-entries-in e (width-of wides) u k (2 + w))
 
   pub hit-none : i ≡ k → Hits e n u (record { held = false; index = i; at = q; target = no-target })
   hit-none f =
@@ -67,24 +65,21 @@ module _ (e : Edition) (u n : List ℕ) (k wides w i q : ℕ) (a : k ≡ byte 0 
 
   module _ (f : i ≡ k → ⊥) where
     inside : i < k
-    inside = lt-of-le-ne (omega (arith, seek-le e n (entries-in e (width-of wides) k (drop (2 + w) u)), length-entries-in e (width-of wides) k (drop (2 + w) u))) f
+    inside = lt-of-le-ne (omega (arith, seek-le e n (entries-in e (width-of wides) u k (2 + w)), length-entries-in e (width-of wides) u k (2 + w))) f
 
     -- the entry that is found lies in the used bytes
-    pub hit-in : Readable e u → enough e (width-of wides) 1 (drop q u) ≡ true
+    pub hit-in : Readable e u → enough e (width-of wides) u 1 q ≡ true
     hit-in r =
         run-one e (width-of wides) u (2 + w) k i q
-        (run-at e (width-of wides) u (2 + w) k i q (header-in u wides w (r .header) b c) (list-enough e u k wides w a b c (r .listed)) (omega (arith, inside)) pl) inside
+        (run-at e (width-of wides) u (2 + w) k i q (list-enough e u k wides w a b c (r .listed)) (omega (arith, inside)) pl) inside
 
     pub hit-one : (m : ℕ) (j : Target) → m ≡ byte q u → j ≡ target (field (q + 3 + m + e .ftype) (width-of wides) u) (field (q + 3 + m) (e .ftype) u)
         → Hits e n u (record { held = true; index = i; at = q; target = j })
     hit-one m j h r =
         let W : ℕ = width-of wides in
-        let d : List ℕ = drop (2 + w) u in
-        let z : drop (start-of e W i d) d ≡ drop q u = drop-drop (start-of e W i d) (2 + w) u ∙ ap (λ (y : ℕ). drop y u) (sym pl) in
-        let x : target-in e n (entries-in e W k d) ≡ entry-in e W (drop (start-of e W i d) d) .target =
-        target-seek e n W k d (rw (← s) inside) ∙ ap (λ (y : ℕ). entry-in e W (drop (start-of e W y d) d) .target) (sym s) in
-        let v : entry-in e W (drop (start-of e W i d) d) .target ≡ j =
-        ap (λ (y : List ℕ). entry-in e W y .target) z ∙ target-at-is e W u q m h ∙ sym r in
+        let x : target-in e n (entries-in e W u k (2 + w)) ≡ entry-at e W u q .target =
+        target-seek e n W u k (2 + w) (rw (← s) inside) ∙ ap (λ (y : ℕ). entry-at e W u y .target) (ap (λ (y : ℕ). start (size-at e W u) y (2 + w)) (sym s) ∙ sym pl) in
+        let v : entry-at e W u q .target ≡ j = target-at-is e W u q m h ∙ sym r in
         record {
           held-is = sym (held ∙ lt-ltb i k inside);
           index-is = index;

@@ -1,229 +1,121 @@
--- A run of entries passed one by one: where the next one starts, and what is left.
+-- A run of entries passed one by one: the laws of records that lie end to end, for the entries of a short form.
 -- Assumes nothing.
-use Prim.Native.Nat.{ℕ, zero, suc, _+_, _-_, _≤_, _<_}
-use native.Mathlib.Nat.{add-zero}
-use native.Mathlib.Numerals.{add-one}
+use Prim.Native.Nat.{ℕ, _+_, _-_, _≤_, _<_}
 use native.Mathlib.Omega.{arith}
 use mathlib.Core.Bool.{true}
-use mathlib.Core.Path.{_≡_, refl, sym, _∙_, ap, ap₂, subst}
-use mathlib.Core.List.{List, [], _∷_, _++_}
-use lib.Dec.{leb}
-use lib.ListN.{length, take, drop, getD, length-drop}
-use lib.Seq.{drop-drop, getD-drop}
-use borrow.Author.Tests.{leb-true}
+use mathlib.Core.Path.{_≡_, refl, _∙_, ap, subst}
+use mathlib.Core.List.{List, [], _∷_, _++_, map, map-append}
+use lib.ListN.{length, take, drop, getD}
+use borrow.Author.Tests.{le-leb, leb-true, eqb-true}
 use Rattle.be.specs.Bytes.{part, field}
-use Rattle.be.proofs.Bools.{and-left, and-right, and-both}
+use Rattle.records.specs.Records.{start, places}
+use Rattle.records.proofs.Starts.{start-fewer, places-done, length-records, records-take, records-drop}
+use Rattle.records.proofs.Turns as turns
 use Rattle.edition.specs.declared.Edition.{Edition}
 use Rattle.dir.specs.Target.{target}
-use Rattle.dir_sf.specs.Entry.{SfEntry, long-in, entry-in, entries-in, filled, enough, start-of}
+use Rattle.dir_sf.specs.Entry.{size-at, entry-at, entries-in, filled, enough}
 
-pub length-entries-in : (e : Edition) (w k : ℕ) (d : List ℕ) → length (entries-in e w k d) ≡ k
-unfolding entries-in
-length-entries-in e w zero d = refl
-length-entries-in e w (suc k) d = ap suc (length-entries-in e w k (drop (long-in e w d) d))
+-- i of the k entries from `at` on are passed, and the next one starts at p; all of them lie in u
+abbrev pub Run : Edition → ℕ → List ℕ → ℕ → ℕ → ℕ → ℕ → Type 0
+Run e w u at k i p = turns.Run (size-at e w u) (length u) at k i p
 
--- one more entry at the end
-pub start-snoc : (e : Edition) (w i : ℕ) (d : List ℕ) → start-of e w (i + 1) d ≡ start-of e w i d + long-in e w (drop (start-of e w i d) d)
-unfolding start-of
-start-snoc e w i d = rw add-one (go e w i d)
-  where
-    go : (e : Edition) (w i : ℕ) (d : List ℕ) → start-of e w (suc i) d ≡ start-of e w i d + long-in e w (drop (start-of e w i d) d)
-    go e w zero d = omega arith
-    go e w (suc i) d =
-        rw (go e w i (drop (long-in e w d) d), drop-drop (start-of e w i (drop (long-in e w d) d)) (long-in e w d) d) (omega arith)
+-- ---- what an entry holds
 
-pub entries-snoc : (e : Edition) (w i : ℕ) (d : List ℕ) → entries-in e w (i + 1) d ≡ entries-in e w i d ++ (entry-in e w (drop (start-of e w i d) d) ∷ [])
-unfolding start-of entries-in
-entries-snoc e w i d = rw add-one (go e w i d)
-  where
-    go : (e : Edition) (w i : ℕ) (d : List ℕ) → entries-in e w (suc i) d ≡ entries-in e w i d ++ (entry-in e w (drop (start-of e w i d) d) ∷ [])
-    go e w zero d = refl
-    go e w (suc i) d =
-        ap (λ (l : List SfEntry). entry-in e w d ∷ l)
-        (go e w i (drop (long-in e w d) d)
-        ∙ ap (λ (l : List ℕ). entries-in e w i (drop (long-in e w d) d) ++ (entry-in e w l ∷ [])) (drop-drop (start-of e w i (drop (long-in e w d) d)) (long-in e w d) d))
+module _ (e : Edition) (w : ℕ) (u : List ℕ) (p : ℕ) where
+  pub long-at-is : size-at e w u p ≡ 3 + getD u p 0 + (e .ftype + w)
+  unfolding size-at
+  long-at-is = omega arith
 
--- i of the k entries from `at` on are passed, and the next one starts at p
-pub record Run (e : Edition) (w : ℕ) (u : List ℕ) (at k i p : ℕ) : Type 0 where
-  pub upto : i ≤ k
-  pub place : p ≡ at + start-of e w i (drop at u)
-  pub left : enough e w (k - i) (drop p u) ≡ true
-  pub inside : p ≤ length u
+  pub tag-at-is : entry-at e w u p .tag ≡ field (p + 1) 2 u
+  unfolding entry-at
+  tag-at-is = refl
 
-left-step : (e : Edition) (w k : ℕ) (d : List ℕ) → 0 < k → enough e w k d ≡ true → (long-in e w d ≤ length d) × (enough e w (k - 1) (drop (long-in e w d) d) ≡ true)
-unfolding enough
-left-step e w zero d h f = absurd (omega arith)
-left-step e w (suc k) d h f =
-    let q : k ≡ suc k - 1 = omega arith in
-    (leb-true _ _ (and-left _ _ f), subst (λ (j : ℕ). enough e w j (drop (long-in e w d) d) ≡ true) q (and-right (leb (long-in e w d) (length d)) _ f))
+  pub name-at-is : entry-at e w u p .name ≡ part (p + 3) (getD u p 0) u
+  unfolding entry-at
+  name-at-is = refl
 
-long-least : (e : Edition) (w : ℕ) (d : List ℕ) → 3 + getD d 0 0 + w ≤ long-in e w d
-unfolding long-in
-long-least e w d = omega arith
+  pub inode-at-is : entry-at e w u p .target .inode ≡ field (p + 3 + getD u p 0 + e .ftype) w u
+  unfolding entry-at
+  inode-at-is = refl
 
-entries-cons : (e : Edition) (w k : ℕ) (d : List ℕ) → entries-in e w (suc k) d ≡ entry-in e w d ∷ entries-in e w k (drop (long-in e w d) d)
-unfolding entries-in
-entries-cons e w k d = refl
+  pub target-at-is : (n : ℕ) → n ≡ getD u p 0 → entry-at e w u p .target ≡ target (field (p + 3 + n + e .ftype) w u) (field (p + 3 + n) (e .ftype) u)
+  unfolding entry-at
+  target-at-is n h = rw h refl
 
-module _ (e : Edition) (w : ℕ) (u : List ℕ) (at k i p : ℕ) (r : Run e w u at k i p) (h : i < k) where
-  pub run-in : p + long-in e w (drop p u) ≤ length u
-  run-in =
-      let s = left-step e w (k - i) (drop p u) (omega arith) (r .left) in
-      let a : long-in e w (drop p u) ≤ length u - p = rw length-drop at (s .0) in
-      omega (arith, long-least e w (drop p u), r .inside)
+-- ---- the entries of u
 
-  pub run-next : (q : ℕ) → q ≡ long-in e w (drop p u) → Run e w u at k (i + 1) (p + q)
-  run-next q e₀ =
-      let s = left-step e w (k - i) (drop p u) (omega arith) (r .left) in
-      let n : k - i - 1 ≡ k - (i + 1) = omega arith in
-      let d : drop (long-in e w (drop p u)) (drop p u) ≡ drop (p + q) u = drop-drop (long-in e w (drop p u)) p u ∙ ap (λ (j : ℕ). drop (p + j) u) (sym e₀) in
-      let a : drop (start-of e w i (drop at u)) (drop at u) ≡ drop p u =
-      drop-drop (start-of e w i (drop at u)) at u ∙ ap (λ (j : ℕ). drop j u) (sym (r .place)) in
-      let b : long-in e w (drop (start-of e w i (drop at u)) (drop at u)) ≡ q = ap (long-in e w) a ∙ sym e₀ in
-      record {
-        upto = omega arith;
-        place = rw start-snoc (omega (arith, r .place));
-        left = rw (n, d) at (s .1);
-        inside = omega (arith, run-in);
-      }
+module _ (e : Edition) (w : ℕ) (u : List ℕ) where
+  pub length-entries-in : (k at : ℕ) → length (entries-in e w u k at) ≡ k
+  unfolding entries-in
+  length-entries-in k at = length-records (size-at e w u) (entry-at e w u) k at
 
-  -- the entries that are left: the next one, and the others
-  pub run-entries : (q : ℕ) → q ≡ long-in e w (drop p u)
-      → entries-in e w (k - i) (drop p u) ≡ entry-in e w (drop p u) ∷ entries-in e w (k - (i + 1)) (drop (p + q) u)
-  run-entries q e₀ =
-      let n : k - i ≡ suc (k - (i + 1)) = omega arith in
-      let d : drop (long-in e w (drop p u)) (drop p u) ≡ drop (p + q) u = drop-drop (long-in e w (drop p u)) p u ∙ ap (λ (j : ℕ). drop (p + j) u) (sym e₀) in
-      ap (λ (j : ℕ). entries-in e w j (drop p u)) n ∙ entries-cons e w (k - (i + 1)) (drop p u)
-      ∙ ap (λ (l : List ℕ). entry-in e w (drop p u) ∷ entries-in e w (k - (i + 1)) l) d
+  -- entries that fill the bytes lie in them, and so do fewer
+  pub filled-enough : (k at : ℕ) → filled e w u k at ≡ true → enough e w u k at ≡ true
+  unfolding filled enough
+  filled-enough k at f = le-leb (start (size-at e w u) k at) (length u) (omega (arith, eqb-true (start (size-at e w u) k at) (length u) f))
 
-  -- the entries that are passed, and the next one
-  pub run-passed : entries-in e w (i + 1) (drop at u) ≡ entries-in e w i (drop at u) ++ (entry-in e w (drop p u) ∷ [])
-  run-passed =
-      let a : drop (start-of e w i (drop at u)) (drop at u) ≡ drop p u =
-      drop-drop (start-of e w i (drop at u)) at u ∙ ap (λ (j : ℕ). drop j u) (sym (r .place)) in
-      entries-snoc e w i (drop at u) ∙ ap (λ (l : List ℕ). entries-in e w i (drop at u) ++ (entry-in e w l ∷ [])) a
+  pub enough-lies : (k at : ℕ) → enough e w u k at ≡ true → start (size-at e w u) k at ≤ length u
+  unfolding enough
+  enough-lies k at f = leb-true (start (size-at e w u) k at) (length u) f
 
--- the start
-pub run-start : (e : Edition) (w : ℕ) (u : List ℕ) (at k : ℕ) → at ≤ length u → enough e w k (drop at u) ≡ true → Run e w u at k 0 at
-unfolding start-of
-run-start e w u at k h f =
-    let n : k - 0 ≡ k = omega arith in
-    record { upto = omega arith; place = omega arith; left = rw n f; inside = h }
+  lies-enough : (k at : ℕ) → start (size-at e w u) k at ≤ length u → enough e w u k at ≡ true
+  unfolding enough
+  lies-enough k at h = le-leb (start (size-at e w u) k at) (length u) h
 
--- ---- what an entry holds, read at its place in u
+  module _ (j k at : ℕ) (h : j ≤ k) where
+    pub enough-fewer : enough e w u k at ≡ true → enough e w u j at ≡ true
+    enough-fewer f = lies-enough j at (omega (arith, start-fewer (size-at e w u) j k at h, enough-lies k at f))
 
-pub name-byte : (u : List ℕ) (p : ℕ) → getD (drop p u) 0 0 ≡ getD u p 0
-name-byte u p = getD-drop p u 0 0 ∙ ap (λ (j : ℕ). getD u j 0) (add-zero p)
+    -- the first j entries, and those behind them
+    pub entries-take : take j (entries-in e w u k at) ≡ entries-in e w u j at
+    unfolding entries-in
+    entries-take = records-take (size-at e w u) (entry-at e w u) j k at h
 
-pub long-at-is : (e : Edition) (w : ℕ) (u : List ℕ) (p : ℕ) → long-in e w (drop p u) ≡ 3 + getD u p 0 + (e .ftype + w)
-unfolding long-in
-long-at-is e w u p = rw (name-byte u p) (omega arith)
+    pub entries-drop : drop j (entries-in e w u k at) ≡ entries-in e w u (k - j) (start (size-at e w u) j at)
+    unfolding entries-in
+    entries-drop = records-drop (size-at e w u) (entry-at e w u) j k at h
 
-pub tag-at-is : (e : Edition) (w : ℕ) (u : List ℕ) (p : ℕ) → entry-in e w (drop p u) .tag ≡ field (p + 1) 2 u
-unfolding entry-in
-tag-at-is e w u p = rw (drop-drop 1 p u) refl
+  -- ---- the run, as the loops have it
 
-pub name-at-is : (e : Edition) (w : ℕ) (u : List ℕ) (p : ℕ) → entry-in e w (drop p u) .name ≡ part (p + 3) (getD u p 0) u
-unfolding entry-in
-name-at-is e w u p = rw (drop-drop 3 p u, name-byte u p) refl
+  pub run-start : (at k : ℕ) → enough e w u k at ≡ true → Run e w u at k 0 at
+  run-start at k f = turns.run-start (size-at e w u) (length u) at k (enough-lies k at f)
 
-pub inode-at-is : (e : Edition) (w : ℕ) (u : List ℕ) (p : ℕ) → entry-in e w (drop p u) .target .inode ≡ field (p + 3 + getD u p 0 + e .ftype) w u
-unfolding entry-in
-inode-at-is e w u p =
-    let q : p + (3 + getD (drop p u) 0 0 + e .ftype) ≡ p + 3 + getD u p 0 + e .ftype = omega (arith, name-byte u p) in
-    rw (drop-drop (3 + getD (drop p u) 0 0 + e .ftype) p u, q) refl
+  -- the run up to entry j, where j and its place are known
+  pub run-at : (at k j p : ℕ) → enough e w u k at ≡ true → j ≤ k → p ≡ start (size-at e w u) j at → Run e w u at k j p
+  run-at at k j p f l q = record { upto = l; place = q; lies = enough-lies k at f }
 
-pub kind-at-is : (e : Edition) (w : ℕ) (u : List ℕ) (p : ℕ) → entry-in e w (drop p u) .target .kind ≡ field (p + 3 + getD u p 0) (e .ftype) u
-unfolding entry-in
-kind-at-is e w u p =
-    let q : p + (3 + getD (drop p u) 0 0) ≡ p + 3 + getD u p 0 = omega (arith, name-byte u p) in
-    rw (drop-drop (3 + getD (drop p u) 0 0) p u, q) refl
+  pub run-whole : (at k : ℕ) → entries-in e w u k at ≡ entries-in e w u (k - 0) at
+  run-whole at k = let a : k - 0 ≡ k = omega arith in rw a refl
 
-pub target-at-is : (e : Edition) (w : ℕ) (u : List ℕ) (p n : ℕ) → n ≡ getD u p 0
-    → entry-in e w (drop p u) .target ≡ target (field (p + 3 + n + e .ftype) w u) (field (p + 3 + n) (e .ftype) u)
-target-at-is e w u p n h =
-    ap₂ (λ (i k : ℕ). target i k) (inode-at-is e w u p ∙ ap (λ (m : ℕ). field (p + 3 + m + e .ftype) w u) (sym h))
-    (kind-at-is e w u p ∙ ap (λ (m : ℕ). field (p + 3 + m) (e .ftype) u) (sym h))
+  -- none are left
+  pub run-over : (k i p : ℕ) → k ≤ i → entries-in e w u (k - i) p ≡ []
+  unfolding entries-in
+  run-over k i p h = rw (places-done (size-at e w u) (k - i) p (omega arith)) refl
 
--- entries that fill the bytes lie in them, and so do fewer
-pub filled-enough : (e : Edition) (w k : ℕ) (d : List ℕ) → filled e w k d ≡ true → enough e w k d ≡ true
-unfolding filled enough
-filled-enough e w zero d f = refl
-filled-enough e w (suc k) d f =
-    and-both (leb (long-in e w d) (length d)) _ (and-left _ _ f) (filled-enough e w k (drop (long-in e w d) d) (and-right (leb (long-in e w d) (length d)) _ f))
+  module _ (at k i p : ℕ) (r : Run e w u at k i p) where
+    pub run-left : enough e w u (k - i) p ≡ true
+    run-left = lies-enough (k - i) p (omega (arith, turns.run-ends r, r .lies))
 
-pub enough-fewer : (e : Edition) (w j k : ℕ) (d : List ℕ) → j ≤ k → enough e w k d ≡ true → enough e w j d ≡ true
-unfolding enough
-enough-fewer e w zero k d h f = refl
-enough-fewer e w (suc j) zero d h f = absurd (omega arith)
-enough-fewer e w (suc j) (suc k) d h f =
-    and-both (leb (long-in e w d) (length d)) _ (and-left _ _ f) (enough-fewer e w j k (drop (long-in e w d) d) (omega arith) (and-right (leb (long-in e w d) (length d)) _ f))
+    module _ (h : i < k) where
+      pub run-one : enough e w u 1 p ≡ true
+      run-one = enough-fewer 1 (k - i) p (omega arith) run-left
 
--- what is left after j entries
-pub enough-after : (e : Edition) (w j k : ℕ) (d : List ℕ) → j ≤ k → enough e w k d ≡ true → enough e w (k - j) (drop (start-of e w j d) d) ≡ true
-unfolding enough start-of
-enough-after e w zero k d h f = let q : k - 0 ≡ k = omega arith in rw q f
-enough-after e w (suc j) zero d h f = absurd (omega arith)
-enough-after e w (suc j) (suc k) d h f =
-    let q : suc k - suc j ≡ k - j = omega arith in
-    rw (q, ← drop-drop (start-of e w j (drop (long-in e w d) d)) (long-in e w d) d)
-    (enough-after e w j k (drop (long-in e w d) d) (omega arith) (and-right (leb (long-in e w d) (length d)) _ f))
-
--- the first j entries, and those behind them
-pub entries-take : (e : Edition) (w j k : ℕ) (d : List ℕ) → j ≤ k → take j (entries-in e w k d) ≡ entries-in e w j d
-unfolding entries-in
-entries-take e w zero k d h = refl
-entries-take e w (suc j) zero d h = absurd (omega arith)
-entries-take e w (suc j) (suc k) d h = ap (λ (l : List SfEntry). entry-in e w d ∷ l) (entries-take e w j k (drop (long-in e w d) d) (omega arith))
-
-pub entries-drop : (e : Edition) (w j k : ℕ) (d : List ℕ) → j ≤ k → drop j (entries-in e w k d) ≡ entries-in e w (k - j) (drop (start-of e w j d) d)
-unfolding entries-in start-of
-entries-drop e w zero k d h = let q : k - 0 ≡ k = omega arith in rw q refl
-entries-drop e w (suc j) zero d h = absurd (omega arith)
-entries-drop e w (suc j) (suc k) d h =
-    let q : suc k - suc j ≡ k - j = omega arith in
-    rw (q, ← drop-drop (start-of e w j (drop (long-in e w d) d)) (long-in e w d) d) (entries-drop e w j k (drop (long-in e w d) d) (omega arith))
-
--- ---- the run, as the loops have it
-
-pub run-one : (e : Edition) (w : ℕ) (u : List ℕ) (at k i p : ℕ) → Run e w u at k i p → i < k → enough e w 1 (drop p u) ≡ true
-run-one e w u at k i p r h = enough-fewer e w 1 (k - i) (drop p u) (omega arith) (r .left)
+      -- the entries that are passed, and the next one
+      pub run-passed : entries-in e w u (i + 1) at ≡ entries-in e w u i at ++ (entry-at e w u p ∷ [])
+      unfolding entries-in
+      run-passed = ap (map (entry-at e w u)) (turns.run-passed r h) ∙ map-append (entry-at e w u) (places (size-at e w u) i at) (p ∷ [])
 
 pub run-on : (e : Edition) (w : ℕ) (u : List ℕ) (at k i p n v : ℕ) → Run e w u at k i p → i < k → n ≡ getD u p 0 → v ≡ e .ftype + w → Run e w u at k (i + 1) (p + 3 + n + v)
-run-on e w u at k i p n v r h q e₀ =
+run-on e w u at k i p n v r h q b =
     let a : p + (3 + n + v) ≡ p + 3 + n + v = omega arith in
-    subst (λ (j : ℕ). Run e w u at k (i + 1) j) a (run-next e w u at k i p r h (3 + n + v) (omega (arith, long-at-is e w u p)))
+    let s : 3 + n + v ≡ size-at e w u p = omega (arith, long-at-is e w u p) in
+    subst (λ (j : ℕ). Run e w u at k (i + 1) j) a (turns.run-next r h s)
 
 -- the entries that are left: the next one, and the others
 pub run-rest : (e : Edition) (w : ℕ) (u : List ℕ) (at k i p n v : ℕ) → Run e w u at k i p → i < k → n ≡ getD u p 0 → v ≡ e .ftype + w
-    → entries-in e w (k - i) (drop p u) ≡ entry-in e w (drop p u) ∷ entries-in e w (k - (i + 1)) (drop (p + 3 + n + v) u)
-run-rest e w u at k i p n v r h q e₀ =
-    let a : p + (3 + n + v) ≡ p + 3 + n + v = omega arith in
-    subst (λ (j : ℕ). entries-in e w (k - i) (drop p u) ≡ entry-in e w (drop p u) ∷ entries-in e w (k - (i + 1)) (drop j u)) a
-    (run-entries e w u at k i p r h (3 + n + v) (omega (arith, long-at-is e w u p)))
-
--- none are left
-pub run-over : (e : Edition) (w : ℕ) (u : List ℕ) (k i p : ℕ) → k ≤ i → entries-in e w (k - i) (drop p u) ≡ []
+    → entries-in e w u (k - i) p ≡ entry-at e w u p ∷ entries-in e w u (k - (i + 1)) (p + 3 + n + v)
 unfolding entries-in
-run-over e w u k i p h = let a : k - i ≡ 0 = omega arith in rw a refl
-
-pub run-whole : (e : Edition) (w : ℕ) (u : List ℕ) (at k : ℕ) → entries-in e w k (drop at u) ≡ entries-in e w (k - 0) (drop at u)
-run-whole e w u at k = let a : k - 0 ≡ k = omega arith in rw a refl
-
--- the bytes before entry j lie in d
-pub start-in : (e : Edition) (w j k : ℕ) (d : List ℕ) → j ≤ k → enough e w k d ≡ true → start-of e w j d ≤ length d
-unfolding enough start-of
-start-in e w zero k d h f = omega arith
-start-in e w (suc j) zero d h f = absurd (omega arith)
-start-in e w (suc j) (suc k) d h f =
-    let a : long-in e w d ≤ length d = leb-true _ _ (and-left _ _ f) in
-    let i : start-of e w j (drop (long-in e w d) d) ≤ length d - long-in e w d =
-    rw length-drop at (start-in e w j k (drop (long-in e w d) d) (omega arith) (and-right (leb (long-in e w d) (length d)) _ f)) in
-    omega arith
-
--- the run up to entry j, where j and its place are known
-pub run-at : (e : Edition) (w : ℕ) (u : List ℕ) (at k j p : ℕ) → at ≤ length u → enough e w k (drop at u) ≡ true → j ≤ k → p ≡ at + start-of e w j (drop at u) → Run e w u at k j p
-run-at e w u at k j p h f l q =
-    let a : drop (start-of e w j (drop at u)) (drop at u) ≡ drop p u = drop-drop (start-of e w j (drop at u)) at u ∙ ap (λ (i : ℕ). drop i u) (sym q) in
-    let s : start-of e w j (drop at u) ≤ length u - at = rw length-drop at (start-in e w j k (drop at u) l f) in
-    record { upto = l; place = q; left = rw a at (enough-after e w j k (drop at u) l f); inside = omega arith }
+run-rest e w u at k i p n v r h q b =
+    let a : p + (3 + n + v) ≡ p + 3 + n + v = omega arith in
+    let s : 3 + n + v ≡ size-at e w u p = omega (arith, long-at-is e w u p) in
+    ap (map (entry-at e w u)) (turns.run-left r h s ∙ ap (λ (j : ℕ). p ∷ places (size-at e w u) (k - (i + 1)) j) a)

@@ -25,7 +25,7 @@ use Rattle.dir.specs.Target.{no-target}
 use Rattle.dir.specs.Answers.{looked-code, looked-target, looked-compared}
 use Rattle.name.specs.Name.{legal-name, dot, dotdot}
 use Rattle.dir_sf.specs.Entry.{SfEntry, width-of, enough, filled, tags-ok, wides-of}
-use Rattle.dir_sf.specs.Fork.{Readable, count-of, stored-wides, used-width, list-of, parent, entries, holds, span-ok, tile-ok, names-ok, numbers-ok, once-ok, used-verdict, fork-verdict}
+use Rattle.dir_sf.specs.Fork.{Readable, count-of, stored-wides, used-width, parent, entries, holds, span-ok, tile-ok, names-ok, numbers-ok, once-ok, used-verdict, fork-verdict}
 use Rattle.dir_sf.specs.Change.{lookup-request, target-for}
 use Rattle.dir_sf.specs.Inode.{verdict, used, looked, lookup, lookup-code, lookup-target, Lookup-promise}
 use Rattle.dir_sf.proofs.Leaves.{width-least}
@@ -45,7 +45,7 @@ pub tags-known : (e : Edition) (told : ℕ) (u : List ℕ) → used-verdict e to
 unfolding used-verdict tile-ok
 tags-known e told u a =
     let t₅ = passes (tile-ok e told u) 4 _ a in
-    and-right (filled e (used-width u) (count-of u) (list-of u)) _ (and-left _ _ (t₅ .0))
+    and-right (filled e (used-width u) u (count-of u) (2 + used-width u)) _ (and-left _ _ (t₅ .0))
 
 pub once-known : (e : Edition) (told : ℕ) (u : List ℕ) → used-verdict e told u ≡ 0 → once-ok e (entries e u) ≡ true
 unfolding used-verdict
@@ -122,11 +122,11 @@ module _ (e : Edition) (sane : Sane e) (told : ℕ) (b : List ℕ) (h : verdict 
   pub used-header : 2 + used-width (used e b) ≤ length (used e b)
   used-header = omega (arith, same-width, used-long, span)
 
-  pub used-enough : enough e (used-width (used e b)) (count-of (used e b)) (list-of (used e b)) ≡ true
+  pub used-enough : enough e (used-width (used e b)) (used e b) (count-of (used e b)) (2 + used-width (used e b)) ≡ true
   unfolding used-verdict tile-ok
   used-enough =
       let t = passes (tile-ok e told (used e b)) 4 _ used-passes in
-      filled-enough e (used-width (used e b)) (count-of (used e b)) (list-of (used e b)) (and-left _ _ (and-left _ _ (t .0)))
+      filled-enough e (used-width (used e b)) (used e b) (count-of (used e b)) (2 + used-width (used e b)) (and-left _ _ (and-left _ _ (t .0)))
 
   used-wides : stored-wides (used e b) ≡ wides-of (parent (used e b)) (entries e (used e b))
   used-wides = wides-known e told (used e b) used-passes

@@ -6,40 +6,40 @@ use mathlib.Core.Bool.{Bool, true, false, not}
 use mathlib.Core.Path.{_≡_, refl, sym, _∙_, ap, ap₂}
 use mathlib.Core.List.{List}
 use lib.Dec.{leb}
-use lib.ListN.{length, take, drop, getD, length-take}
+use lib.ListN.{length, take, getD, length-take}
 use lib.Seq.{getD-take}
 use borrow.Author.Tests.{le-leb, lt-leb, eq-eqb, ne-eqb, not-true, not-false}
 use Rattle.be.specs.Bytes.{field}
 use Rattle.be.proofs.Bools.{by-cases, and-left}
 use Rattle.edition.specs.declared.Edition.{Edition}
 use Rattle.dir_sf.specs.Entry.{width-of, entries-in, enough, wides-of}
-use Rattle.dir_sf.specs.Fork.{count-of, stored-wides, used-width, parent, list-of, entries, tiles, span-ok, tile-ok, names-ok, numbers-ok, once-ok, used-verdict, fork-verdict}
+use Rattle.dir_sf.specs.Fork.{count-of, stored-wides, used-width, parent, entries, tiles, span-ok, tile-ok, names-ok, numbers-ok, once-ok, used-verdict, fork-verdict}
 use Rattle.dir_sf.proofs.Run.{filled-enough}
 use Rattle.dir_sf.proofs.Listed.{entries-is, parent-is}
 
-pub tiles-enough : (e : Edition) (w told all low k : ℕ) (d : List ℕ) (t : Bool) → t ≡ tiles e w told all low k d → not t ≡ false → enough e w k d ≡ true
+pub tiles-enough : (e : Edition) (w told all low : ℕ) (u : List ℕ) (k at : ℕ) (t : Bool) → t ≡ tiles e w told all low u k at → not t ≡ false → enough e w u k at ≡ true
 unfolding tiles
-tiles-enough e w told all low k d t h f =
-    filled-enough e w k d (and-left _ _ (and-left _ _ (sym h ∙ not-false t f)))
+tiles-enough e w told all low u k at t h f =
+    filled-enough e w u k at (and-left _ _ (and-left _ _ (sym h ∙ not-false t f)))
 
 module _ (e : Edition) (u : List ℕ) (told k wides w : ℕ) (a : k ≡ getD u 0 0) (b : wides ≡ getD u 1 0) (c : w ≡ width-of wides) where
   width-is : used-width u ≡ width-of wides
   unfolding used-width stored-wides
   width-is = ap width-of (sym b)
 
-  all-is : entries e u ≡ entries-in e (width-of wides) k (drop (2 + w) u)
+  all-is : entries e u ≡ entries-in e (width-of wides) u k (2 + w)
   all-is = entries-is e u k wides w a b c
 
-  tile-is : tile-ok e told u ≡ tiles e (width-of wides) told k (e .first) k (drop (2 + w) u)
-  unfolding tile-ok tiles entries count-of list-of
+  tile-is : tile-ok e told u ≡ tiles e (width-of wides) told k (e .first) u k (2 + w)
+  unfolding tile-ok tiles entries count-of
   tile-is = rw (width-is, ← c, ← a) refl
 
-  module _ (t₅ : Bool) (h₅ : t₅ ≡ tiles e (width-of wides) told k (e .first) k (drop (2 + w) u)) where
+  module _ (t₅ : Bool) (h₅ : t₅ ≡ tiles e (width-of wides) told k (e .first) u k (2 + w)) where
     pub verdict-5 : not t₅ ≡ true → _≡_ {A = ℕ} 5 (used-verdict e told u)
     unfolding used-verdict
     verdict-5 f = sym (rw (tile-is ∙ sym h₅ ∙ not-true t₅ f) refl)
 
-    module _ (g₅ : not t₅ ≡ false) (t₆ : Bool) (h₆ : t₆ ≡ names-ok e (entries-in e (width-of wides) k (drop (2 + w) u))) where
+    module _ (g₅ : not t₅ ≡ false) (t₆ : Bool) (h₆ : t₆ ≡ names-ok e (entries-in e (width-of wides) u k (2 + w))) where
       five : tile-ok e told u ≡ true
       five = tile-is ∙ sym h₅ ∙ not-false t₅ g₅
 
@@ -51,7 +51,7 @@ module _ (e : Edition) (u : List ℕ) (told k wides w : ℕ) (a : k ≡ getD u 0
       verdict-6 f = sym (rw (five, six-is ∙ not-true t₆ f) refl)
 
       module _ (g₆ : not t₆ ≡ false) (p : ℕ) (hp : p ≡ field 2 (width-of wides) u) (t₇ : Bool)
-          (h₇ : t₇ ≡ numbers-ok p (entries-in e (width-of wides) k (drop (2 + w) u))) where
+          (h₇ : t₇ ≡ numbers-ok p (entries-in e (width-of wides) u k (2 + w))) where
         seven-is : numbers-ok (parent u) (entries e u) ≡ t₇
         seven-is = ap₂ numbers-ok (sym (parent-is u wides p b hp)) all-is ∙ sym h₇
 
@@ -59,7 +59,7 @@ module _ (e : Edition) (u : List ℕ) (told k wides w : ℕ) (a : k ≡ getD u 0
         unfolding used-verdict
         verdict-7 f = sym (rw (five, six-is ∙ not-false t₆ g₆, seven-is ∙ not-true t₇ f) refl)
 
-        module _ (g₇ : not t₇ ≡ false) (n : ℕ) (h₈ : n ≡ wides-of p (entries-in e (width-of wides) k (drop (2 + w) u))) where
+        module _ (g₇ : not t₇ ≡ false) (n : ℕ) (h₈ : n ≡ wides-of p (entries-in e (width-of wides) u k (2 + w))) where
           counted : wides-of (parent u) (entries e u) ≡ n
           counted = ap₂ wides-of (sym (parent-is u wides p b hp)) all-is ∙ sym h₈
 
@@ -67,7 +67,7 @@ module _ (e : Edition) (u : List ℕ) (told k wides w : ℕ) (a : k ≡ getD u 0
           unfolding used-verdict stored-wides
           verdict-8 f = sym (rw (five, six-is ∙ not-false t₆ g₆, seven-is ∙ not-false t₇ g₇, counted, ← b, ne-eqb wides n f) refl)
 
-          module _ (g₈ : wides ≡ n) (t₁₀ : Bool) (h₁₀ : t₁₀ ≡ once-ok e (entries-in e (width-of wides) k (drop (2 + w) u))) where
+          module _ (g₈ : wides ≡ n) (t₁₀ : Bool) (h₁₀ : t₁₀ ≡ once-ok e (entries-in e (width-of wides) u k (2 + w))) where
             ten-is : once-ok e (entries e u) ≡ t₁₀
             ten-is = ap (once-ok e) all-is ∙ sym h₁₀
 

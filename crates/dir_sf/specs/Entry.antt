@@ -1,12 +1,13 @@
 -- The entries of a short form: read from bytes, and laid out as bytes.
 -- Assumes nothing.
-use Prim.Native.Nat.{ℕ, zero, suc, _+_, _*_, _%_}
+use Prim.Native.Nat.{ℕ, _+_, _*_, _%_}
 use mathlib.Core.Bool.{Bool, true, cond, _&&_}
 use mathlib.Core.List.{List, [], _∷_, _++_}
 use lib.Dec.{eqb, leb, ltb}
-use lib.ListN.{length, drop}
+use lib.ListN.{length}
 use Rattle.be.specs.Lists.{tally}
 use Rattle.be.specs.Bytes.{byte, field, part, to-be}
+use Rattle.records.specs.Records.{records, tiled, within, joined}
 use Rattle.edition.specs.declared.Edition.{Edition}
 use Rattle.edition.specs.Edition.{entry-size}
 use Rattle.dir.specs.declared.Target.{Target}
@@ -27,34 +28,26 @@ width-of wides = cond (eqb wides 0) 4 8
 
 -- ---- read
 
--- how long the entry at the head of d is: namelen (1), tag (2), name, file type, number of w bytes
-unfoldable pub long-in : Edition → ℕ → List ℕ → ℕ
-long-in e w d = 3 + byte 0 d + e .ftype + w
+-- how long the entry at place p of u is: namelen (1), tag (2), name, file type, number of w bytes
+unfoldable pub size-at : Edition → ℕ → List ℕ → ℕ → ℕ
+size-at e w u p = 3 + byte p u + e .ftype + w
 
-unfoldable pub entry-in : Edition → ℕ → List ℕ → SfEntry
-entry-in e w d =
-    let n = byte 0 d in
-    entry (field 1 2 d) (part 3 n d) (target (field (3 + n + e .ftype) w d) (field (3 + n) (e .ftype) d))
+unfoldable pub entry-at : Edition → ℕ → List ℕ → ℕ → SfEntry
+entry-at e w u p =
+    let n = byte p u in
+    entry (field (p + 1) 2 u) (part (p + 3) n u) (target (field (p + 3 + n + e .ftype) w u) (field (p + 3 + n) (e .ftype) u))
 
--- the first k entries of d
-unfoldable pub entries-in : Edition → ℕ → ℕ → List ℕ → List SfEntry
-entries-in e w zero d = []
-entries-in e w (suc k) d = entry-in e w d ∷ entries-in e w k (drop (long-in e w d) d)
+-- k entries of u from a place on
+unfoldable pub entries-in : Edition → ℕ → List ℕ → ℕ → ℕ → List SfEntry
+entries-in e w u k at = records (size-at e w u) (entry-at e w u) k at
 
--- k entries use exactly the bytes of d
-unfoldable pub filled : Edition → ℕ → ℕ → List ℕ → Bool
-filled e w zero d = eqb (length d) 0
-filled e w (suc k) d = leb (long-in e w d) (length d) && filled e w k (drop (long-in e w d) d)
+-- they use exactly the bytes up to the end of u
+unfoldable pub filled : Edition → ℕ → List ℕ → ℕ → ℕ → Bool
+filled e w u k at = tiled (size-at e w u) (length u) k at
 
--- k entries lie in d
-unfoldable pub enough : Edition → ℕ → ℕ → List ℕ → Bool
-enough e w zero d = true
-enough e w (suc k) d = leb (long-in e w d) (length d) && enough e w k (drop (long-in e w d) d)
-
--- where entry j of d starts
-unfoldable pub start-of : Edition → ℕ → ℕ → List ℕ → ℕ
-start-of e w zero d = 0
-start-of e w (suc j) d = long-in e w d + start-of e w j (drop (long-in e w d) d)
+-- they lie in u
+unfoldable pub enough : Edition → ℕ → List ℕ → ℕ → ℕ → Bool
+enough e w u k at = within (size-at e w u) (length u) k at
 
 -- ---- laid out
 
@@ -62,9 +55,8 @@ unfoldable pub entry-bytes : Edition → ℕ → SfEntry → List ℕ
 entry-bytes e w x =
     length (x .name) ∷ to-be 2 (x .tag) ++ (x .name ++ (to-be (e .ftype) (x .target .kind) ++ to-be w (x .target .inode)))
 
-unfoldable pub entries-bytes : Edition → ℕ → List SfEntry → List ℕ
-entries-bytes e w [] = []
-entries-bytes e w (x ∷ xs) = entry-bytes e w x ++ entries-bytes e w xs
+abbrev pub entries-bytes : Edition → ℕ → List SfEntry → List ℕ
+entries-bytes e w xs = joined (entry-bytes e w) xs
 
 -- ---- wide numbers
 

@@ -3,17 +3,18 @@
 -- Assumes nothing.
 use Prim.Native.Nat.{ℕ, _+_, _-_, _≤_}
 use mathlib.Core.Path.{_≡_}
-use mathlib.Core.Bool.{Bool, true, not, cond, _&&_}
+use mathlib.Core.Bool.{Bool, true, not, _&&_}
 use mathlib.Core.List.{List, [], _∷_, _++_}
 use lib.Dec.{eqb, leb}
-use lib.ListN.{length, take, drop, replicate}
+use lib.ListN.{length, take, replicate}
 use Rattle.refusal.specs.Refusal.{SPAN, TILE, NAME, NUMBER, INDEX, TWICE}
 use Rattle.be.specs.Codes.{_unless_then_}
 use Rattle.be.specs.Lists.{every, some-of}
 use Rattle.be.specs.Bytes.{byte, field, to-be}
+use Rattle.records.specs.Records.{start}
 use Rattle.edition.specs.declared.Edition.{Edition}
 use Rattle.name.specs.Name.{legal-name, legal-number, same-name, fixed-name}
-use Rattle.dir_sf.specs.Entry.{SfEntry, width-of, entries-in, filled, enough, start-of, entries-bytes, wides-of, tags-ok, end-tag, in-block}
+use Rattle.dir_sf.specs.Entry.{SfEntry, width-of, size-at, entries-in, filled, enough, entries-bytes, wides-of, tags-ok, end-tag, in-block}
 
 -- Header: count (1), i8count (1), parent
 unfoldable pub count-of : List ℕ → ℕ
@@ -28,12 +29,8 @@ used-width u = width-of (stored-wides u)
 unfoldable pub parent : List ℕ → ℕ
 parent u = field 2 (used-width u) u
 
--- what follows the header
-unfoldable pub list-of : List ℕ → List ℕ
-list-of u = drop (2 + used-width u) u
-
 unfoldable pub entries : Edition → List ℕ → List SfEntry
-entries e u = entries-in e (used-width u) (count-of u) (list-of u)
+entries e u = entries-in e (used-width u) u (count-of u) (2 + used-width u)
 
 -- a header and entries laid out
 abbrev pub laid : Edition → ℕ → ℕ → ℕ → List SfEntry → List ℕ
@@ -50,12 +47,12 @@ lay-fork e n p xs = let u = lay e p xs in u ++ replicate (n - length u) 0
 -- what is known of used bytes that pass the tests: header and entries lie in them, and i8count is right
 pub record Readable (e : Edition) (u : List ℕ) : Type 0 where
   pub header : 2 + used-width u ≤ length u
-  pub listed : enough e (used-width u) (count-of u) (list-of u) ≡ true
+  pub listed : enough e (used-width u) u (count-of u) (2 + used-width u) ≡ true
   pub wides : stored-wides u ≡ wides-of (parent u) (entries e u)
 
 -- where entry j starts in the used bytes
 unfoldable pub place-of : Edition → ℕ → List ℕ → ℕ
-place-of e j u = 2 + used-width u + start-of e (used-width u) j (list-of u)
+place-of e j u = start (size-at e (used-width u) u) j (2 + used-width u)
 
 -- 4 SPAN: size is not under the header and not over the fork
 unfoldable pub span-ok : List ℕ → ℕ → Bool
@@ -64,16 +61,16 @@ span-ok f size = leb (2 + used-width f) size && leb size (length f)
 -- 5 TILE: count entries use exactly size bytes, their tags are right, and the block they would go into holds them
 unfoldable pub tile-ok : Edition → ℕ → List ℕ → Bool
 tile-ok e told u =
-    filled e (used-width u) (count-of u) (list-of u)
+    filled e (used-width u) u (count-of u) (2 + used-width u)
     && tags-ok e (e .first) (entries e u)
     && in-block told (end-tag e (e .first) (entries e u)) (count-of u)
 
--- the same of k entries in d, of all in the list, whose tags start at low: what a walk over them has still to test
-unfoldable pub tiles : Edition → ℕ → ℕ → ℕ → ℕ → ℕ → List ℕ → Bool
-tiles e w told all low k d =
-    filled e w k d
-    && tags-ok e low (entries-in e w k d)
-    && in-block told (end-tag e low (entries-in e w k d)) all
+-- the same of k entries of u from a place on, of all in the list, whose tags start at low: what a walk over them has still to test
+unfoldable pub tiles : Edition → ℕ → ℕ → ℕ → ℕ → List ℕ → ℕ → ℕ → Bool
+tiles e w told all low u k at =
+    filled e w u k at
+    && tags-ok e low (entries-in e w u k at)
+    && in-block told (end-tag e low (entries-in e w u k at)) all
 
 -- 6 NAME: a stored name is legal, and not "." or ".."
 abbrev pub name-ok : Edition → SfEntry → Bool

@@ -9,11 +9,10 @@ use Rattle.edition.specs.declared.Edition.{Edition}
 use Rattle.name.specs.Name.{legal-name, fixed-name, dotdot}
 use Rattle.dir.specs.declared.Looked.the-variants.{Found, Absent}
 use Rattle.dir_sf.specs.Entry.{SfEntry}
-use Rattle.dir_sf.specs.Fork.{parent, entries, holds, count-of, used-width, list-of}
+use Rattle.dir_sf.specs.Fork.{parent, entries, holds, count-of, used-width}
 use Rattle.dir_sf.specs.Change.{target-in}
 use Rattle.dir_sf.specs.Inode.{used, verdict, lookup}
 use Rattle.dir.specs.Target.{target, kept-of}
-use Rattle.dir.specs.declared.Seen.{Seen}
 use Rattle.dir.specs.declared.Seen.the-variants.{Gap}
 use Rattle.dir_sf.specs.Walk.{step-seen, walk, meets}
 
@@ -34,7 +33,7 @@ Lookup-parent e = (told : ℕ) (b : List ℕ) → verdict e told b ≡ 0 → loo
 -- the walk meets each entry once, in stored order, and then the end, however many steps more it is given
 unfoldable pub Walk-whole : Edition → Type 0
 Walk-whole e = (told : ℕ) (b : List ℕ) (steps : ℕ) → verdict e told b ≡ 0 → count-of (used e b) < steps
-    → walk e told b steps (2 + used-width (used e b)) ≡ meets e (used-width (used e b)) (count-of (used e b)) (2 + used-width (used e b)) (list-of (used e b))
+    → walk e told b steps (2 + used-width (used e b)) ≡ meets e (used-width (used e b)) (used e b) (count-of (used e b)) (2 + used-width (used e b))
 
 -- so it ends after as many steps as there are entries, plus one
 unfoldable pub Walk-ends : Edition → Type 0

@@ -2,12 +2,13 @@
 -- Assumes nothing.
 use Prim.Native.Nat.{ℕ, zero, suc, _+_}
 use mathlib.Core.Path.{_≡_}
-use mathlib.Core.Bool.{Bool, cond, _||_}
-use mathlib.Core.List.{List, [], _∷_}
+use mathlib.Core.Bool.{Bool, cond}
+use mathlib.Core.List.{List, [], _∷_, _++_, map}
 use lib.Dec.{eqb}
-use lib.ListN.{length, drop}
+use lib.ListN.{length}
 use Rattle.refusal.specs.Refusal.{ASKED}
 use Rattle.be.specs.Codes.{_unless_then_, _and-then_}
+use Rattle.records.specs.Records.{start, places, stands}
 use Rattle.edition.specs.declared.Edition.{Edition}
 use Rattle.dir.specs.declared.Seen.{Seen}
 use Rattle.dir.specs.declared.Seen.the-variants.{Live, Gap, End}
@@ -15,38 +16,27 @@ use Rattle.dir.specs.declared.Step.{Step}
 use Rattle.dir.specs.declared.Walked.{Walked}
 use Rattle.dir.specs.declared.Walked.the-variants.{Stepped, Refused}
 use Rattle.dir.specs.Answers.{walked-code, walked-next, walked-seen}
-use Rattle.dir_sf.specs.Entry.{long-in, entry-in}
-use Rattle.dir_sf.specs.Fork.{count-of, used-width, list-of}
+use Rattle.dir_sf.specs.Entry.{size-at, entry-at}
+use Rattle.dir_sf.specs.Fork.{count-of, used-width, place-of}
 use Rattle.dir_sf.specs.Inode.{verdict, used}
 
 -- at the end a step says end, and stands where it stood
 unfoldable pub end-step : ℕ → Step
 end-step p = record { next = p; seen = End }
 
--- the entry at the head of d, which stands at place p; its name is given by where it starts in the inode
-unfoldable pub entry-step : Edition → ℕ → ℕ → List ℕ → Step
-entry-step e w p d =
-    let x = entry-in e w d in
-    record { next = p + long-in e w d; seen = Live (record { target = x .target; start = e .literal + (p + 3); len = length (x .name) }) }
+-- the entry at place p of the used bytes; its name is given by where it starts in the inode
+unfoldable pub entry-step : Edition → ℕ → List ℕ → ℕ → Step
+entry-step e w u p =
+    let x = entry-at e w u p in
+    record { next = p + size-at e w u p; seen = Live (record { target = x .target; start = e .literal + (p + 3); len = length (x .name) }) }
 
--- places are record starts and the list's end: of k entries in d, the first of them at p
-unfoldable pub is-place : Edition → ℕ → ℕ → ℕ → List ℕ → ℕ → Bool
-is-place e w zero p d place = eqb place p
-is-place e w (suc k) p d place = eqb place p || is-place e w k (p + long-in e w d) (drop (long-in e w d) d) place
+-- places are record starts and the list's end, starting after the header
+unfoldable pub place-in : Edition → List ℕ → ℕ → Bool
+place-in e u place = stands (size-at e (used-width u) u) (count-of u) (2 + used-width u) place
 
 -- the step from such a place
-unfoldable pub step-over : Edition → ℕ → ℕ → ℕ → List ℕ → ℕ → Step
-step-over e w zero p d place = end-step p
-step-over e w (suc k) p d place =
-    let r = step-over e w k (p + long-in e w d) (drop (long-in e w d) d) place in
-    cond (eqb place p) (entry-step e w p d) r
-
--- in the used bytes, starting after the header
-unfoldable pub place-in : Edition → List ℕ → ℕ → Bool
-place-in e u place = is-place e (used-width u) (count-of u) (2 + used-width u) (list-of u) place
-
 unfoldable pub step-in : Edition → List ℕ → ℕ → Step
-step-in e u place = step-over e (used-width u) (count-of u) (2 + used-width u) (list-of u) place
+step-in e u place = cond (eqb place (place-of e (count-of u) u)) (end-step place) (entry-step e (used-width u) u place)
 
 -- a step's number: the tests', or 11 ASKED for any other place
 unfoldable pub step-code : Edition → ℕ → List ℕ → ℕ → ℕ
@@ -86,7 +76,7 @@ unfoldable pub walk : Edition → ℕ → List ℕ → ℕ → ℕ → List Walk
 walk e told b zero place = []
 walk e told b (suc steps) place = walk-step e told b place ∷ after-step (walk-step e told b place) (walk e told b steps)
 
--- each of k entries in d once, the first of them at p, and then the end
-unfoldable pub meets : Edition → ℕ → ℕ → ℕ → List ℕ → List Walked
-meets e w zero p d = Stepped (end-step p) ∷ []
-meets e w (suc k) p d = Stepped (entry-step e w p d) ∷ meets e w k (p + long-in e w d) (drop (long-in e w d) d)
+-- each of k entries of u once, the first of them at p, and then the end
+unfoldable pub meets : Edition → ℕ → List ℕ → ℕ → ℕ → List Walked
+meets e w u k p =
+    map (λ (q : ℕ). Stepped (entry-step e w u q)) (places (size-at e w u) k p) ++ (Stepped (end-step (start (size-at e w u) k p)) ∷ [])

@@ -2,12 +2,13 @@
 ghost use mathlib.Core.Path.{_≡_};
 ghost use mathlib.Core.Bool.{true, cond, not, _&&_};
 ghost use Prim.Native.Nat.{_+_, _≤_, _<_};
-ghost use lib.ListN.{length, drop};
+ghost use lib.ListN.{length};
 ghost use Rattle.be.specs.Bytes.{byte, field};
+ghost use Rattle.records.specs.Records.{start};
 ghost use Rattle.edition.specs.Edition.{v4, Sane};
 ghost use Rattle.name.specs.Name.{legal-name, fixed-name};
 ghost use Rattle.dinode.specs.Core.{directory-code, data-length};
-ghost use Rattle.dir_sf.specs.Entry.{width-of, entries-in, enough, start-of, is-wide, wides-of};
+ghost use Rattle.dir_sf.specs.Entry.{width-of, entries-in, enough, size-at, is-wide, wides-of};
 ghost use Rattle.dir_sf.specs.Fork.{Readable, place-of, count-of, parent, entries, tiles, names-ok, numbers-ok, once-ok, used-width, used-verdict, fork-verdict};
 ghost use Rattle.dir_sf.specs.Change.{Hits, seek};
 ghost use Rattle.dir_sf.specs.Inode.{verdict, looked, lookup, Lookup-promise};
@@ -56,7 +57,7 @@ pub fn number(u: &[u8], o: usize, wides: usize) -> u64
 
 // The length of the name of the entry at p, which lies in u.
 pub fn namelen(e: Edition, u: &[u8], p: usize, wides: usize) -> usize
-    requires { ⌜ enough e (width-of wides) 1 (drop p (now u)) ≡ true ⌝ }
+    requires { ⌜ enough e (width-of wides) (now u) 1 p ≡ true ⌝ }
     ensures { λ r. ⌜ (r ≡ byte p (now (u .entry))) × (r < 256) × (p + 3 + r + (e .ftype + width-of wides) ≤ length (now (u .entry))) ⌝ }
 {
     be::be8(u, p)
@@ -70,9 +71,9 @@ pub struct Spot {
 
 // The first entry of a name among the k from `at` on; past them all where there is none.
 fn find<'a, 'b>(e: Edition, u: &'a [u8], at: usize, k: usize, wides: usize, name: &'b [u8]) -> Spot
-    requires { ⌜ Sane e × (at ≤ length (now u)) × (enough e (width-of wides) k (drop at (now u)) ≡ true) ⌝ }
-    ensures { λ r. ⌜ (r .index ≡ seek e (now (name .entry)) (entries-in e (width-of wides) k (drop at (now (u .entry)))))
-        × (r .at ≡ at + start-of e (width-of wides) (r .index) (drop at (now (u .entry)))) ⌝ }
+    requires { ⌜ Sane e × (at ≤ length (now u)) × (enough e (width-of wides) (now u) k at ≡ true) ⌝ }
+    ensures { λ r. ⌜ (r .index ≡ seek e (now (name .entry)) (entries-in e (width-of wides) (now (u .entry)) k at))
+        × (r .at ≡ start (size-at e (width-of wides) (now (u .entry))) (r .index) at) ⌝ }
 {
     let mut i = 0;
     let mut p = at;
@@ -104,7 +105,7 @@ pub fn target_at(e: Edition, u: &[u8], o: usize, wides: usize) -> Target
 // TILE: the k entries from `at` on fill u, and their tags are right.
 fn tiled(e: Edition, u: &[u8], at: usize, k: usize, wides: usize, told: usize) -> bool
     requires { ⌜ Sane e × (at ≤ length (now u)) × (k < 256) ⌝ }
-    ensures { λ r. ⌜ r ≡ tiles e (width-of wides) told k (e .first) k (drop at (now (u .entry))) ⌝ }
+    ensures { λ r. ⌜ r ≡ tiles e (width-of wides) told k (e .first) (now (u .entry)) k at ⌝ }
 {
     let mut i = 0;
     let mut p = at;
@@ -144,8 +145,8 @@ fn storable(e: Edition, s: &[u8]) -> bool
 
 // NAME.
 fn named(e: Edition, u: &[u8], at: usize, k: usize, wides: usize) -> bool
-    requires { ⌜ Sane e × (at ≤ length (now u)) × (enough e (width-of wides) k (drop at (now u)) ≡ true) ⌝ }
-    ensures { λ r. ⌜ r ≡ names-ok e (entries-in e (width-of wides) k (drop at (now (u .entry)))) ⌝ }
+    requires { ⌜ Sane e × (at ≤ length (now u)) × (enough e (width-of wides) (now u) k at ≡ true) ⌝ }
+    ensures { λ r. ⌜ r ≡ names-ok e (entries-in e (width-of wides) (now (u .entry)) k at) ⌝ }
 {
     let mut i = 0;
     let mut p = at;
@@ -164,8 +165,8 @@ fn named(e: Edition, u: &[u8], at: usize, k: usize, wides: usize) -> bool
 
 // NUMBER, of a parent and the entries.
 fn numbered(e: Edition, u: &[u8], parent: u64, at: usize, k: usize, wides: usize) -> bool
-    requires { ⌜ Sane e × (at ≤ length (now u)) × (enough e (width-of wides) k (drop at (now u)) ≡ true) ⌝ }
-    ensures { λ r. ⌜ r ≡ numbers-ok parent (entries-in e (width-of wides) k (drop at (now (u .entry)))) ⌝ }
+    requires { ⌜ Sane e × (at ≤ length (now u)) × (enough e (width-of wides) (now u) k at ≡ true) ⌝ }
+    ensures { λ r. ⌜ r ≡ numbers-ok parent (entries-in e (width-of wides) (now (u .entry)) k at) ⌝ }
 {
     if !name::number_legal(parent) {
         return false;
@@ -197,8 +198,8 @@ pub fn one_if_wide(i: u64) -> usize
 
 // How many of the entries are wide.
 fn count_wide(e: Edition, u: &[u8], parent: u64, at: usize, k: usize, wides: usize) -> usize
-    requires { ⌜ Sane e × (at ≤ length (now u)) × (enough e (width-of wides) k (drop at (now u)) ≡ true) ⌝ }
-    ensures { λ r. ⌜ r ≡ wides-of parent (entries-in e (width-of wides) k (drop at (now (u .entry)))) ⌝ }
+    requires { ⌜ Sane e × (at ≤ length (now u)) × (enough e (width-of wides) (now u) k at ≡ true) ⌝ }
+    ensures { λ r. ⌜ r ≡ wides-of parent (entries-in e (width-of wides) (now (u .entry)) k at) ⌝ }
 {
     let mut i = 0;
     let mut p = at;
@@ -216,8 +217,8 @@ fn count_wide(e: Edition, u: &[u8], parent: u64, at: usize, k: usize, wides: usi
 
 // TWICE.
 fn once(e: Edition, u: &[u8], at: usize, k: usize, wides: usize) -> bool
-    requires { ⌜ Sane e × (at ≤ length (now u)) × (enough e (width-of wides) k (drop at (now u)) ≡ true) ⌝ }
-    ensures { λ r. ⌜ r ≡ once-ok e (entries-in e (width-of wides) k (drop at (now (u .entry)))) ⌝ }
+    requires { ⌜ Sane e × (at ≤ length (now u)) × (enough e (width-of wides) (now u) k at ≡ true) ⌝ }
+    ensures { λ r. ⌜ r ≡ once-ok e (entries-in e (width-of wides) (now (u .entry)) k at) ⌝ }
 {
     let mut i = 0;
     let mut p = at;

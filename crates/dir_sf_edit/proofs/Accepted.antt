@@ -1,25 +1,27 @@
 -- What an accepted fork holds is good; what is good, laid out, is accepted.
 -- Assumes nothing.
-use Prim.Native.Nat.{ℕ, zero, suc, _+_, _*_, _%_, _^_, _≤_, _<_}
+use Prim.Native.Nat.{ℕ, _+_, _*_, _%_, _^_, _≤_, _<_}
 use native.Mathlib.Omega.{arith}
 use mathlib.Core.Bool.{Bool, true, false, _&&_}
 use mathlib.Core.Path.{_≡_, refl, _∙_, subst}
 use mathlib.Core.List.{List, [], _∷_}
 use lib.Dec.{eqb, leb, ltb}
-use lib.ListN.{length, drop, getD}
+use lib.ListN.{length, getD}
 use borrow.Author.Tests.{le-leb, lt-ltb, leb-true, ltb-true, ltb-false, eqb-true, eq-eqb, le-ltb}
 use Rattle.be.specs.Lists.{every, tally}
 use Rattle.be.specs.Bytes.{bytes, field}
 use Rattle.be.proofs.Codes.{passes}
+use Rattle.records.specs.Records.{start}
+use Rattle.records.proofs.Turns.{every-all}
 use Rattle.edition.specs.declared.Edition.{Edition}
 use Rattle.name.specs.Name.{legal-name, legal-number}
 use Rattle.name.proofs.Legality.{legal-bounds, number-bounds}
 use Rattle.be.proofs.Bools.{and-left, and-right, and-both, by-cases, every-head, every-tail}
-use Rattle.be.proofs.Parts.{field-lt, bytes-drop}
-use Rattle.dir_sf.specs.Entry.{SfEntry, width-of, long-in, entry-in, entries-in, filled, is-wide, wides-of, next-tag, tags-ok, end-tag, in-block}
-use Rattle.dir_sf.specs.Fork.{count-of, stored-wides, used-width, parent, list-of, entries, lay, lay-fork, span-ok, tile-ok, name-ok, names-ok, numbers-ok, once-ok, used-verdict, fork-verdict}
+use Rattle.be.proofs.Parts.{field-lt}
+use Rattle.dir_sf.specs.Entry.{SfEntry, width-of, size-at, entry-at, entries-in, filled, is-wide, wides-of, next-tag, tags-ok, end-tag, in-block}
+use Rattle.dir_sf.specs.Fork.{count-of, stored-wides, used-width, parent, entries, lay, lay-fork, span-ok, tile-ok, name-ok, names-ok, numbers-ok, once-ok, used-verdict, fork-verdict}
 use Rattle.dir_sf.proofs.Run.{length-entries-in}
-use Rattle.dir_sf_edit.proofs.ReadBack.{Fits, filled-bytes, lay-count, lay-wides, lay-width, lay-list, lay-parent, lay-entries, length-lay, length-lay-fork, lay-used}
+use Rattle.dir_sf_edit.proofs.ReadBack.{Fits, lay-count, lay-wides, lay-parent, lay-entries, lay-filled, length-lay, length-lay-fork, lay-used}
 
 -- the file types fit their bytes
 abbrev pub kinds-ok : Edition → List SfEntry → Bool
@@ -109,8 +111,7 @@ module _ (e : Edition) (told p : ℕ) (xs : List SfEntry) (small : told ≤ 6553
   tile-holds : tile-ok e told (lay e p xs) ≡ true
   unfolding tile-ok
   tile-holds =
-      rw (lay-width e p xs, lay-list e p xs, read-entries, lay-count e p xs)
-      (and-both _ _ (and-both _ _ (filled-bytes e (width-of (wides-of p xs)) xs) (g .tags)) (g .within))
+      rw (lay-filled e p xs, read-entries, lay-count e p xs) (and-both _ _ (g .tags) (g .within))
 
   -- what is good, laid out, passes the tests
   pub used-accepted : used-verdict e told (lay e p xs) ≡ 0
@@ -136,16 +137,9 @@ module _ (e : Edition) (told p : ℕ) (xs : List SfEntry) (small : told ≤ 6553
 
 -- ---- the other way: what an accepted fork holds is good
 
-kind-in : (e : Edition) (w : ℕ) (d : List ℕ) → bytes d ≡ true → long-in e w d ≤ length d → ltb (entry-in e w d .target .kind) (256 ^ e .ftype) ≡ true
-unfolding entry-in long-in
-kind-in e w d h l = lt-ltb _ _ (field-lt (3 + getD d 0 0) (e .ftype) d h (omega arith))
-
-kinds-in : (e : Edition) (w k : ℕ) (d : List ℕ) → bytes d ≡ true → filled e w k d ≡ true → kinds-ok e (entries-in e w k d) ≡ true
-unfolding entries-in filled
-kinds-in e w zero d h f = refl
-kinds-in e w (suc k) d h f =
-    let l : long-in e w d ≤ length d = leb-true _ _ (and-left _ _ f) in
-    and-both _ _ (kind-in e w d h l) (kinds-in e w k (drop (long-in e w d) d) (bytes-drop (long-in e w d) d h) (and-right (leb (long-in e w d) (length d)) _ f))
+kind-in : (e : Edition) (w : ℕ) (u : List ℕ) → bytes u ≡ true → (p : ℕ) → p + size-at e w u p ≤ length u → ltb (entry-at e w u p .target .kind) (256 ^ e .ftype) ≡ true
+unfolding entry-at size-at
+kind-in e w u h p l = lt-ltb _ _ (field-lt (p + 3 + getD u p 0) (e .ftype) u h (omega arith))
 
 narrow-width : (wides : ℕ) → wides ≡ 0 → width-of wides ≡ 4
 unfolding width-of
@@ -173,24 +167,27 @@ module _ (e : Edition) (told : ℕ) (u : List ℕ) (h : bytes u ≡ true) (long 
 
   pub used-count : length (entries e u) ≡ count-of u
   unfolding entries
-  used-count = length-entries-in e (used-width u) (count-of u) (list-of u)
+  used-count = length-entries-in e (used-width u) u (count-of u) (2 + used-width u)
 
-  tile : (filled e (used-width u) (count-of u) (list-of u) ≡ true) × (tags-ok e (e .first) (entries e u) ≡ true)
+  tile : (filled e (used-width u) u (count-of u) (2 + used-width u) ≡ true) × (tags-ok e (e .first) (entries e u) ≡ true)
       × (in-block told (end-tag e (e .first) (entries e u)) (count-of u) ≡ true)
   unfolding tile-ok
   tile =
       let t = tests .0 in (
         and-left _ _ (and-left _ _ t),
-        and-right (filled e (used-width u) (count-of u) (list-of u)) _ (and-left _ _ t),
-        and-right (filled e (used-width u) (count-of u) (list-of u) && tags-ok e (e .first) (entries e u)) _ t,
+        and-right (filled e (used-width u) u (count-of u) (2 + used-width u)) _ (and-left _ _ t),
+        and-right (filled e (used-width u) u (count-of u) (2 + used-width u) && tags-ok e (e .first) (entries e u)) _ t,
       )
 
-  pub used-filled : filled e (used-width u) (count-of u) (list-of u) ≡ true
+  pub used-filled : filled e (used-width u) u (count-of u) (2 + used-width u) ≡ true
   used-filled = tile .0
 
   used-kinds : kinds-ok e (entries e u) ≡ true
-  unfolding entries list-of
-  used-kinds = kinds-in e (used-width u) (count-of u) (list-of u) (bytes-drop (2 + used-width u) u h) (tile .0)
+  unfolding entries entries-in filled
+  used-kinds =
+      let w : ℕ = used-width u in
+      let q : start (size-at e w u) (count-of u) (2 + w) ≡ length u = eqb-true _ _ (tile .0) in
+      every-all (size-at e w u) (entry-at e w u) (λ x. ltb (x .target .kind) (256 ^ e .ftype)) (length u) (kind-in e w u h) (count-of u) (2 + w) (omega arith)
 
   used-parent : wides-of (parent u) (entries e u) ≡ 0 → is-wide (parent u) ≡ false
   unfolding parent

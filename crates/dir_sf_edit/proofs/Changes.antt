@@ -5,23 +5,24 @@ use native.Mathlib.Omega.{arith}
 use mathlib.Core.Bool.{true, false, not}
 use mathlib.Core.Path.{_≡_, refl, sym, _∙_, ap, ap₂}
 use mathlib.Core.List.{List, [], _∷_, _++_}
-use lib.Dec.{leb}
-use lib.ListN.{length, take, drop, replicate, length-append, length-take, length-drop}
-use borrow.Author.Tests.{eqb-true, eq-eqb, ne-eqb, leb-true}
+use lib.ListN.{length, take, drop, replicate, length-take, length-drop}
+use borrow.Author.Tests.{eqb-true, eq-eqb, ne-eqb}
 use Rattle.be.specs.Bytes.{to-be, field, put, written}
 use Rattle.be.specs.Lists.{every}
-use Rattle.be.proofs.Bools.{and-left, and-right, and-both}
+use Rattle.be.proofs.Bools.{and-left, and-both}
 use Rattle.be.proofs.Writes.{put-nothing}
 use Rattle.be.proofs.Codes.{passes, both}
+use Rattle.records.specs.Records.{start}
+use Rattle.records.proofs.Joined.{joined-long}
 use Rattle.edition.specs.declared.Edition.{Edition}
 use Rattle.edition.specs.Edition.{Sane}
 use Rattle.dir.specs.declared.Target.{Target}
 use Rattle.dir.specs.Target.{legal-target, kept-of}
-use Rattle.name.specs.Name.{legal-name, legal-number, fixed-name}
+use Rattle.name.specs.Name.{legal-name, fixed-name}
 use Rattle.name.proofs.Legality.{legal-bounds}
 use Rattle.dinode.specs.Core.{directory-code, data-length}
-use Rattle.dir_sf.specs.Entry.{SfEntry, entry, width-of, long-in, entry-in, entries-in, filled, entry-bytes, entries-bytes, wides-of}
-use Rattle.dir_sf.specs.Fork.{Readable, count-of, used-width, parent, list-of, entries, holds, lay, lay-fork, tile-ok, name-ok, names-ok, used-verdict}
+use Rattle.dir_sf.specs.Entry.{SfEntry, entry, width-of, size-at, entry-at, entries-in, filled, entry-bytes, entries-bytes, wides-of}
+use Rattle.dir_sf.specs.Fork.{Readable, count-of, used-width, parent, entries, holds, lay, lay-fork, tile-ok, name-ok, names-ok, used-verdict}
 use Rattle.dir_sf.specs.Change.{tag-for, placed, inserted, insert-request, removed, remove-request}
 use Rattle.dir_sf.specs.Inode.{verdict, used, insert-code, remove-code, with-entries, insert-bytes, remove-bytes}
 use Rattle.dir_sf_edit.proofs.ReadBack.{length-entry-bytes, length-lay}
@@ -46,19 +47,11 @@ remove-passed e sane told c z r b n h f q k =
 
 -- ---- what is laid out anew is as long as what was there
 
-entry-long : (e : Edition) (w : ℕ) (d : List ℕ) → long-in e w d ≤ length d → length (entry-bytes e w (entry-in e w d)) ≡ long-in e w d
-unfolding entry-in long-in
-entry-long e w d h = length-entry-bytes e w _ ∙ simp (length-take, length-drop) (omega arith)
+entry-long : (e : Edition) (w : ℕ) (u : List ℕ) (p : ℕ) → p + size-at e w u p ≤ length u → length (entry-bytes e w (entry-at e w u p)) ≡ size-at e w u p
+unfolding entry-at size-at
+entry-long e w u p h = length-entry-bytes e w _ ∙ simp (length-take, length-drop) (omega arith)
 
-filled-long : (e : Edition) (w k : ℕ) (d : List ℕ) → filled e w k d ≡ true → length (entries-bytes e w (entries-in e w k d)) ≡ length d
-unfolding filled entries-in entries-bytes
-filled-long e w zero d f = sym (eqb-true _ _ f)
-filled-long e w (suc k) d f =
-    let l : long-in e w d ≤ length d = leb-true _ _ (and-left _ _ f) in
-    let i = filled-long e w k (drop (long-in e w d) d) (and-right (leb (long-in e w d) (length d)) _ f) in
-    length-append (entry-bytes e w (entry-in e w d)) _ ∙ omega (arith, entry-long e w d l, length-drop (long-in e w d) d)
-
-tile-filled : (e : Edition) (told : ℕ) (u : List ℕ) → used-verdict e told u ≡ 0 → filled e (used-width u) (count-of u) (list-of u) ≡ true
+tile-filled : (e : Edition) (told : ℕ) (u : List ℕ) → used-verdict e told u ≡ 0 → filled e (used-width u) u (count-of u) (2 + used-width u) ≡ true
 unfolding used-verdict tile-ok
 tile-filled e told u a = let t = passes (tile-ok e told u) 4 _ a in and-left _ _ (and-left _ _ (t .0))
 
@@ -66,21 +59,19 @@ width-same : (e : Edition) (told : ℕ) (u : List ℕ) → used-verdict e told u
 unfolding used-width
 width-same e told u a = ap width-of (sym (wides-known e told u a))
 
-listed : (e : Edition) (told : ℕ) (u : List ℕ) → used-verdict e told u ≡ 0 → length (entries-bytes e (used-width u) (entries e u)) ≡ length (list-of u)
-unfolding entries
-listed e told u a = filled-long e (used-width u) (count-of u) (list-of u) (tile-filled e told u a)
-
-list-long : (u : List ℕ) → length (list-of u) ≡ length u - (2 + used-width u)
-unfolding list-of
-list-long u = length-drop (2 + used-width u) u
+listed : (e : Edition) (told : ℕ) (u : List ℕ) → used-verdict e told u ≡ 0 → 2 + used-width u + length (entries-bytes e (used-width u) (entries e u)) ≡ length u
+unfolding entries entries-in filled
+listed e told u a =
+    let w : ℕ = used-width u in
+    let q : start (size-at e w u) (count-of u) (2 + w) ≡ length u = eqb-true _ _ (tile-filled e told u a) in
+    joined-long (entry-bytes e w) (length u) (size-at e w u) (entry-at e w u) (entry-long e w u) (count-of u) (2 + w) (omega arith) ∙ q
 
 same-long : (e : Edition) (told : ℕ) (u : List ℕ) → used-verdict e told u ≡ 0 → 2 + used-width u ≤ length u → length (lay e (parent u) (entries e u)) ≡ length u
 same-long e told u a h =
     let w : width-of (wides-of (parent u) (entries e u)) ≡ used-width u = width-same e told u a in
-    let f : length (entries-bytes e (used-width u) (entries e u)) ≡ length (list-of u) = listed e told u a in
-    let g : length (entries-bytes e (width-of (wides-of (parent u) (entries e u))) (entries e u)) ≡ length (list-of u) =
-    ap (λ (y : ℕ). length (entries-bytes e y (entries e u))) w ∙ f in
-    let l : length (list-of u) ≡ length u - (2 + used-width u) = list-long u in
+    let f : 2 + used-width u + length (entries-bytes e (used-width u) (entries e u)) ≡ length u = listed e told u a in
+    let g : length (entries-bytes e (width-of (wides-of (parent u) (entries e u))) (entries e u)) ≡ length (entries-bytes e (used-width u) (entries e u)) =
+    ap (λ (y : ℕ). length (entries-bytes e y (entries e u))) w in
     omega (arith, length-lay e (parent u) (entries e u))
 
 -- ---- the bytes

@@ -4,37 +4,30 @@ use Prim.Native.Nat.{ℕ, _+_, _-_, _≤_, _<_}
 use native.Mathlib.Omega.{arith}
 use mathlib.Core.Bool.{true}
 use mathlib.Core.Path.{_≡_, refl, sym, _∙_, ap, ap₂, subst}
-use mathlib.Core.List.{List, [], _∷_, _++_, append-assoc, append-nil}
+use mathlib.Core.List.{List, [], _∷_, _++_, append-nil}
 use lib.ListN.{length, take, drop, getD, length-append, length-take, length-drop, take-append-drop}
 use Rattle.be.specs.Bytes.{field, put}
 use Rattle.be.proofs.Writes.{put-nothing, length-put, put-then}
+use Rattle.records.specs.Records.{places, joined}
+use Rattle.records.proofs.Joined.{joined-append}
 use Rattle.edition.specs.declared.Edition.{Edition}
 use Rattle.dir.specs.declared.Target.{Target}
 use Rattle.dir.specs.Target.{target}
-use Rattle.dir_sf.specs.Entry.{SfEntry, entry, entry-in, entries-in, enough, entry-bytes, entries-bytes}
+use Rattle.dir_sf.specs.Entry.{SfEntry, entry, entry-at, entries-in, enough, entry-bytes, entries-bytes}
 use Rattle.dir_sf_edit.proofs.ReadBack.{length-entry-bytes}
 use Rattle.dir_sf.proofs.Leaves.{one-in}
 use Rattle.dir_sf.proofs.Run.{Run, run-start, run-on, run-passed, run-one, entries-take, name-at-is, tag-at-is, target-at-is}
 
-pub entries-bytes-append : (e : Edition) (w : ℕ) (xs ys : List SfEntry) → entries-bytes e w (xs ++ ys) ≡ entries-bytes e w xs ++ entries-bytes e w ys
-unfolding entries-bytes
-entries-bytes-append e w [] ys = refl
-entries-bytes-append e w (x ∷ xs) ys = rw (entries-bytes-append e w xs ys, append-assoc) refl
-
-entries-bytes-one : (e : Edition) (w : ℕ) (x : SfEntry) → entries-bytes e w (x ∷ []) ≡ entry-bytes e w x
-unfolding entries-bytes
-entries-bytes-one e w x = append-nil (entry-bytes e w x)
-
 -- the bytes of the first i entries of u from `at` on, in width v
 abbrev pub copied : Edition → ℕ → ℕ → List ℕ → ℕ → ℕ → List ℕ
-copied e w v u at i = entries-bytes e v (entries-in e w i (drop at u))
+copied e w v u at i = entries-bytes e v (entries-in e w u i at)
 
 copied-fewer : (e : Edition) (w v : ℕ) (u : List ℕ) (at j k : ℕ) → j ≤ k → length (copied e w v u at j) ≤ length (copied e w v u at k)
 copied-fewer e w v u at j k h =
-    let xs : List SfEntry = entries-in e w k (drop at u) in
-    let a : entries-in e w j (drop at u) ≡ take j xs = sym (entries-take e w j k (drop at u) h) in
+    let xs : List SfEntry = entries-in e w u k at in
+    let a : entries-in e w u j at ≡ take j xs = sym (entries-take e w u j k at h) in
     let b : entries-bytes e v (take j xs) ++ entries-bytes e v (drop j xs) ≡ entries-bytes e v xs =
-    sym (entries-bytes-append e v (take j xs) (drop j xs)) ∙ ap (entries-bytes e v) (take-append-drop j xs) in
+    sym (joined-append (entry-bytes e v) (take j xs) (drop j xs)) ∙ ap (entries-bytes e v) (take-append-drop j xs) in
     let c : length (entries-bytes e v (take j xs)) + length (entries-bytes e v (drop j xs)) ≡ length (entries-bytes e v xs) =
     sym (length-append (entries-bytes e v (take j xs)) (entries-bytes e v (drop j xs))) ∙ ap length b in
     rw a (omega arith)
@@ -46,14 +39,14 @@ pub record Copy (e : Edition) (w v : ℕ) (b₀ : List ℕ) (to : ℕ) (u : List
   pub place : o ≡ to + length (copied e w v u at i)
   pub wrote : b ≡ put b₀ to (copied e w v u at i)
 
-pub copy-start : (e : Edition) (w v : ℕ) (b₀ : List ℕ) (to : ℕ) (u : List ℕ) (at k : ℕ) → at ≤ length u → enough e w k (drop at u) ≡ true
+pub copy-start : (e : Edition) (w v : ℕ) (b₀ : List ℕ) (to : ℕ) (u : List ℕ) (at k : ℕ) → enough e w u k at ≡ true
     → to + length (copied e w v u at k) ≤ length b₀ → Copy e w v b₀ to u at k 0 at b₀ to
-unfolding entries-in entries-bytes
-copy-start e w v b₀ to u at k h f r =
-    record { run = run-start e w u at k h f; long = refl; room = r; place = omega arith; wrote = sym (put-nothing b₀ to) }
+unfolding entries-in places joined
+copy-start e w v b₀ to u at k f r =
+    record { run = run-start e w u at k f; long = refl; room = r; place = omega arith; wrote = sym (put-nothing b₀ to) }
 
 -- one entry, read field by field
-module _ (e : Edition) (w : ℕ) (u : List ℕ) (p n : ℕ) (one : enough e w 1 (drop p u) ≡ true) (q : n ≡ getD u p 0) where
+module _ (e : Edition) (w : ℕ) (u : List ℕ) (p n : ℕ) (one : enough e w u 1 p ≡ true) (q : n ≡ getD u p 0) where
   read-long : length (take (p + 3 + n - (p + 3)) (drop (p + 3) u)) ≡ n
   read-long = simp (length-take, length-drop) (omega (arith, one-in e w p u one))
 
@@ -70,38 +63,39 @@ module _ (e : Edition) (w : ℕ) (u : List ℕ) (p n : ℕ) (one : enough e w 1 
   -- as it is read and written
   pub copy-one : (v tag : ℕ) (t : Target) (o : ℕ) (b b₁ : List ℕ) → tag ≡ field (p + 1) 2 u → t ≡ target (field (p + 3 + n + e .ftype) w u) (field (p + 3 + n) (e .ftype) u)
       → b₁ ≡ put b o (entry-bytes e v (entry tag (take (p + 3 + n - (p + 3)) (drop (p + 3) u)) t))
-      → b₁ ≡ put b o (entry-bytes e v (entry-in e w (drop p u)))
+      → b₁ ≡ put b o (entry-bytes e v (entry-at e w u p))
   copy-one v tag t o b b₁ h y f =
       let l : p + 3 + n - (p + 3) ≡ getD u p 0 = omega arith in
-      let x : SfEntry = entry-in e w (drop p u) in
+      let x : SfEntry = entry-at e w u p in
       let a : entry tag (take (p + 3 + n - (p + 3)) (drop (p + 3) u)) t ≡ entry (x .tag) (x .name) (x .target) =
       ap₂ (λ (o : ℕ) (nm : List ℕ). entry o nm t) (h ∙ sym (tag-at-is e w u p)) (ap (λ (j : ℕ). take j (drop (p + 3) u)) l ∙ sym (name-at-is e w u p))
       ∙ ap (λ (z : Target). entry (x .tag) (x .name) z) (y ∙ sym (target-at-is e w u p n q)) in
       f ∙ ap (λ (e₀ : SfEntry). put b o (entry-bytes e v e₀)) a
 
 module _ (e : Edition) (w v : ℕ) (b₀ : List ℕ) (to : ℕ) (u : List ℕ) (at k i p : ℕ) (b : List ℕ) (o : ℕ) (s : Copy e w v b₀ to u at k i p b o) (h : i < k) where
-  one-more : copied e w v u at (i + 1) ≡ copied e w v u at i ++ entry-bytes e v (entry-in e w (drop p u))
+  one-more : copied e w v u at (i + 1) ≡ copied e w v u at i ++ entry-bytes e v (entry-at e w u p)
+  unfolding joined
   one-more =
       ap (entries-bytes e v) (run-passed e w u at k i p (s .run) h)
-      ∙ entries-bytes-append e v (entries-in e w i (drop at u)) (entry-in e w (drop p u) ∷ [])
-      ∙ ap (λ (l : List ℕ). copied e w v u at i ++ l) (entries-bytes-one e v (entry-in e w (drop p u)))
+      ∙ joined-append (entry-bytes e v) (entries-in e w u i at) (entry-at e w u p ∷ [])
+      ∙ ap (λ (l : List ℕ). copied e w v u at i ++ l) (append-nil (entry-bytes e v (entry-at e w u p)))
 
-  one-long : length (entry-bytes e v (entry-in e w (drop p u))) ≡ 3 + getD u p 0 + (e .ftype + v)
+  one-long : length (entry-bytes e v (entry-at e w u p)) ≡ 3 + getD u p 0 + (e .ftype + v)
   one-long =
-      let l : length (entry-in e w (drop p u) .name) ≡ getD u p 0 =
+      let l : length (entry-at e w u p .name) ≡ getD u p 0 =
       rw (name-at-is e w u p) (simp (length-take, length-drop) (omega (arith, one-in e w p u (run-one e w u at k i p (s .run) h)))) in
-      length-entry-bytes e v (entry-in e w (drop p u)) ∙ omega arith
+      length-entry-bytes e v (entry-at e w u p) ∙ omega arith
 
   more-long : length (copied e w v u at (i + 1)) ≡ length (copied e w v u at i) + (3 + getD u p 0 + (e .ftype + v))
   more-long =
-      ap length one-more ∙ length-append (copied e w v u at i) (entry-bytes e v (entry-in e w (drop p u)))
+      ap length one-more ∙ length-append (copied e w v u at i) (entry-bytes e v (entry-at e w u p))
       ∙ ap (λ (j : ℕ). length (copied e w v u at i) + j) one-long
 
   pub copy-room : o + (3 + getD u p 0 + (e .ftype + v)) ≤ length b
   copy-room = omega (arith, s .long, s .room, s .place, copied-fewer e w v u at (i + 1) k (omega arith), more-long)
 
   pub copy-on : (n w₁ o₁ : ℕ) (b₁ : List ℕ) → n ≡ getD u p 0 → w₁ ≡ e .ftype + w
-      → b₁ ≡ put b o (entry-bytes e v (entry-in e w (drop p u))) → o₁ ≡ o + (3 + getD u p 0 + (e .ftype + v))
+      → b₁ ≡ put b o (entry-bytes e v (entry-at e w u p)) → o₁ ≡ o + (3 + getD u p 0 + (e .ftype + v))
       → Copy e w v b₀ to u at k (i + 1) (p + 3 + n + w₁) b₁ o₁
   copy-on n w₁ o₁ b₁ q a f c =
       record {
@@ -109,7 +103,7 @@ module _ (e : Edition) (w v : ℕ) (b₀ : List ℕ) (to : ℕ) (u : List ℕ) (
         long = ap length f ∙ length-put b o _ ∙ s .long;
         room = s .room;
         place = omega (arith, more-long, s .place);
-        wrote = put-then b₀ b b₁ to o (copied e w v u at i) (entry-bytes e v (entry-in e w (drop p u))) (s .wrote) f (s .place) ∙ ap (put b₀ to) (sym one-more);
+        wrote = put-then b₀ b b₁ to o (copied e w v u at i) (entry-bytes e v (entry-at e w u p)) (s .wrote) f (s .place) ∙ ap (put b₀ to) (sym one-more);
       }
 
 pub copy-bytes : (e : Edition) (w v : ℕ) (b₀ : List ℕ) (to : ℕ) (u : List ℕ) (at k i p : ℕ) (b : List ℕ) (o : ℕ) → Copy e w v b₀ to u at k i p b o → k ≤ i

@@ -10,13 +10,14 @@ use lib.ListN.{length, take, drop, length-append}
 use Rattle.be.specs.Bytes.{byte, to-be, put}
 use Rattle.be.proofs.Numbers.{length-to-be, to-be-1}
 use Rattle.be.proofs.Writes.{put-then}
+use Rattle.records.specs.Records.{joined}
+use Rattle.records.proofs.Joined.{joined-append}
 use Rattle.edition.specs.declared.Edition.{Edition}
 use Rattle.dir.specs.declared.Target.{Target}
 use Rattle.dir_sf.specs.Entry.{SfEntry, entry, width-of, entry-bytes, entries-bytes}
 use Rattle.dir_sf.specs.Fork.{laid, count-of, parent, entries}
 use Rattle.dir_sf.specs.Change.{without-nth, with-nth}
 use Rattle.dir_sf_edit.proofs.ReadBack.{length-entry-bytes}
-use Rattle.dir_sf_edit.proofs.Copies.{entries-bytes-append}
 
 pub header-put : (b b₁ b₂ b₃ : List ℕ) (k wides p : ℕ) → k < 256 → wides < 256 → b₁ ≡ put b 0 (to-be 1 k) → b₂ ≡ put b₁ 1 (to-be 1 wides)
     → b₃ ≡ put b₂ 2 (to-be (width-of wides) p) → b₃ ≡ put b 0 (k ∷ wides ∷ to-be (width-of wides) p)
@@ -27,7 +28,7 @@ header-put b b₁ b₂ b₃ k wides p h l e₁ e₂ e₃ =
     put-then b b₂ b₃ 0 2 (k ∷ wides ∷ []) (to-be (width-of wides) p) q₂ e₃ refl
 
 bytes-cons : (e : Edition) (v : ℕ) (y : SfEntry) (ys : List SfEntry) → entries-bytes e v (y ∷ ys) ≡ entry-bytes e v y ++ entries-bytes e v ys
-unfolding entries-bytes
+unfolding joined
 bytes-cons e v y ys = refl
 
 -- the header, then entries
@@ -54,7 +55,7 @@ module _ (e : Edition) (count after p : ℕ) (xs : List SfEntry) where
 -- more entries behind them
 laid-append : (e : Edition) (count after p : ℕ) (xs ys : List SfEntry) → laid e count after p (xs ++ ys) ≡ laid e count after p xs ++ entries-bytes e (width-of after) ys
 laid-append e count after p xs ys =
-    ap (λ (l : List ℕ). (count ∷ after ∷ to-be (width-of after) p) ++ l) (entries-bytes-append e (width-of after) xs ys)
+    ap (λ (l : List ℕ). (count ∷ after ∷ to-be (width-of after) p) ++ l) (joined-append (entry-bytes e (width-of after)) xs ys)
     ∙ sym (append-assoc (count ∷ after ∷ to-be (width-of after) p) (entries-bytes e (width-of after) xs) (entries-bytes e (width-of after) ys))
 
 append-long : (e : Edition) (count after p : ℕ) (xs ys : List SfEntry)

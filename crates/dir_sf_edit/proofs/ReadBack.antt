@@ -5,17 +5,18 @@ use native.Mathlib.Omega.{arith}
 use mathlib.Core.Bool.{true}
 use mathlib.Core.Path.{_≡_, refl, _∙_, ap, ap₂}
 use mathlib.Core.List.{List, [], _∷_, _++_, append-assoc, append-nil}
-use lib.ListN.{length, take, drop, getD, length-append, length-replicate}
-use lib.Seq.{take-at, drop-at}
-use borrow.Author.Tests.{le-leb}
-use Rattle.be.specs.Bytes.{be, to-be, part, field}
+use lib.ListN.{length, take, getD, length-append, length-replicate}
+use lib.Seq.{take-at}
+use borrow.Author.Tests.{eq-eqb}
+use Rattle.be.specs.Bytes.{be, to-be, byte, part, field}
+use Rattle.records.specs.Records.{start}
+use Rattle.records.proofs.Joined.{All, drop-behind, byte-behind, joined-ends, joined-read}
 use Rattle.edition.specs.declared.Edition.{Edition}
-use Rattle.be.proofs.Bools.{and-both}
 use Rattle.be.proofs.Numbers.{length-to-be, be-to-be}
 use Rattle.be.proofs.Parts.{part-at}
 use Rattle.dir.specs.Target.{target}
-use Rattle.dir_sf.specs.Entry.{SfEntry, entry, width-of, long-in, entry-in, entries-in, filled, entry-bytes, entries-bytes, wides-of}
-use Rattle.dir_sf.specs.Fork.{count-of, stored-wides, used-width, parent, list-of, entries, lay, lay-fork}
+use Rattle.dir_sf.specs.Entry.{SfEntry, entry, width-of, size-at, entry-at, entries-in, filled, entry-bytes, entries-bytes, wides-of}
+use Rattle.dir_sf.specs.Fork.{count-of, stored-wides, used-width, parent, entries, lay, lay-fork}
 
 -- an entry's numbers fit their bytes
 pub record Fit (e : Edition) (w : ℕ) (x : SfEntry) : Type 0 where
@@ -25,8 +26,7 @@ pub record Fit (e : Edition) (w : ℕ) (x : SfEntry) : Type 0 where
   pub inode-fits : x .target .inode < 256 ^ w
 
 abbrev pub Fits : Edition → ℕ → List SfEntry → Type 0
-Fits e w [] = Unit {0}
-Fits e w (x ∷ xs) = Fit e w x × Fits e w xs
+Fits e w xs = All (Fit e w) xs
 
 pub length-entry-bytes : (e : Edition) (w : ℕ) (x : SfEntry) → length (entry-bytes e w x) ≡ 3 + length (x .name) + e .ftype + w
 unfolding entry-bytes
@@ -36,13 +36,14 @@ first-byte : (e : Edition) (w : ℕ) (x : SfEntry) (d : List ℕ) → getD (entr
 unfolding entry-bytes
 first-byte e w x d = refl
 
-pub long-in-bytes : (e : Edition) (w : ℕ) (x : SfEntry) (d : List ℕ) → long-in e w (entry-bytes e w x ++ d) ≡ length (entry-bytes e w x)
-unfolding long-in
-long-in-bytes e w x d = rw (first-byte e w x d, length-entry-bytes e w x) refl
+-- as an entry was written
+long-bytes : (e : Edition) (w : ℕ) (x : SfEntry) (d : List ℕ) → size-at e w (entry-bytes e w x ++ d) 0 ≡ length (entry-bytes e w x)
+unfolding size-at
+long-bytes e w x d = rw (first-byte e w x d, length-entry-bytes e w x) refl
 
-pub entry-in-bytes : (e : Edition) (w : ℕ) (x : SfEntry) (d : List ℕ) → Fit e w x → entry-in e w (entry-bytes e w x ++ d) ≡ x
-unfolding entry-in entry-bytes
-entry-in-bytes e w x d f =
+entry-bytes-read : (e : Edition) (w : ℕ) (x : SfEntry) (d : List ℕ) → Fit e w x → entry-at e w (entry-bytes e w x ++ d) 0 ≡ x
+unfolding entry-at entry-bytes
+entry-bytes-read e w x d f =
     let l : ℕ = length (x .name) in
     let t : List ℕ = to-be 2 (x .tag) in
     let n : List ℕ = x .name in
@@ -64,24 +65,29 @@ entry-in-bytes e w x d f =
     ap₂ (λ (u : ℕ) (v : List ℕ). entry u v (target (field (3 + l + e .ftype) w b) (field (3 + l) (e .ftype) b))) tag-is name-is
     ∙ ap₂ (λ (u v : ℕ). entry (x .tag) n (target v u)) kind-is inode-is
 
-pub entries-in-bytes : (e : Edition) (w : ℕ) (xs : List SfEntry) (d : List ℕ) → Fits e w xs
-    → entries-in e w (length xs) (entries-bytes e w xs ++ d) ≡ xs
-unfolding entries-in entries-bytes
-entries-in-bytes e w [] d f = refl
-entries-in-bytes e w (x ∷ xs) d f =
-    let b : List ℕ = entry-bytes e w x in
-    let r : List ℕ = entries-bytes e w xs ++ d in
-    rw (append-assoc b (entries-bytes e w xs) d, long-in-bytes e w x r, entry-in-bytes e w x r (f .0), drop-at b r (length b) refl)
-    (ap (λ (l : List SfEntry). x ∷ l) (entries-in-bytes e w xs d (f .1)))
+-- behind the bytes p
+module _ (e : Edition) (w : ℕ) (p d : List ℕ) where
+  behind : byte (length p) (p ++ d) ≡ byte 0 d
+  behind = byte-behind p d 0 (length p) (omega arith)
 
-pub filled-bytes : (e : Edition) (w : ℕ) (xs : List SfEntry) → filled e w (length xs) (entries-bytes e w xs) ≡ true
-unfolding filled entries-bytes
-filled-bytes e w [] = refl
-filled-bytes e w (x ∷ xs) =
-    let b : List ℕ = entry-bytes e w x in
-    let r : List ℕ = entries-bytes e w xs in
-    let h : length b ≤ length (b ++ r) = simp length-append (omega arith) in
-    rw (long-in-bytes e w x r, drop-at b r (length b) refl) (and-both _ _ (le-leb _ _ h) (filled-bytes e w xs))
+  size-behind : size-at e w (p ++ d) (length p) ≡ size-at e w d 0
+  unfolding size-at
+  size-behind = rw behind refl
+
+  entry-behind : entry-at e w (p ++ d) (length p) ≡ entry-at e w d 0
+  unfolding entry-at
+  entry-behind =
+      let n : ℕ = byte 0 d in
+      rw (
+        behind,
+        drop-behind p d 1 (length p + 1) refl,
+        drop-behind p d 3 (length p + 3) refl,
+        drop-behind p d (3 + n) (length p + 3 + n) (omega arith),
+        drop-behind p d (3 + n + e .ftype) (length p + 3 + n + e .ftype) (omega arith),
+      ) refl
+
+sized : (e : Edition) (w : ℕ) (p : List ℕ) (x : SfEntry) (r : List ℕ) → size-at e w (p ++ (entry-bytes e w x ++ r)) (length p) ≡ length (entry-bytes e w x)
+sized e w p x r = size-behind e w p (entry-bytes e w x ++ r) ∙ long-bytes e w x r
 
 -- ---- a fork laid out
 
@@ -98,15 +104,16 @@ module _ (e : Edition) (p : ℕ) (xs : List SfEntry) where
   unfolding used-width
   lay-width = ap width-of lay-wides
 
-  after-header : drop (2 + width-of (wides-of p xs)) (lay e p xs) ≡ entries-bytes e (width-of (wides-of p xs)) xs
-  unfolding lay
-  after-header =
-      let w : ℕ = width-of (wides-of p xs) in
-      drop-at (length xs ∷ wides-of p xs ∷ to-be w p) (entries-bytes e w xs) (2 + w) (simp length-to-be (omega arith))
+  head : List ℕ
+  head = length xs ∷ wides-of p xs ∷ to-be (width-of (wides-of p xs)) p
 
-  pub lay-list : list-of (lay e p xs) ≡ entries-bytes e (width-of (wides-of p xs)) xs
-  unfolding list-of
-  lay-list = rw lay-width after-header
+  head-long : length head ≡ 2 + width-of (wides-of p xs)
+  unfolding head
+  head-long = simp length-to-be (omega arith)
+
+  lay-is : lay e p xs ≡ head ++ (entries-bytes e (width-of (wides-of p xs)) xs ++ [])
+  unfolding lay head
+  lay-is = rw (append-nil (entries-bytes e (width-of (wides-of p xs)) xs)) refl
 
   in-header : p < 256 ^ width-of (wides-of p xs) → field 2 (width-of (wides-of p xs)) (lay e p xs) ≡ p
   unfolding lay
@@ -119,14 +126,23 @@ module _ (e : Edition) (p : ℕ) (xs : List SfEntry) where
   lay-parent h = rw lay-width (in-header h)
 
   pub lay-entries : Fits e (width-of (wides-of p xs)) xs → entries e (lay e p xs) ≡ xs
-  unfolding entries
+  unfolding entries entries-in
   lay-entries f =
       let w : ℕ = width-of (wides-of p xs) in
-      rw (lay-width, lay-count, lay-list, ← append-nil (entries-bytes e w xs)) (entries-in-bytes e w xs [] f)
+      rw (lay-width, lay-count, ← head-long, lay-is)
+      (joined-read (entry-bytes e w) (size-at e w) (sized e w) (entry-at e w) (Fit e w) (λ p x r g. entry-behind e w p (entry-bytes e w x ++ r) ∙ entry-bytes-read e w x r g) xs head [] f)
 
   pub length-lay : length (lay e p xs) ≡ 2 + width-of (wides-of p xs) + length (entries-bytes e (width-of (wides-of p xs)) xs)
   unfolding lay
   length-lay = simp (length-append, length-to-be) (omega arith)
+
+  pub lay-filled : filled e (used-width (lay e p xs)) (lay e p xs) (count-of (lay e p xs)) (2 + used-width (lay e p xs)) ≡ true
+  unfolding filled
+  lay-filled =
+      let w : ℕ = width-of (wides-of p xs) in
+      let q : start (size-at e w (lay e p xs)) (length xs) (2 + w) ≡ length (lay e p xs) =
+      rw (← head-long, lay-is) (joined-ends (entry-bytes e w) (size-at e w) (sized e w) xs head [] ∙ simp length-append (omega arith)) in
+      rw (lay-width, lay-count) (eq-eqb (start (size-at e w (lay e p xs)) (length xs) (2 + w)) (length (lay e p xs)) q)
 
   pub length-lay-fork : (n : ℕ) → length (lay e p xs) ≤ n → length (lay-fork e n p xs) ≡ n
   unfolding lay-fork

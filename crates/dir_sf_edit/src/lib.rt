@@ -1,14 +1,15 @@
 // Changes of short-form directories: insert and removal, in the inode.
 ghost use mathlib.Core.Path.{_≡_};
-ghost use mathlib.Core.Bool.{true, cond, not, _&&_};
+ghost use mathlib.Core.Bool.{true, not, _&&_};
 ghost use mathlib.Core.List.{_∷_, _++_};
 ghost use Prim.Native.Nat.{_+_, _-_, _≤_, _<_};
 ghost use lib.Dec.{eqb};
 ghost use lib.ListN.{length, take, drop};
 ghost use Rattle.be.specs.Bytes.{byte, put, to-be};
+ghost use Rattle.records.specs.Records.{start};
 ghost use Rattle.edition.specs.Edition.{v4, Sane};
 ghost use Rattle.dir.specs.Target.{target};
-ghost use Rattle.dir_sf.specs.Entry.{entry, width-of, entry-in, entries-in, enough, start-of, entry-bytes, entries-bytes, is-wide, end-tag};
+ghost use Rattle.dir_sf.specs.Entry.{entry, width-of, entry-at, entries-in, enough, size-at, entry-bytes, entries-bytes, is-wide, end-tag};
 ghost use Rattle.dir_sf.specs.Fork.{Readable, place-of, laid, lay, holds, count-of, parent, entries};
 ghost use Rattle.dir_sf.specs.Change.{rank, gap-tag, tag-for, placed, with-nth, inserted, insert-request, without-nth, removed, remove-request};
 ghost use Rattle.dir_sf.specs.Inode.{used, insert-code, remove-code, with-entries, insert-bytes, remove-bytes};
@@ -72,8 +73,8 @@ fn copy_entry<'a, 'b>(
     wides: usize,
     after: usize,
 ) -> usize
-    requires { ⌜ Sane e × (enough e (width-of wides) 1 (drop p (now u)) ≡ true) × (o + (3 + byte p (now u) + (e .ftype + width-of after)) ≤ length (now b)) ⌝ }
-    ensures { λ r. ⌜ (now (b .exit) ≡ put (now (b .entry)) o (entry-bytes e (width-of after) (entry-in e (width-of wides) (drop p (now (u .entry))))))
+    requires { ⌜ Sane e × (enough e (width-of wides) (now u) 1 p ≡ true) × (o + (3 + byte p (now u) + (e .ftype + width-of after)) ≤ length (now b)) ⌝ }
+    ensures { λ r. ⌜ (now (b .exit) ≡ put (now (b .entry)) o (entry-bytes e (width-of after) (entry-at e (width-of wides) (now (u .entry)) p)))
         × (r ≡ o + (3 + byte p (now (u .entry)) + (e .ftype + width-of after))) ⌝ }
 {
     let n = dir_sf::namelen(e, u, p, wides);
@@ -94,10 +95,10 @@ fn copy_entries<'a, 'b>(
     wides: usize,
     after: usize,
 ) -> usize
-    requires { ⌜ Sane e × (at ≤ length (now u)) × (enough e (width-of wides) k (drop at (now u)) ≡ true)
-        × (to + length (entries-bytes e (width-of after) (entries-in e (width-of wides) k (drop at (now u)))) ≤ length (now b)) ⌝ }
-    ensures { λ r. ⌜ (now (b .exit) ≡ put (now (b .entry)) to (entries-bytes e (width-of after) (entries-in e (width-of wides) k (drop at (now (u .entry))))))
-        × (r ≡ to + length (entries-bytes e (width-of after) (entries-in e (width-of wides) k (drop at (now (u .entry)))))) ⌝ }
+    requires { ⌜ Sane e × (at ≤ length (now u)) × (enough e (width-of wides) (now u) k at ≡ true)
+        × (to + length (entries-bytes e (width-of after) (entries-in e (width-of wides) (now u) k at)) ≤ length (now b)) ⌝ }
+    ensures { λ r. ⌜ (now (b .exit) ≡ put (now (b .entry)) to (entries-bytes e (width-of after) (entries-in e (width-of wides) (now (u .entry)) k at)))
+        × (r ≡ to + length (entries-bytes e (width-of after) (entries-in e (width-of wides) (now (u .entry)) k at))) ⌝ }
 {
     let mut i = 0;
     let mut p = at;
@@ -307,8 +308,8 @@ pub fn remove<'a, 'b>(b: &'a mut [u8], told: usize, name: &'b [u8]) -> usize
 
 // The least tag after all the entries.
 fn end_of(e: Edition, u: &[u8], at: usize, k: usize, wides: usize) -> usize
-    requires { ⌜ Sane e × (at ≤ length (now u)) × (enough e (width-of wides) k (drop at (now u)) ≡ true) ⌝ }
-    ensures { λ r. ⌜ (r ≡ end-tag e (e .first) (entries-in e (width-of wides) k (drop at (now (u .entry))))) × (r ≤ 65815) ⌝ }
+    requires { ⌜ Sane e × (at ≤ length (now u)) × (enough e (width-of wides) (now u) k at ≡ true) ⌝ }
+    ensures { λ r. ⌜ (r ≡ end-tag e (e .first) (entries-in e (width-of wides) (now (u .entry)) k at)) × (r ≤ 65815) ⌝ }
 {
     let mut i = 0;
     let mut p = at;
@@ -326,8 +327,8 @@ fn end_of(e: Edition, u: &[u8], at: usize, k: usize, wides: usize) -> usize
 
 // The start of the lowest gap in the tags that holds `long`; 0 where there is none.
 fn gap_of(e: Edition, u: &[u8], at: usize, k: usize, wides: usize, long: usize) -> usize
-    requires { ⌜ Sane e × (at ≤ length (now u)) × (enough e (width-of wides) k (drop at (now u)) ≡ true) × (long < 280) ⌝ }
-    ensures { λ r. ⌜ r ≡ gap-tag e long (e .first) (entries-in e (width-of wides) k (drop at (now (u .entry)))) ⌝ }
+    requires { ⌜ Sane e × (at ≤ length (now u)) × (enough e (width-of wides) (now u) k at ≡ true) × (long < 280) ⌝ }
+    ensures { λ r. ⌜ r ≡ gap-tag e long (e .first) (entries-in e (width-of wides) (now (u .entry)) k at) ⌝ }
 {
     let mut i = 0;
     let mut p = at;
@@ -348,9 +349,9 @@ fn gap_of(e: Edition, u: &[u8], at: usize, k: usize, wides: usize, long: usize) 
 
 // Where an entry with a tag goes: how many are before it, and where the next one starts.
 fn rank_of(e: Edition, u: &[u8], at: usize, k: usize, wides: usize, tag: usize) -> Spot
-    requires { ⌜ Sane e × (at ≤ length (now u)) × (enough e (width-of wides) k (drop at (now u)) ≡ true) ⌝ }
-    ensures { λ r. ⌜ (r .index ≡ rank tag (entries-in e (width-of wides) k (drop at (now (u .entry)))))
-        × (r .at ≡ at + start-of e (width-of wides) (r .index) (drop at (now (u .entry)))) ⌝ }
+    requires { ⌜ Sane e × (at ≤ length (now u)) × (enough e (width-of wides) (now u) k at ≡ true) ⌝ }
+    ensures { λ r. ⌜ (r .index ≡ rank tag (entries-in e (width-of wides) (now (u .entry)) k at))
+        × (r .at ≡ start (size-at e (width-of wides) (now (u .entry))) (r .index) at) ⌝ }
 {
     let mut i = 0;
     let mut p = at;
