@@ -41,7 +41,7 @@ entry-at e w u p =
 unfoldable pub entries-in : Edition → ℕ → List ℕ → ℕ → ℕ → List SfEntry
 entries-in e w u k at = records (size-at e w u) (entry-at e w u) k at
 
--- they use exactly the bytes up to the end of u
+-- TILE: they use exactly the bytes up to the end of u
 unfoldable pub filled : Edition → ℕ → List ℕ → ℕ → ℕ → Bool
 filled e w u k at = tiled (size-at e w u) (length u) k at
 
