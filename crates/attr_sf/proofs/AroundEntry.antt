@@ -12,7 +12,7 @@ use Rattle.be.specs.Lists.{some-of}
 use Rattle.be.specs.Bytes.{part}
 use Rattle.be.proofs.Bools.{by-cases}
 use Rattle.be.proofs.Parts.{piece, part-length}
-use Rattle.records.specs.Records.{start, joined}
+use Rattle.records.specs.Records.{start}
 use Rattle.records.proofs.Starts.{length-records}
 use Rattle.records.proofs.Joined.{joined-append, joined-stored}
 use Rattle.attr_sf.specs.Entry.{is-key, others, entry-bytes, run}
@@ -59,7 +59,7 @@ module _ (f name : List ℕ) (flags : ℕ) (z : fork-code f ≡ 0) where
   splits h = split f name flags (count f) header (rw (all-ends f z) (end-inside f z)) (all-once f z) (rw (← all-ends f z) at h)
 
   found : place-of f name flags < totsize f → Apart f name flags
-  unfolding place-of stored joined
+  unfolding place-of stored
   found h =
       let s = splits h in
       let a = s .around in

@@ -10,7 +10,6 @@ use lib.Seq.{length-take-le}
 use lib.ListN.{length, take, drop, replicate, length-append}
 use borrow.Author.Tests.{lt-ltb, le-ltb, le-leb, lt-leb}
 use Rattle.be.specs.Bytes.{part, put, to-be}
-use Rattle.records.specs.Records.{joined}
 use Rattle.records.proofs.Joined.{joined-append}
 use Rattle.attr_sf.specs.declared.Plan.{Plan}
 use Rattle.attr_sf.specs.Plan.{plan-of}
@@ -86,7 +85,7 @@ module _ (f name : List ℕ) (flags : ℕ) (z : fork-code f ≡ 0) (P : Plan) (q
 
   module _ (value : List ℕ) where
     set-run : run (set-entries name flags value (stored f)) ≡ run (others name flags (stored f)) ++ entry-bytes (entry flags name value)
-    unfolding set-entries joined
+    unfolding set-entries
     set-run = joined-append entry-bytes (others name flags (stored f)) (entry flags name value ∷ []) ∙ ap (λ (x : List ℕ). run (others name flags (stored f)) ++ x) (append-nil (entry-bytes (entry flags name value)))
 
     set-total : header + length (run (set-entries name flags value (stored f))) ≡ P .end - P .size + 3 + length name + length value

@@ -10,7 +10,7 @@ use lib.ListN.{length, length-append}
 use borrow.Author.Tests.{eq-eqb, eqb-true, not-true}
 use Rattle.be.specs.Lists.{every, some-of, same}
 use Rattle.be.proofs.Bools.{by-cases, and-left, and-right, and-both, clash, neither, or-false}
-use Rattle.records.specs.Records.{start, places, joined}
+use Rattle.records.specs.Records.{start, places}
 use Rattle.records.proofs.Starts.{start-above}
 use Rattle.name.proofs.Same.{same-eq, same-refl}
 use Rattle.attr_sf.specs.Entry.{Entry, entry, is-key, distinct, others, entry-bytes, run}
@@ -116,7 +116,7 @@ pub record Split (f name : List ℕ) (flags n at : ℕ) : Type 0 where
 here : (f name : List ℕ) (flags n at : ℕ) → is-key name flags (entry-at f at) ≡ true
     → some-of (is-key (entry-at f at .name) (entry-at f at .flags)) (entries f n (at + size-at f at)) ≡ false
     → length (entry-bytes (entry-at f at)) ≡ size-at f at → Split f name flags (suc n) at
-unfolding places seek others joined
+unfolding places seek others
 here f name flags n at k free sz =
     let i = key-is name flags (entry-at f at) k in
     let none : some-of (is-key name flags) (entries f n (at + size-at f at)) ≡ false = rw (i .0, i .1) free in
@@ -136,7 +136,7 @@ here f name flags n at k free sz =
 
 there : (f name : List ℕ) (flags n at : ℕ) → is-key name flags (entry-at f at) ≡ false
     → length (entry-bytes (entry-at f at)) ≡ size-at f at → Split f name flags n (at + size-at f at) → Split f name flags (suc n) at
-unfolding places seek others joined
+unfolding places seek others
 there f name flags n at k sz s =
     let a = s .around in
     let l : length (entry-bytes (entry-at f at) ++ run (a .front)) ≡ length (entry-bytes (entry-at f at)) + length (run (a .front)) = length-append (entry-bytes (entry-at f at)) (run (a .front)) in

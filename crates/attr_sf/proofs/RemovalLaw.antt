@@ -12,7 +12,6 @@ use Rattle.be.specs.Bytes.{bytes}
 use Rattle.be.proofs.Bools.{by-cases}
 use Rattle.be.proofs.Parts.{bytes-drop, field-lt, field-1}
 use Rattle.be.proofs.Codes.{both}
-use Rattle.records.specs.Records.{joined}
 use Rattle.dinode.specs.Core.{attr-start, attr-fork}
 use Rattle.attr_sf.specs.Entry.{Entry, entry-bytes, is-key, others, run}
 use Rattle.attr_sf.specs.Fork.{header, count, stored, fork-code, fits, name-legal-of, flags-legal-of}
@@ -34,7 +33,7 @@ others-length name flags (x ∷ xs) =
     by-cases (is-key name flags x) (λ q. rw q (omega arith)) (λ q. rw q (omega arith))
 
 others-run : (name : List ℕ) (flags : ℕ) (xs : List Entry) → length (run (others name flags xs)) ≤ length (run xs)
-unfolding others joined
+unfolding others
 others-run name flags [] = omega arith
 others-run name flags (x ∷ xs) =
     let r : length (run (others name flags xs)) ≤ length (run xs) = others-run name flags xs in

@@ -8,7 +8,7 @@ use mathlib.Core.List.{List, [], _∷_, _++_, append-nil}
 use lib.ListN.{length, take, drop, getD, length-append, length-take, length-drop, take-append-drop}
 use Rattle.be.specs.Bytes.{field, put}
 use Rattle.be.proofs.Writes.{put-nothing, length-put, put-then}
-use Rattle.records.specs.Records.{places, joined}
+use Rattle.records.specs.Records.{places}
 use Rattle.records.proofs.Joined.{joined-append}
 use Rattle.edition.specs.declared.Edition.{Edition}
 use Rattle.dir.specs.declared.Target.{Target}
@@ -41,7 +41,7 @@ pub record Copy (e : Edition) (w v : ℕ) (b₀ : List ℕ) (to : ℕ) (u : List
 
 pub copy-start : (e : Edition) (w v : ℕ) (b₀ : List ℕ) (to : ℕ) (u : List ℕ) (at k : ℕ) → enough e w u k at ≡ true
     → to + length (copied e w v u at k) ≤ length b₀ → Copy e w v b₀ to u at k 0 at b₀ to
-unfolding entries-in places joined
+unfolding entries-in places
 copy-start e w v b₀ to u at k f r =
     record { run = run-start e w u at k f; long = refl; room = r; place = omega arith; wrote = sym (put-nothing b₀ to) }
 
@@ -74,7 +74,6 @@ module _ (e : Edition) (w : ℕ) (u : List ℕ) (p n : ℕ) (one : enough e w u 
 
 module _ (e : Edition) (w v : ℕ) (b₀ : List ℕ) (to : ℕ) (u : List ℕ) (at k i p : ℕ) (b : List ℕ) (o : ℕ) (s : Copy e w v b₀ to u at k i p b o) (h : i < k) where
   one-more : copied e w v u at (i + 1) ≡ copied e w v u at i ++ entry-bytes e v (entry-at e w u p)
-  unfolding joined
   one-more =
       ap (entries-bytes e v) (run-passed e w u at k i p (s .run) h)
       ∙ joined-append (entry-bytes e v) (entries-in e w u i at) (entry-at e w u p ∷ [])

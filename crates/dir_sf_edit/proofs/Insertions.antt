@@ -12,7 +12,6 @@ use Rattle.refusal.specs.Refusal.{ASKED, FIXED, EXISTS, NOROOM}
 use Rattle.be.specs.Lists.{tally, every}
 use Rattle.be.specs.Bytes.{byte, put}
 use Rattle.be.proofs.Bools.{by-cases, and-left, every-head, every-tail}
-use Rattle.records.specs.Records.{joined}
 use Rattle.edition.specs.declared.Edition.{Edition}
 use Rattle.dir.specs.declared.Target.{Target}
 use Rattle.dir.specs.Target.{legal-target, kept-of}
@@ -57,7 +56,7 @@ unfolding wides-of
 placed-wide p y xs = tally-placed (λ x. is-wide (x .target .inode)) y xs
 
 pub placed-bytes : (e : Edition) (w : ℕ) (y : SfEntry) (xs : List SfEntry) → length (entries-bytes e w (placed y xs)) ≡ length (entry-bytes e w y) + length (entries-bytes e w xs)
-unfolding placed joined
+unfolding placed
 placed-bytes e w y [] = simp length-append refl
 placed-bytes e w y (x ∷ xs) =
     by-cases (ltb (y .tag) (x .tag))
@@ -65,7 +64,6 @@ placed-bytes e w y (x ∷ xs) =
     (λ q. rw q (simp length-append (omega (arith, placed-bytes e w y xs))))
 
 wider : (e : Edition) (xs : List SfEntry) → length (entries-bytes e 8 xs) ≡ length (entries-bytes e 4 xs) + 4 * length xs
-unfolding joined
 wider e [] = omega arith
 wider e (x ∷ xs) = simp length-append (omega (arith, wider e xs, length-entry-bytes e 8 x, length-entry-bytes e 4 x))
 
@@ -209,7 +207,6 @@ wides-small e u wides one r b l h = omega (arith, r .wides, wides-le (parent u) 
 -- ---- few entries fit a fork
 
 few : (e : Edition) (w : ℕ) (xs : List SfEntry) → 4 ≤ w → every (name-ok e) xs ≡ true → 8 * length xs ≤ length (entries-bytes e w xs)
-unfolding joined
 few e w [] h k = omega arith
 few e w (x ∷ xs) h k =
     let l = legal-bounds e (x .name) (and-left (legal-name e (x .name)) _ (every-head (name-ok e) x xs k)) in

@@ -8,7 +8,6 @@ use mathlib.Core.List.{List, [], _∷_}
 use lib.Dec.{eqb, leb, ltb}
 use lib.ListN.{length, length-append}
 use borrow.Author.Tests.{leb-true, eqb-true, eqb-false, eq-eqb, not-true, lt-ltb}
-use Rattle.records.specs.Records.{joined}
 use Rattle.dir_sf.proofs.Inodes.{least}
 use Rattle.be.proofs.Bools.{and-left, and-right, and-both, by-cases}
 use Rattle.be.proofs.Codes.{passes}
@@ -114,13 +113,12 @@ removed-wides e n p (x ∷ xs) =
     by-cases (same-name e n (x .name)) (λ q. rw q (omega arith)) (λ q. rw q (omega (arith, removed-wides e n p xs)))
 
 entries-narrower : (e : Edition) (v w : ℕ) (xs : List SfEntry) → v ≤ w → length (entries-bytes e v xs) ≤ length (entries-bytes e w xs)
-unfolding joined
 entries-narrower e v w [] h = omega arith
 entries-narrower e v w (x ∷ xs) h =
     simp length-append (omega (arith, length-entry-bytes e v x, length-entry-bytes e w x, entries-narrower e v w xs h))
 
 removed-shorter : (e : Edition) (n : List ℕ) (v w : ℕ) (xs : List SfEntry) → v ≤ w → length (entries-bytes e v (removed e n xs)) ≤ length (entries-bytes e w xs)
-unfolding joined removed
+unfolding removed
 removed-shorter e n v w [] h = omega arith
 removed-shorter e n v w (x ∷ xs) h =
     by-cases (same-name e n (x .name))

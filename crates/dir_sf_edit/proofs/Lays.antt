@@ -10,7 +10,6 @@ use lib.ListN.{length, take, drop, length-append}
 use Rattle.be.specs.Bytes.{byte, to-be, put}
 use Rattle.be.proofs.Numbers.{length-to-be, to-be-1}
 use Rattle.be.proofs.Writes.{put-then}
-use Rattle.records.specs.Records.{joined}
 use Rattle.records.proofs.Joined.{joined-append}
 use Rattle.edition.specs.declared.Edition.{Edition}
 use Rattle.dir.specs.declared.Target.{Target}
@@ -28,7 +27,6 @@ header-put b b₁ b₂ b₃ k wides p h l e₁ e₂ e₃ =
     put-then b b₂ b₃ 0 2 (k ∷ wides ∷ []) (to-be (width-of wides) p) q₂ e₃ refl
 
 bytes-cons : (e : Edition) (v : ℕ) (y : SfEntry) (ys : List SfEntry) → entries-bytes e v (y ∷ ys) ≡ entry-bytes e v y ++ entries-bytes e v ys
-unfolding joined
 bytes-cons e v y ys = refl
 
 -- the header, then entries

@@ -12,7 +12,6 @@ use Rattle.dir_sf_edit.proofs.TagScans.{end-cons, end-none, gap-here}
 use Rattle.be.specs.Lists.{every}
 use Rattle.be.proofs.Bools.{by-cases, clash, and-right, every-head, every-tail}
 use Rattle.be.proofs.Codes.{passes}
-use Rattle.records.specs.Records.{joined}
 use Rattle.edition.specs.declared.Edition.{Edition}
 use Rattle.edition.specs.Edition.{entry-size}
 use Rattle.dir.specs.declared.Target.{Target}
@@ -93,7 +92,7 @@ room-left e n low (x ∷ xs) l t h =
 
 removed-bytes : (e : Edition) (w : ℕ) (n : List ℕ) (xs : List SfEntry) → holds e n xs ≡ true
     → length (entries-bytes e w xs) ≡ 3 + length n + e .ftype + w + length (entries-bytes e w (removed e n xs))
-unfolding holds removed joined
+unfolding holds removed
 removed-bytes e w n [] h = absurd (clash h refl)
 removed-bytes e w n (x ∷ xs) h =
     by-cases (same-name e n (x .name))

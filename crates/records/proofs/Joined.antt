@@ -22,27 +22,24 @@ all-of P h (x ∷ xs) = (h x, all-of P h xs)
 
 module _ {A : Type 0} (bytes-of : A → List ℕ) where
   pub joined-append : (xs ys : List A) → joined bytes-of (xs ++ ys) ≡ joined bytes-of xs ++ joined bytes-of ys
-  unfolding joined
   joined-append [] ys = refl
   joined-append (x ∷ xs) ys =
       ap (λ (l : List ℕ). bytes-of x ++ l) (joined-append xs ys) ∙ sym (append-assoc (bytes-of x) (joined bytes-of xs) (joined bytes-of ys))
 
   regroup : (p : List ℕ) (x : A) (xs : List A) (r : List ℕ) → p ++ (joined bytes-of (x ∷ xs) ++ r) ≡ (p ++ bytes-of x) ++ (joined bytes-of xs ++ r)
-  unfolding joined
   regroup p x xs r = simp append-assoc
 
   -- records that are as long as they say, whatever stands before and behind them
   module _ (size : List ℕ → ℕ → ℕ) (sized : (p : List ℕ) (x : A) (r : List ℕ) → size (p ++ (bytes-of x ++ r)) (length p) ≡ length (bytes-of x)) where
     after : (p : List ℕ) (x : A) (xs : List A) (r : List ℕ)
         → length p + size (p ++ (joined bytes-of (x ∷ xs) ++ r)) (length p) ≡ length (p ++ bytes-of x)
-    unfolding joined
     after p x xs r =
         let g : p ++ (joined bytes-of (x ∷ xs) ++ r) ≡ p ++ (bytes-of x ++ (joined bytes-of xs ++ r)) = simp append-assoc in
         rw (g, sized p x (joined bytes-of xs ++ r)) (sym (length-append p (bytes-of x)))
 
     pub joined-ends : (xs : List A) (p r : List ℕ)
         → start (size (p ++ (joined bytes-of xs ++ r))) (length xs) (length p) ≡ length p + length (joined bytes-of xs)
-    unfolding start joined
+    unfolding start
     joined-ends [] p r = omega arith
     joined-ends (x ∷ xs) p r =
         ap (start (size (p ++ (joined bytes-of (x ∷ xs) ++ r))) (length xs)) (after p x xs r)
@@ -53,7 +50,7 @@ module _ {A : Type 0} (bytes-of : A → List ℕ) where
     module _ (read : List ℕ → ℕ → A) (P : A → Type 0) (reads : (p : List ℕ) (x : A) (r : List ℕ) → P x → read (p ++ (bytes-of x ++ r)) (length p) ≡ x) where
       pub joined-read : (xs : List A) (p r : List ℕ) → All P xs
           → records (size (p ++ (joined bytes-of xs ++ r))) (read (p ++ (joined bytes-of xs ++ r))) (length xs) (length p) ≡ xs
-      unfolding places joined
+      unfolding places
       joined-read [] p r h = refl
       joined-read (x ∷ xs) p r h =
           let g : p ++ (joined bytes-of (x ∷ xs) ++ r) ≡ p ++ (bytes-of x ++ (joined bytes-of xs ++ r)) = simp append-assoc in
@@ -69,7 +66,7 @@ module _ {A : Type 0} (bytes-of : A → List ℕ) (f : List ℕ) (size : ℕ →
     (exact : (at : ℕ) → at + size at ≤ length f → part at (size at) f ≡ bytes-of (read at)) where
   pub joined-stored : (n at : ℕ) → start size n at ≤ length f
       → part at (start size n at - at) f ≡ joined bytes-of (records size read n at)
-  unfolding start places joined
+  unfolding start places
   joined-stored zero at h = let q : at - at ≡ 0 = omega arith in rw q
   joined-stored (suc n) at h =
       let up : at + size at ≤ start size n (at + size at) = start-above size n (at + size at) in
@@ -81,7 +78,7 @@ module _ {A : Type 0} (bytes-of : A → List ℕ) (f : List ℕ) (size : ℕ →
 module _ {A : Type 0} (bytes-of : A → List ℕ) (end : ℕ) (size : ℕ → ℕ) (read : ℕ → A)
     (sized : (at : ℕ) → at + size at ≤ end → length (bytes-of (read at)) ≡ size at) where
   pub joined-long : (n at : ℕ) → start size n at ≤ end → at + length (joined bytes-of (records size read n at)) ≡ start size n at
-  unfolding start places joined
+  unfolding start places
   joined-long zero at h = omega arith
   joined-long (suc n) at h =
       let up : at + size at ≤ start size n (at + size at) = start-above size n (at + size at) in

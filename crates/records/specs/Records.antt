@@ -33,6 +33,6 @@ unfoldable pub stands : (ℕ → ℕ) → ℕ → ℕ → ℕ → Bool
 stands size n at place = some-of (eqb place) (places size n at) || eqb place (start size n at)
 
 -- records written one after the other
-unfoldable pub joined : {A : Type 0} → (A → List ℕ) → List A → List ℕ
+abbrev pub joined : {A : Type 0} → (A → List ℕ) → List A → List ℕ
 joined bytes-of [] = []
 joined bytes-of (x ∷ xs) = bytes-of x ++ joined bytes-of xs
