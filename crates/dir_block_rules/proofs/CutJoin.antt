@@ -12,6 +12,8 @@ use lib.Seq.{take-append-le, drop-append-le, take-append-seam, drop-append-seam}
 use borrow.Author.Tests.{eqb-true, leb-true, eq-eqb, le-leb}
 use Rattle.edition.proofs.Sizes.{entry-size-least}
 use Rattle.be.specs.Lists.{every}
+use Rattle.records.specs.Records.{joined}
+use Rattle.records.proofs.Joined.{joined-append}
 use Rattle.edition.specs.declared.Edition.{Edition}
 use Rattle.dir_block_rules.specs.Record.{Rec, rec, cut, says, whole, size, tag, gap-start}
 use Rattle.be.proofs.Bools.{and-left, and-right, and-both, by-cases}
@@ -52,8 +54,7 @@ says-append e c d h l =
 
 -- the records' bytes end to end
 abbrev pub join : List Rec → List ℕ
-join [] = []
-join (r ∷ rs) = r .raw ++ join rs
+join rs = joined (λ (r : Rec). r .raw) rs
 
 -- whole records, laid end to end from offset o on
 abbrev pub Laid : Edition → ℕ → List Rec → Type 0
@@ -61,8 +62,7 @@ Laid e o [] = Unit {0}
 Laid e o (r ∷ rs) = (r .off ≡ o) × (Whole e r) × Laid e (o + size r) rs
 
 pub join-append : (rs ss : List Rec) → join (rs ++ ss) ≡ join rs ++ join ss
-join-append [] ss = refl
-join-append (r ∷ rs) ss = rw (join-append rs ss, append-assoc)
+join-append rs ss = joined-append (λ (r : Rec). r .raw) rs ss
 
 pub laid-append : (e : Edition) (o : ℕ) (rs ss : List Rec) → Laid e o rs → Laid e (o + length (join rs)) ss → Laid e o (rs ++ ss)
 laid-append e o [] ss h k = rw add-zero at k
