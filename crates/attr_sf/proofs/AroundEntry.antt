@@ -16,7 +16,7 @@ use Rattle.records.specs.Records.{start}
 use Rattle.records.proofs.Starts.{length-records}
 use Rattle.records.proofs.Joined.{joined-append, joined-stored}
 use Rattle.attr_sf.specs.Entry.{is-key, others, entry-bytes, run}
-use Rattle.attr_sf.specs.Fork.{header, totsize, count, stored, size-at, entry-at, place-of, fork-code}
+use Rattle.attr_sf.specs.Fork.{header, totsize, count, stored, size-at, entry-at, place-of, fork-verdict}
 use Rattle.attr_sf.proofs.Tiling.{seek-some}
 use Rattle.attr_sf.proofs.ForkTests.{end-above, end-inside, all-ends, all-once}
 use Rattle.attr_sf.proofs.StoredBytes.{stored-bytes}
@@ -35,7 +35,7 @@ pub record Apart (f name : List ℕ) (flags : ℕ) : Type 0 where
   pub rest : run (others name flags (stored f)) ≡ before ++ behind
   pub kept : length (others name flags (stored f)) ≡ cond (ltb (place-of f name flags) (totsize f)) (count f - 1) (count f)
 
-module _ (f name : List ℕ) (flags : ℕ) (z : fork-code f ≡ 0) where
+module _ (f name : List ℕ) (flags : ℕ) (z : fork-verdict f ≡ 0) where
   body : part header (totsize f - header) f ≡ run (stored f)
   unfolding stored
   body =

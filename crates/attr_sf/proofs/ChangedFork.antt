@@ -14,8 +14,8 @@ use Rattle.records.proofs.Joined.{joined-append}
 use Rattle.attr_sf.specs.declared.Plan.{Plan}
 use Rattle.attr_sf.specs.Plan.{plan-of}
 use Rattle.attr_sf.specs.Entry.{entry, others, entry-bytes, run}
-use Rattle.attr_sf.specs.Fork.{header, totsize, count, stored, size-at, place-of, fork-code, fork-with, fits}
-use Rattle.attr_sf.specs.Calls.{held, held-code, set-entries, has-room, room-code, fork-changed}
+use Rattle.attr_sf.specs.Fork.{header, totsize, count, stored, size-at, place-of, fork-verdict, fork-with, fits}
+use Rattle.attr_sf.specs.Calls.{held, held-request, set-entries, has-room, room-request, fork-changed}
 use Rattle.attr_sf.proofs.ForkTests.{long, end-inside}
 use Rattle.attr_sf.proofs.ReadBack.{bytes-length}
 use Rattle.attr_sf.proofs.ForkWrites.{zeros, close-writes, append-writes, head-writes}
@@ -25,7 +25,7 @@ use Rattle.attr_sf.proofs.AroundEntry.{Apart, layout}
 abbrev pub closed : List ℕ → ℕ → ℕ → ℕ → List ℕ
 closed f end p s = put (put f p (part (p + s) (end - (p + s)) f)) (end - s) (replicate (length f - (end - s)) 0)
 
-module _ (f name : List ℕ) (flags : ℕ) (z : fork-code f ≡ 0) (P : Plan) (q : P ≡ plan-of f name flags) where
+module _ (f name : List ℕ) (flags : ℕ) (z : fork-verdict f ≡ 0) (P : Plan) (q : P ≡ plan-of f name flags) where
   p-at : P .at ≡ place-of f name flags
   unfolding plan-of
   p-at = ap (λ (x : Plan). x .at) q
@@ -133,47 +133,47 @@ module _ (f name : List ℕ) (flags : ℕ) (z : fork-code f ≡ 0) (P : Plan) (q
 
 -- ---- the answers in the code's order, and the fork after them
 
-module _ (f name : List ℕ) (flags : ℕ) (z : fork-code f ≡ 0) {P : Plan} (q : P ≡ plan-of f name flags) where
+module _ (f name : List ℕ) (flags : ℕ) (z : fork-verdict f ≡ 0) {P : Plan} (q : P ≡ plan-of f name flags) where
   pub planned : (P ≡ plan-of f name flags) × ((P .at + P .size ≤ P .end) × (P .end ≤ length f))
   planned = (q, plan-inside f name flags z P q)
 
-  pub remove-not : P .end ≤ P .at → (13 ≡ held-code f name flags) × (f ≡ fork-changed f (held-code f name flags) (others name flags (stored f)))
-  unfolding held-code fork-changed
+  pub remove-not : P .end ≤ P .at → (13 ≡ held-request f name flags) × (f ≡ fork-changed f (held-request f name flags) (others name flags (stored f)))
+  unfolding held-request fork-changed
   remove-not h = let k = held-not f name flags z P q h in (rw k, rw k)
 
   pub remove-done : {c g : List ℕ} → P .at < P .end → c ≡ closed f (P .end) (P .at) (P .size)
       → g ≡ put (put c 0 (to-be 2 (P .end - P .size))) 2 (to-be 1 (P .kept))
-      → (0 ≡ held-code f name flags) × (g ≡ fork-changed f (held-code f name flags) (others name flags (stored f)))
-  unfolding held-code fork-changed
+      → (0 ≡ held-request f name flags) × (g ≡ fork-changed f (held-request f name flags) (others name flags (stored f)))
+  unfolding held-request fork-changed
   remove-done h a b =
       let k = held-is f name flags z P q h in
       (rw k, rw k (b ∙ ap (λ (x : List ℕ). put (put x 0 (to-be 2 (P .end - P .size))) 2 (to-be 1 (P .kept))) a ∙ remove-writes f name flags z P q))
 
   module _ (value : List ℕ) where
     refused-by : has-room f name flags value ≡ false
-        → (15 ≡ room-code f name flags value) × (f ≡ fork-changed f (room-code f name flags value) (set-entries name flags value (stored f)))
-    unfolding room-code fork-changed
+        → (15 ≡ room-request f name flags value) × (f ≡ fork-changed f (room-request f name flags value) (set-entries name flags value (stored f)))
+    unfolding room-request fork-changed
     refused-by h = (rw h, rw h)
 
     pub set-value : 255 < length value
-        → (15 ≡ room-code f name flags value) × (f ≡ fork-changed f (room-code f name flags value) (set-entries name flags value (stored f)))
+        → (15 ≡ room-request f name flags value) × (f ≡ fork-changed f (room-request f name flags value) (set-entries name flags value (stored f)))
     set-value h = refused-by (room-value f name flags z P q value h)
 
     module _ (h : length value ≤ 255) where
       pub set-count : 254 < P .kept
-          → (15 ≡ room-code f name flags value) × (f ≡ fork-changed f (room-code f name flags value) (set-entries name flags value (stored f)))
+          → (15 ≡ room-request f name flags value) × (f ≡ fork-changed f (room-request f name flags value) (set-entries name flags value (stored f)))
       set-count k = refused-by (room-count f name flags z P q value h k)
 
       module _ (k : P .kept ≤ 254) where
         pub set-total-over : length f < P .end - P .size + 3 + length name + length value
-            → (15 ≡ room-code f name flags value) × (f ≡ fork-changed f (room-code f name flags value) (set-entries name flags value (stored f)))
+            → (15 ≡ room-request f name flags value) × (f ≡ fork-changed f (room-request f name flags value) (set-entries name flags value (stored f)))
         set-total-over t = refused-by (room-total f name flags z P q value h k t)
 
         pub set-done : {c d g : List ℕ} → P .end - P .size + 3 + length name + length value ≤ length f → c ≡ closed f (P .end) (P .at) (P .size)
             → d ≡ put c (P .end - P .size) (entry-bytes (entry flags name value))
             → g ≡ put (put d 0 (to-be 2 (P .end - P .size + 3 + length name + length value))) 2 (to-be 1 (P .kept + 1))
-            → (0 ≡ room-code f name flags value) × (g ≡ fork-changed f (room-code f name flags value) (set-entries name flags value (stored f)))
-        unfolding room-code fork-changed
+            → (0 ≡ room-request f name flags value) × (g ≡ fork-changed f (room-request f name flags value) (set-entries name flags value (stored f)))
+        unfolding room-request fork-changed
         set-done t a b w =
             let r = room-is f name flags z P q value h k t in
             let y = b ∙ ap (λ (x : List ℕ). put x (P .end - P .size) (entry-bytes (entry flags name value))) a in

@@ -19,7 +19,7 @@ use Rattle.dinode.specs.Core.{attr-start, attr-fork}
 use Rattle.dinode.specs.declared.Fork.the-variants.{At, Refused}
 use Rattle.attr_sf.specs.Entry.{Entry, others}
 use Rattle.attr_sf.specs.Fork.{stored}
-use Rattle.attr_sf.specs.Calls.{asked-code, fork-if, held-code, found-code, room-code, set-entries, set-code, fork-changed, changed, after-remove, after-set}
+use Rattle.attr_sf.specs.Calls.{asked-code, fork-if, held-request, lookup-code, room-request, set-entries, set-code, fork-changed, changed, remove-bytes, set-bytes}
 use Rattle.attr_sf.proofs.InodeTests.{lent-fork, if-passed, if-refused}
 
 -- the part from a place on was lent, and came back
@@ -63,31 +63,31 @@ module _ (e : Edition) (b : List ℕ) where
   module _ (name : List ℕ) (flags : ℕ) where
     pub remove-at : {s m r : ℕ} {new : List ℕ} → At s m ≡ fork-if (asked-code e b name flags) e b → s ≤ length b
         → length new ≡ length (take (length b - s) (drop s b))
-        → (r ≡ held-code (take (length b - s) (drop s b)) name flags)
-        × (new ≡ fork-changed (take (length b - s) (drop s b)) (held-code (take (length b - s) (drop s b)) name flags) (others name flags (stored (take (length b - s) (drop s b)))))
-        → (r ≡ found-code e b name flags) × (putMid s (length b - s) b new ≡ after-remove e b name flags)
-    unfolding found-code after-remove
+        → (r ≡ held-request (take (length b - s) (drop s b)) name flags)
+        × (new ≡ fork-changed (take (length b - s) (drop s b)) (held-request (take (length b - s) (drop s b)) name flags) (others name flags (stored (take (length b - s) (drop s b)))))
+        → (r ≡ lookup-code e b name flags) × (putMid s (length b - s) b new ≡ remove-bytes e b name flags)
+    unfolding lookup-code remove-bytes
     remove-at {s} {m} {r} {new} h i l w =
         let q : take (length b - s) (drop s b) ≡ attr-fork e b = lent-fork e b s (if-passed e b (asked-code e b name flags) s m h .1) in
         let p = rw q at w in
-        (code-at (asked-code e b name flags) h (p .0), change-at (asked-code e b name flags) (held-code (attr-fork e b) name flags) (others name flags (stored (attr-fork e b))) h i l (p .1))
+        (code-at (asked-code e b name flags) h (p .0), change-at (asked-code e b name flags) (held-request (attr-fork e b) name flags) (others name flags (stored (attr-fork e b))) h i l (p .1))
 
-    pub remove-refused : {r : ℕ} → Refused r ≡ fork-if (asked-code e b name flags) e b → (r ≡ found-code e b name flags) × (b ≡ after-remove e b name flags)
-    unfolding found-code after-remove
-    remove-refused h = change-refused (asked-code e b name flags) (held-code (attr-fork e b) name flags) (others name flags (stored (attr-fork e b))) h
+    pub remove-refused : {r : ℕ} → Refused r ≡ fork-if (asked-code e b name flags) e b → (r ≡ lookup-code e b name flags) × (b ≡ remove-bytes e b name flags)
+    unfolding lookup-code remove-bytes
+    remove-refused h = change-refused (asked-code e b name flags) (held-request (attr-fork e b) name flags) (others name flags (stored (attr-fork e b))) h
 
     module _ (value : List ℕ) where
       pub set-at : {s m r : ℕ} {new : List ℕ} → At s m ≡ fork-if (asked-code e b name flags) e b → s ≤ length b
           → length new ≡ length (take (length b - s) (drop s b))
-          → (r ≡ room-code (take (length b - s) (drop s b)) name flags value)
-          × (new ≡ fork-changed (take (length b - s) (drop s b)) (room-code (take (length b - s) (drop s b)) name flags value) (set-entries name flags value (stored (take (length b - s) (drop s b)))))
-          → (r ≡ set-code e b name flags value) × (putMid s (length b - s) b new ≡ after-set e b name flags value)
-      unfolding set-code after-set
+          → (r ≡ room-request (take (length b - s) (drop s b)) name flags value)
+          × (new ≡ fork-changed (take (length b - s) (drop s b)) (room-request (take (length b - s) (drop s b)) name flags value) (set-entries name flags value (stored (take (length b - s) (drop s b)))))
+          → (r ≡ set-code e b name flags value) × (putMid s (length b - s) b new ≡ set-bytes e b name flags value)
+      unfolding set-code set-bytes
       set-at {s} {m} {r} {new} h i l w =
           let q : take (length b - s) (drop s b) ≡ attr-fork e b = lent-fork e b s (if-passed e b (asked-code e b name flags) s m h .1) in
           let p = rw q at w in
-          (code-at (asked-code e b name flags) h (p .0), change-at (asked-code e b name flags) (room-code (attr-fork e b) name flags value) (set-entries name flags value (stored (attr-fork e b))) h i l (p .1))
+          (code-at (asked-code e b name flags) h (p .0), change-at (asked-code e b name flags) (room-request (attr-fork e b) name flags value) (set-entries name flags value (stored (attr-fork e b))) h i l (p .1))
 
-      pub set-refused : {r : ℕ} → Refused r ≡ fork-if (asked-code e b name flags) e b → (r ≡ set-code e b name flags value) × (b ≡ after-set e b name flags value)
-      unfolding set-code after-set
-      set-refused h = change-refused (asked-code e b name flags) (room-code (attr-fork e b) name flags value) (set-entries name flags value (stored (attr-fork e b))) h
+      pub set-refused : {r : ℕ} → Refused r ≡ fork-if (asked-code e b name flags) e b → (r ≡ set-code e b name flags value) × (b ≡ set-bytes e b name flags value)
+      unfolding set-code set-bytes
+      set-refused h = change-refused (asked-code e b name flags) (room-request (attr-fork e b) name flags value) (set-entries name flags value (stored (attr-fork e b))) h

@@ -13,21 +13,21 @@ use Rattle.be.specs.Bytes.{byte, field}
 use Rattle.be.proofs.Bools.{by-cases, and-left, and-right}
 use Rattle.records.specs.Records.{start, tiled}
 use Rattle.attr_sf.specs.Entry.{distinct}
-use Rattle.attr_sf.specs.Fork.{header, totsize, count, stored, size-at, entries, name-legal-of, flags-legal-of, own-code, span-ok, tile-ok, names-ok, flags-ok, once-ok, fork-code}
+use Rattle.attr_sf.specs.Fork.{header, totsize, count, stored, size-at, entries, name-legal-of, flags-legal-of, own-verdict, span-ok, tile-ok, names-ok, flags-ok, once-ok, fork-verdict}
 
 module _ (f : List ℕ) where
-  pub span-short : length f < header → 4 ≡ fork-code f
-  unfolding fork-code span-ok
+  pub span-short : length f < header → 4 ≡ fork-verdict f
+  unfolding fork-verdict span-ok
   span-short h = rw (lt-leb header (length f) h)
 
   module _ {end : ℕ} (e : end ≡ field 0 2 f) (h : header ≤ length f) where
-    pub span-low : end < header → 4 ≡ fork-code f
-    unfolding fork-code span-ok totsize
+    pub span-low : end < header → 4 ≡ fork-verdict f
+    unfolding fork-verdict span-ok totsize
     span-low k = rw (← e, le-leb header (length f) h, lt-leb header end k)
 
     module _ (k : header ≤ end) where
-      pub span-over : length f < end → 4 ≡ fork-code f
-      unfolding fork-code span-ok totsize
+      pub span-over : length f < end → 4 ≡ fork-verdict f
+      unfolding fork-verdict span-ok totsize
       span-over l = rw (← e, le-leb header (length f) h, le-leb header end k, lt-leb end (length f) l)
 
       module _ {n : ℕ} (m : n ≡ byte 2 f) (l : end ≤ length f) where
@@ -35,18 +35,18 @@ module _ (f : List ℕ) where
         unfolding span-ok totsize
         span-is = rw (← e, le-leb header (length f) h, le-leb header end k, le-leb end (length f) l)
 
-        pub not-tiled : tiled (size-at f) end n header ≡ false → 5 ≡ fork-code f
-        unfolding fork-code tile-ok totsize count
+        pub not-tiled : tiled (size-at f) end n header ≡ false → 5 ≡ fork-verdict f
+        unfolding fork-verdict tile-ok totsize count
         not-tiled t = rw (span-is, ← e, ← m, t)
 
         module _ (t : tiled (size-at f) end n header ≡ true) where
           -- what is left to test once the entries tile
-          rest-is : cond (every name-legal-of (entries f n header)) (cond (every flags-legal-of (entries f n header)) (cond (distinct (entries f n header)) 0 10) 7) 6 ≡ fork-code f
-          unfolding fork-code tile-ok names-ok flags-ok once-ok totsize count stored
+          rest-is : cond (every name-legal-of (entries f n header)) (cond (every flags-legal-of (entries f n header)) (cond (distinct (entries f n header)) 0 10) 7) 6 ≡ fork-verdict f
+          unfolding fork-verdict tile-ok names-ok flags-ok once-ok totsize count stored
           rest-is = rw (span-is, ← e, ← m, t)
 
-          module _ {r : ℕ} (q : r ≡ own-code (entries f n header)) where
-            pub not-own : (r ≡ 0 → ⊥) → r ≡ fork-code f
+          module _ {r : ℕ} (q : r ≡ own-verdict (entries f n header)) where
+            pub not-own : (r ≡ 0 → ⊥) → r ≡ fork-verdict f
             not-own d =
                 q
                 ∙ by-cases (every name-legal-of (entries f n header))
@@ -62,10 +62,10 @@ module _ (f : List ℕ) where
                 go true false h = absurd (omega arith)
                 go false v h = absurd (omega arith)
 
-            pub not-once : r ≡ 0 → distinct (entries f n header) ≡ false → 10 ≡ fork-code f
+            pub not-once : r ≡ 0 → distinct (entries f n header) ≡ false → 10 ≡ fork-verdict f
             not-once z d = let w = own-passed z in rw (w .0, w .1, d) at rest-is
 
-            pub all-passed : r ≡ 0 → distinct (entries f n header) ≡ true → 0 ≡ fork-code f
+            pub all-passed : r ≡ 0 → distinct (entries f n header) ≡ true → 0 ≡ fork-verdict f
             all-passed z d = let w = own-passed z in rw (w .0, w .1, d) at rest-is
 
 -- five tests that all pass
@@ -79,9 +79,9 @@ five true false d g h q = absurd (omega arith)
 five false b d g h q = absurd (omega arith)
 
 -- what a fork that passes is known to have
-module _ (f : List ℕ) (z : fork-code f ≡ 0) where
+module _ (f : List ℕ) (z : fork-verdict f ≡ 0) where
   passes : ((span-ok f ≡ true) × (tile-ok f ≡ true)) × ((names-ok f ≡ true) × ((flags-ok f ≡ true) × (once-ok f ≡ true)))
-  unfolding fork-code
+  unfolding fork-verdict
   passes = five (span-ok f) (tile-ok f) (names-ok f) (flags-ok f) (once-ok f) z
 
   pub long : header ≤ length f

@@ -21,8 +21,8 @@ use Rattle.dinode.specs.declared.Fork.{Fork}
 use Rattle.dinode.specs.declared.Fork.the-variants.{At, Refused}
 use Rattle.dinode.proofs.Sound.{attributes-sound, sound-size, sound-fits}
 use Rattle.attr_sf.specs.Entry.{legal-key, legal-flags}
-use Rattle.attr_sf.specs.Fork.{fork-code}
-use Rattle.attr_sf.specs.Calls.{attr-code, asked-code, fork-if}
+use Rattle.attr_sf.specs.Fork.{fork-verdict}
+use Rattle.attr_sf.specs.Calls.{verdict, asked-code, fork-if}
 use Rattle.attr_sf.proofs.FlagsLaw.{flags-low}
 
 -- one test has passed
@@ -52,29 +52,29 @@ module _ (e : Edition) (b : List ℕ) where
   inode-short h = sound-size e b (attributes-sound e b h) .1
 
   -- what passes has both parts
-  pub inode-passed : attr-code e b ≡ 0 → attributes-code e b ≡ 0
-  unfolding attr-code
-  inode-passed h = both (attributes-code e b) (fork-code (attr-fork e b)) h .0
+  pub inode-passed : verdict e b ≡ 0 → attributes-code e b ≡ 0
+  unfolding verdict
+  inode-passed h = both (attributes-code e b) (fork-verdict (attr-fork e b)) h .0
 
-  pub fork-passed : attr-code e b ≡ 0 → fork-code (attr-fork e b) ≡ 0
-  unfolding attr-code
-  fork-passed h = both (attributes-code e b) (fork-code (attr-fork e b)) h .1
+  pub fork-passed : verdict e b ≡ 0 → fork-verdict (attr-fork e b) ≡ 0
+  unfolding verdict
+  fork-passed h = both (attributes-code e b) (fork-verdict (attr-fork e b)) h .1
 
   module _ (name : List ℕ) (flags : ℕ) where
-    pub tests-passed : asked-code e b name flags ≡ 0 → attr-code e b ≡ 0
+    pub tests-passed : asked-code e b name flags ≡ 0 → verdict e b ≡ 0
     unfolding asked-code
-    tests-passed h = both (attr-code e b) (cond (legal-key name flags) 0 11) h .0
+    tests-passed h = both (verdict e b) (cond (legal-key name flags) 0 11) h .0
 
     pub asked-legal : asked-code e b name flags ≡ 0 → (legal-attr-name name ≡ true) × (legal-flags flags ≡ true)
     unfolding asked-code legal-key
     asked-legal h =
-        let k : legal-key name flags ≡ true = holds (legal-key name flags) 11 (omega arith) (both (attr-code e b) (cond (legal-key name flags) 0 11) h .1) in
+        let k : legal-key name flags ≡ true = holds (legal-key name flags) 11 (omega arith) (both (verdict e b) (cond (legal-key name flags) 0 11) h .1) in
         (and-left _ (legal-flags flags) k, and-right (legal-attr-name name) _ k)
 
     pub asked-small : asked-code e b name flags ≡ 0 → (length name < 256) × (flags < 256)
     asked-small h = (omega (arith, attr-bounds name (asked-legal h .0)), omega (arith, flags-low flags (asked-legal h .1)))
 
-    pub still-asked : attr-code e b ≡ 0 → (legal-attr-name name ≡ true) × (legal-flags flags ≡ true) → asked-code e b name flags ≡ 0
+    pub still-asked : verdict e b ≡ 0 → (legal-attr-name name ≡ true) × (legal-flags flags ≡ true) → asked-code e b name flags ≡ 0
     unfolding asked-code legal-key
     still-asked h k = rw (h, k .0, k .1)
 
@@ -116,53 +116,53 @@ module _ (e : Edition) (b : List ℕ) where
     pub inode-inside : At s m ≡ attributes-fork e b → s ≤ length b
     inode-inside h = let z = if-passed (attributes-code e b) s m (h ∙ of-inode) in rw (z .1) (start-inside (z .0))
 
-    tested-is : {n : ℕ} → At s m ≡ attributes-fork e b → n ≡ fork-code (take (length b - s) (drop s b)) → n ≡ fork-code (attr-fork e b)
-    tested-is h q = q ∙ ap fork-code (lent-fork s (if-passed (attributes-code e b) s m (h ∙ of-inode) .1))
+    tested-is : {n : ℕ} → At s m ≡ attributes-fork e b → n ≡ fork-verdict (take (length b - s) (drop s b)) → n ≡ fork-verdict (attr-fork e b)
+    tested-is h q = q ∙ ap fork-verdict (lent-fork s (if-passed (attributes-code e b) s m (h ∙ of-inode) .1))
 
-    pub tested-not : {n : ℕ} → At s m ≡ attributes-fork e b → n ≡ fork-code (take (length b - s) (drop s b)) → (n ≡ 0 → ⊥)
-        → Refused n ≡ fork-if (attr-code e b) e b
-    unfolding attr-code
+    pub tested-not : {n : ℕ} → At s m ≡ attributes-fork e b → n ≡ fork-verdict (take (length b - s) (drop s b)) → (n ≡ 0 → ⊥)
+        → Refused n ≡ fork-if (verdict e b) e b
+    unfolding verdict
     tested-not h q d =
         ap (λ (x : ℕ). Refused x) (tested-is h q)
-        ∙ then-not (attributes-code e b) (fork-code (attr-fork e b)) s m (h ∙ of-inode) (λ k. d (tested-is h q ∙ k))
+        ∙ then-not (attributes-code e b) (fork-verdict (attr-fork e b)) s m (h ∙ of-inode) (λ k. d (tested-is h q ∙ k))
 
-    pub tested-at : {n : ℕ} → At s m ≡ attributes-fork e b → n ≡ fork-code (take (length b - s) (drop s b)) → n ≡ 0 → At s m ≡ fork-if (attr-code e b) e b
-    unfolding attr-code
-    tested-at h q d = then-at (attributes-code e b) (fork-code (attr-fork e b)) s m (h ∙ of-inode) (sym (tested-is h q) ∙ d)
+    pub tested-at : {n : ℕ} → At s m ≡ attributes-fork e b → n ≡ fork-verdict (take (length b - s) (drop s b)) → n ≡ 0 → At s m ≡ fork-if (verdict e b) e b
+    unfolding verdict
+    tested-at h q d = then-at (attributes-code e b) (fork-verdict (attr-fork e b)) s m (h ∙ of-inode) (sym (tested-is h q) ∙ d)
 
     -- the fork that may be worked on
-    pub located : At s m ≡ fork-if (attr-code e b) e b
-        → (s ≤ length b) × ((fork-code (take (length b - s) (drop s b)) ≡ 0) × (s + length (take (length b - s) (drop s b)) ≤ 2048))
+    pub located : At s m ≡ fork-if (verdict e b) e b
+        → (s ≤ length b) × ((fork-verdict (take (length b - s) (drop s b)) ≡ 0) × (s + length (take (length b - s) (drop s b)) ≤ 2048))
     located h =
-        let z = if-passed (attr-code e b) s m h in
+        let z = if-passed (verdict e b) s m h in
         let i : attributes-code e b ≡ 0 = inode-passed (z .0) in
         rw (lent-fork s (z .1), z .1) (start-inside i, (fork-passed (z .0), omega (arith, fork-length i, inode-short i)))
 
     module _ (name : List ℕ) (flags : ℕ) where
-      pub asked-not : At s m ≡ fork-if (attr-code e b) e b → legal-key name flags ≡ false → Refused ASKED ≡ fork-if (asked-code e b name flags) e b
+      pub asked-not : At s m ≡ fork-if (verdict e b) e b → legal-key name flags ≡ false → Refused ASKED ≡ fork-if (asked-code e b name flags) e b
       unfolding asked-code
-      asked-not h k = rw k (then-not (attr-code e b) 11 s m h (λ q. omega arith))
+      asked-not h k = rw k (then-not (verdict e b) 11 s m h (λ q. omega arith))
 
-      pub asked-at : At s m ≡ fork-if (attr-code e b) e b → legal-key name flags ≡ true → At s m ≡ fork-if (asked-code e b name flags) e b
+      pub asked-at : At s m ≡ fork-if (verdict e b) e b → legal-key name flags ≡ true → At s m ≡ fork-if (asked-code e b name flags) e b
       unfolding asked-code
-      asked-at h k = rw k (then-at (attr-code e b) 0 s m h refl)
+      asked-at h k = rw k (then-at (verdict e b) 0 s m h refl)
 
-      pub asked-tested : At s m ≡ fork-if (asked-code e b name flags) e b → At s m ≡ fork-if (attr-code e b) e b
+      pub asked-tested : At s m ≡ fork-if (asked-code e b name flags) e b → At s m ≡ fork-if (verdict e b) e b
       asked-tested h = let z = if-passed (asked-code e b name flags) s m h .0 in rw (tests-passed name flags z) (rw z at h)
 
   module _ {n : ℕ} where
-    pub tested-refused : Refused n ≡ attributes-fork e b → Refused n ≡ fork-if (attr-code e b) e b
-    unfolding attr-code
-    tested-refused h = then-refused (attributes-code e b) (fork-code (attr-fork e b)) n (h ∙ of-inode)
+    pub tested-refused : Refused n ≡ attributes-fork e b → Refused n ≡ fork-if (verdict e b) e b
+    unfolding verdict
+    tested-refused h = then-refused (attributes-code e b) (fork-verdict (attr-fork e b)) n (h ∙ of-inode)
 
-    pub asked-refused : (name : List ℕ) (flags : ℕ) → Refused n ≡ fork-if (attr-code e b) e b → Refused n ≡ fork-if (asked-code e b name flags) e b
+    pub asked-refused : (name : List ℕ) (flags : ℕ) → Refused n ≡ fork-if (verdict e b) e b → Refused n ≡ fork-if (asked-code e b name flags) e b
     unfolding asked-code
-    asked-refused name flags h = then-refused (attr-code e b) (cond (legal-key name flags) 0 11) n h
+    asked-refused name flags h = then-refused (verdict e b) (cond (legal-key name flags) 0 11) n h
 
 -- what a test answers
 module _ (e : Edition) (b : List ℕ) where
-  pub test-at : {s m : ℕ} → At s m ≡ fork-if (attr-code e b) e b → 0 ≡ attr-code e b
-  test-at h = sym (if-passed e b (attr-code e b) _ _ h .0)
+  pub test-at : {s m : ℕ} → At s m ≡ fork-if (verdict e b) e b → 0 ≡ verdict e b
+  test-at h = sym (if-passed e b (verdict e b) _ _ h .0)
 
-  pub test-refused : {n : ℕ} → Refused n ≡ fork-if (attr-code e b) e b → n ≡ attr-code e b
-  test-refused h = if-refused e b (attr-code e b) _ h .0
+  pub test-refused : {n : ℕ} → Refused n ≡ fork-if (verdict e b) e b → n ≡ verdict e b
+  test-refused h = if-refused e b (verdict e b) _ h .0

@@ -17,8 +17,8 @@ use Rattle.dinode.specs.declared.Fork.the-variants.{At as Fork-at, Refused as F
 use Rattle.attr_sf.specs.declared.Place.{Place}
 use Rattle.attr_sf.specs.declared.Place.the-variants.{At, Refused}
 use Rattle.attr_sf.specs.Entry.{Entry, is-key, legal-key}
-use Rattle.attr_sf.specs.Fork.{header, totsize, count, stored, entry-at, place-of, fork-code, span-ok, tile-ok, names-ok, flags-ok, once-ok}
-use Rattle.attr_sf.specs.Calls.{attr-code, fork-if, asked-code, held, held-code, found-code, attr-at, found-in, looked-up, place-code, part-of}
+use Rattle.attr_sf.specs.Fork.{header, totsize, count, stored, entry-at, place-of, fork-verdict, span-ok, tile-ok, names-ok, flags-ok, once-ok}
+use Rattle.attr_sf.specs.Calls.{verdict, fork-if, asked-code, held, held-request, lookup-code, attr-at, found-in, lookup, place-code, part-of}
 use Rattle.attr_sf.specs.Laws.{Found-law, Absent-law}
 use Rattle.attr_sf.proofs.Tiling.{seek-some}
 use Rattle.attr_sf.proofs.ForkTests.{all-ends}
@@ -45,7 +45,7 @@ module _ (p : Entry → Bool) where
   some-front [] ys h = refl
   some-front (x ∷ xs) ys h = rw (neither (p x) _ h .0) (some-front xs ys (neither (p x) _ h .1))
 
-module _ (f name : List ℕ) (flags : ℕ) (z : fork-code f ≡ 0) where
+module _ (f name : List ℕ) (flags : ℕ) (z : fork-verdict f ≡ 0) where
   pub held-some : held f name flags ≡ some-of (is-key name flags) (stored f)
   unfolding held place-of stored
   held-some = rw (← all-ends f z) (seek-some f name flags (count f) header)
@@ -75,53 +75,53 @@ module _ (f name : List ℕ) (flags : ℕ) (z : fork-code f ≡ 0) where
 
 module _ (e : Edition) (b name : List ℕ) (flags : ℕ) where
   pub looked-at : {s m : ℕ} {v : Place} → Fork-at s m ≡ fork-if (asked-code e b name flags) e b
-      → v ≡ found-in s (take (length b - s) (drop s b)) name flags → v ≡ looked-up e b name flags
-  unfolding looked-up
+      → v ≡ found-in s (take (length b - s) (drop s b)) name flags → v ≡ lookup e b name flags
+  unfolding lookup
   looked-at {s} {m} h q =
       let z = if-passed e b (asked-code e b name flags) s m h in q ∙ rw (lent-fork e b s (z .1), z .1, z .0)
 
-  pub looked-refused : {n : ℕ} → Fork-refused n ≡ fork-if (asked-code e b name flags) e b → Refused n ≡ looked-up e b name flags
-  unfolding looked-up
+  pub looked-refused : {n : ℕ} → Fork-refused n ≡ fork-if (asked-code e b name flags) e b → Refused n ≡ lookup e b name flags
+  unfolding lookup
   looked-refused {n} h =
       let z = if-refused e b (asked-code e b name flags) n h in
       ap (λ (x : ℕ). Refused x) (z .0) ∙ rw (ne-eqb (asked-code e b name flags) 0 (z .1))
 
   -- a value that is found lies in the inode
-  pub looked-inside : {a n : ℕ} → At a n ≡ looked-up e b name flags → a + n ≤ length b
-  unfolding looked-up
+  pub looked-inside : {a n : ℕ} → At a n ≡ lookup e b name flags → a + n ≤ length b
+  unfolding lookup
   looked-inside {a} {n} h =
       by-cases (eqb (asked-code e b name flags) 0)
       (λ q.
-      let t : attr-code e b ≡ 0 = tests-passed e b name flags (eqb-true _ _ q) in
+      let t : verdict e b ≡ 0 = tests-passed e b name flags (eqb-true _ _ q) in
       omega (arith, found-inside (attr-fork e b) name flags (attr-start e b) a n (fork-passed e b t) (rw q at h), fork-length e b (inode-passed e b t)))
       (λ q. absurd (at-never (rw q at h)))
 
 -- its number
-pub code-is : (e : Edition) (b name : List ℕ) (flags : ℕ) → place-code (looked-up e b name flags) ≡ found-code e b name flags
-unfolding looked-up found-in found-code held-code
+pub code-is : (e : Edition) (b name : List ℕ) (flags : ℕ) → place-code (lookup e b name flags) ≡ lookup-code e b name flags
+unfolding lookup found-in lookup-code held-request
 code-is e b name flags =
     by-cases (eqb (asked-code e b name flags) 0)
     (λ q. by-cases (held (attr-fork e b) name flags) (λ h. rw (q, h)) (λ h. rw (q, h))) (λ q. rw q)
 
 module _ (e : Edition) (b name : List ℕ) (flags : ℕ) (a : asked-code e b name flags ≡ 0) where
-  z : fork-code (attr-fork e b) ≡ 0
+  z : fork-verdict (attr-fork e b) ≡ 0
   z = fork-passed e b (tests-passed e b name flags a)
 
   looked-found : held (attr-fork e b) name flags ≡ true
-      → part-of b (looked-up e b name flags) ≡ entry-at (attr-fork e b) (place-of (attr-fork e b) name flags) .value
-  unfolding looked-up found-in
+      → part-of b (lookup e b name flags) ≡ entry-at (attr-fork e b) (place-of (attr-fork e b) name flags) .value
+  unfolding lookup found-in
   looked-found q =
       let r = attr-at (attr-start e b) (attr-fork e b) (place-of (attr-fork e b) name flags) in
       rw (a, q) (part-at-is b (r .«value_start») (r .«value_len») ∙ parts-law e b (place-of (attr-fork e b) name flags) .1)
 
-  looked-none : held (attr-fork e b) name flags ≡ false → looked-up e b name flags ≡ Refused ABSENT
-  unfolding looked-up found-in
+  looked-none : held (attr-fork e b) name flags ≡ false → lookup e b name flags ≡ Refused ABSENT
+  unfolding lookup found-in
   looked-none q = rw (a, q)
 
-  pub absent-if : some-of (is-key name flags) (stored (attr-fork e b)) ≡ false → looked-up e b name flags ≡ Refused ABSENT
+  pub absent-if : some-of (is-key name flags) (stored (attr-fork e b)) ≡ false → lookup e b name flags ≡ Refused ABSENT
   absent-if n = looked-none (held-some (attr-fork e b) name flags z ∙ n)
 
-  pub value-by : part-of b (looked-up e b name flags) ≡ value-among (keep (is-key name flags) (stored (attr-fork e b)))
+  pub value-by : part-of b (lookup e b name flags) ≡ value-among (keep (is-key name flags) (stored (attr-fork e b)))
   unfolding value-among
   value-by =
       by-cases (held (attr-fork e b) name flags)
@@ -131,8 +131,8 @@ module _ (e : Edition) (b name : List ℕ) (flags : ℕ) (a : asked-code e b nam
       ∙ ap value-among (sym (kept-found (attr-fork e b) name flags z p)))
       (λ q. rw (looked-none q, kept-none (attr-fork e b) name flags z q))
 
-  pub code-by : place-code (looked-up e b name flags) ≡ code-among (keep (is-key name flags) (stored (attr-fork e b)))
-  unfolding code-among found-code held-code
+  pub code-by : place-code (lookup e b name flags) ≡ code-among (keep (is-key name flags) (stored (attr-fork e b)))
+  unfolding code-among lookup-code held-request
   code-by =
       code-is e b name flags
       ∙ by-cases (held (attr-fork e b) name flags)
@@ -141,9 +141,9 @@ module _ (e : Edition) (b name : List ℕ) (flags : ℕ) (a : asked-code e b nam
 
 -- ---- a lookup that finds
 
-found-asked : (e : Edition) (b name : List ℕ) (flags : ℕ) → place-code (looked-up e b name flags) ≡ 0
+found-asked : (e : Edition) (b name : List ℕ) (flags : ℕ) → place-code (lookup e b name flags) ≡ 0
     → (asked-code e b name flags ≡ 0) × (held (attr-fork e b) name flags ≡ true)
-unfolding looked-up found-in
+unfolding lookup found-in
 found-asked e b name flags h =
     by-cases (eqb (asked-code e b name flags) 0)
     (λ q. (eqb-true _ _ q, by-cases (held (attr-fork e b) name flags) (λ k. k) (λ k. let n : _≡_ {A = ℕ} 13 0 = rw (q, k) at h in absurd (omega arith))))
@@ -153,7 +153,7 @@ pub found-law : Found-law
 unfolding stored
 found-law e b name flags h =
     let k = found-asked e b name flags h in
-    let z : fork-code (attr-fork e b) ≡ 0 = fork-passed e b (tests-passed e b name flags (k .0)) in
+    let z : fork-verdict (attr-fork e b) ≡ 0 = fork-passed e b (tests-passed e b name flags (k .0)) in
     let p : place-of (attr-fork e b) name flags < totsize (attr-fork e b) = held-place (attr-fork e b) name flags z (k .1) in
     let s = splits (attr-fork e b) name flags z p .around in
     record {
@@ -182,8 +182,8 @@ module _ (e : Edition) (b : List ℕ) where
   unfolding attributes-code
   attributes-le = cond-le (eqb (inode-code e b) 0) _ (inode-code e b) 11 (cond-le (attributes-ok b) 0 3 11 (omega arith) (omega arith)) inode-le
 
-  fork-le : (f : List ℕ) → fork-code f ≤ 11
-  unfolding fork-code
+  fork-le : (f : List ℕ) → fork-verdict f ≤ 11
+  unfolding fork-verdict
   fork-le f =
       cond-le (span-ok f) _ 4 11
       (cond-le (tile-ok f) _ 5 11
@@ -191,18 +191,18 @@ module _ (e : Edition) (b : List ℕ) where
       (cond-le (flags-ok f) _ 7 11 (cond-le (once-ok f) 0 10 11 (omega arith) (omega arith)) (omega arith)) (omega arith)) (omega arith)) (omega arith)
 
   asked-le : (name : List ℕ) (flags : ℕ) → asked-code e b name flags ≤ 11
-  unfolding asked-code attr-code
+  unfolding asked-code verdict
   asked-le name flags =
-      let t : attr-code e b ≤ 11 = cond-le (eqb (attributes-code e b) 0) _ (attributes-code e b) 11 (fork-le (attr-fork e b)) attributes-le in
-      cond-le (eqb (attr-code e b) 0) _ (attr-code e b) 11 (cond-le (legal-key name flags) 0 11 11 (omega arith) (omega arith)) t
+      let t : verdict e b ≤ 11 = cond-le (eqb (attributes-code e b) 0) _ (attributes-code e b) 11 (fork-le (attr-fork e b)) attributes-le in
+      cond-le (eqb (verdict e b) 0) _ (verdict e b) 11 (cond-le (legal-key name flags) 0 11 11 (omega arith) (omega arith)) t
 
 pub absent-law : Absent-law
-unfolding found-code held-code
+unfolding lookup-code held-request
 absent-law e b name flags h =
-    let n : found-code e b name flags ≡ 13 = sym (code-is e b name flags) ∙ ap place-code h in
+    let n : lookup-code e b name flags ≡ 13 = sym (code-is e b name flags) ∙ ap place-code h in
     by-cases (eqb (asked-code e b name flags) 0)
     (λ q.
-    let z : fork-code (attr-fork e b) ≡ 0 = fork-passed e b (tests-passed e b name flags (eqb-true _ _ q)) in
+    let z : fork-verdict (attr-fork e b) ≡ 0 = fork-passed e b (tests-passed e b name flags (eqb-true _ _ q)) in
     by-cases (held (attr-fork e b) name flags) (λ k. let m : _≡_ {A = ℕ} 0 13 = rw (q, k) at n in absurd (omega arith))
     (λ k. sym (held-some (attr-fork e b) name flags z) ∙ k))
     (λ q. let m : asked-code e b name flags ≡ 13 = rw q at n in absurd (omega (arith, asked-le e b name flags)))

@@ -11,7 +11,7 @@ use Rattle.edition.specs.declared.Edition.{Edition}
 use Rattle.dinode.specs.Core.{attr-fork}
 use Rattle.attr_sf.specs.Entry.{Entry, entry, is-key, others}
 use Rattle.attr_sf.specs.Fork.{stored}
-use Rattle.attr_sf.specs.Calls.{attr-code, asked-code, changed, after-set, after-remove}
+use Rattle.attr_sf.specs.Calls.{verdict, asked-code, changed, set-bytes, remove-bytes}
 use Rattle.attr_sf.specs.Laws.{Alike, Unmoved-law, Refusal-law}
 use Rattle.attr_sf.proofs.InodeTests.{asked-legal, still-asked}
 use Rattle.attr_sf.proofs.OtherEntries.{key-own, key-is}
@@ -40,7 +40,7 @@ new-apart name flags value m h d =
     (λ k. absurd (clash (key-own flags name value) (apart name flags m h (entry flags name value) d k)))
     (λ k. k)
 
-alike : (e : Edition) (b c m : List ℕ) (h : ℕ) → attr-code e c ≡ 0 → asked-code e b m h ≡ 0
+alike : (e : Edition) (b c m : List ℕ) (h : ℕ) → verdict e c ≡ 0 → asked-code e b m h ≡ 0
     → keep (is-key m h) (stored (attr-fork e c)) ≡ keep (is-key m h) (stored (attr-fork e b)) → Alike e b c m h
 alike e b c m h t a q =
     let k : asked-code e c m h ≡ 0 = still-asked e c m h t (asked-legal e b m h a) in
@@ -53,12 +53,12 @@ pub unmoved-law : Unmoved-law
 unmoved-law e sane b name flags value m h d a = (
   λ q.
       let s = set-law e sane b name flags value q in
-      alike e b (after-set e b name flags value) m h (s .left .accepted) a
+      alike e b (set-bytes e b name flags value) m h (s .left .accepted) a
       (ap (keep (is-key m h)) (s .rest) ∙ keep-append (is-key m h) (others name flags (stored (attr-fork e b))) (entry flags name value ∷ [])
       ∙ rw (new-apart name flags value m h d, append-nil) (keep-others name flags m h (stored (attr-fork e b)) d)),
   λ y q.
       let s = removal-law e sane b name flags y q in
-      alike e b (after-remove e b name flags) m h (s .left .accepted) a
+      alike e b (remove-bytes e b name flags) m h (s .left .accepted) a
       (ap (keep (is-key m h)) (s .rest) ∙ keep-others name flags m h (stored (attr-fork e b)) d),
 )
 
@@ -67,5 +67,5 @@ unfolding changed
 unchanged e b n xs h = rw (ne-eqb n 0 h)
 
 pub refusal-law : Refusal-law
-unfolding after-set after-remove
+unfolding set-bytes remove-bytes
 refusal-law e b name flags value = (λ h. unchanged e b _ _ h, λ h. unchanged e b _ _ h)

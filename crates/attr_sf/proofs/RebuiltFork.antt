@@ -16,7 +16,7 @@ use Rattle.be.proofs.Numbers.{length-to-be, be-to-be}
 use Rattle.be.proofs.Parts.{part-at, part-length, field-1}
 use Rattle.records.specs.Records.{start, tiled}
 use Rattle.attr_sf.specs.Entry.{Entry, distinct, run}
-use Rattle.attr_sf.specs.Fork.{header, totsize, count, stored, size-at, name-legal-of, flags-legal-of, span-ok, tile-ok, names-ok, flags-ok, once-ok, fork-code, fork-with, fits}
+use Rattle.attr_sf.specs.Fork.{header, totsize, count, stored, size-at, name-legal-of, flags-legal-of, span-ok, tile-ok, names-ok, flags-ok, once-ok, fork-verdict, fork-with, fits}
 use Rattle.attr_sf.proofs.ReadBack.{read-entries, read-ends}
 
 -- the header that is written
@@ -93,8 +93,8 @@ module _ (f : List ℕ) (es : List Entry) where
         eq-eqb (start (size-at (fork-with f es)) (count (fork-with f es)) header) (totsize (fork-with f es))
         (rw (with-count, with-totsize, with-is, ← head-length) (read-ends es (head-of f es) (unused f es)))
 
-    pub with-passes : every name-legal-of es ≡ true → every flags-legal-of es ≡ true → distinct es ≡ true → fork-code (fork-with f es) ≡ 0
-    unfolding fork-code span-ok tile-ok names-ok flags-ok once-ok
+    pub with-passes : every name-legal-of es ≡ true → every flags-legal-of es ≡ true → distinct es ≡ true → fork-verdict (fork-with f es) ≡ 0
+    unfolding fork-verdict span-ok tile-ok names-ok flags-ok once-ok
     with-passes n g d =
         let a : leb header (length (fork-with f es)) ≡ true = le-leb header (length (fork-with f es)) (omega (arith, with-length)) in
         let b : leb header (totsize (fork-with f es)) ≡ true = le-leb header (totsize (fork-with f es)) (omega (arith, with-totsize)) in

@@ -13,15 +13,15 @@ use Rattle.edition.specs.Edition.{Sane}
 use Rattle.edition.specs.declared.Edition.{Edition}
 use Rattle.dinode.specs.Core.{attributes-code, attr-start, attr-fork}
 use Rattle.attr_sf.specs.Entry.{Entry, distinct}
-use Rattle.attr_sf.specs.Fork.{header, stored, fork-code, fork-with, fits, name-legal-of, flags-legal-of}
-use Rattle.attr_sf.specs.Calls.{attr-code, changed}
+use Rattle.attr_sf.specs.Fork.{header, stored, fork-verdict, fork-with, fits, name-legal-of, flags-legal-of}
+use Rattle.attr_sf.specs.Calls.{verdict, changed}
 use Rattle.attr_sf.specs.Laws.{Kept}
 use Rattle.attr_sf.proofs.ForkTests.{long}
 use Rattle.attr_sf.proofs.InodeTests.{inode-passed, fork-passed, fork-length, inode-short}
 use Rattle.attr_sf.proofs.RebuiltFork.{with-pad, with-unused, with-length, with-stored, with-passes}
 use Rattle.attr_sf.proofs.RewrittenInode.{code-kept, fork-kept, outside-kept}
 
-module _ (e : Edition) (sane : Sane e) (b : List ℕ) (t : attr-code e b ≡ 0) (n : ℕ) (done : n ≡ 0) (xs : List Entry) (w : fits (attr-fork e b) xs ≡ true) where
+module _ (e : Edition) (sane : Sane e) (b : List ℕ) (t : verdict e b ≡ 0) (n : ℕ) (done : n ≡ 0) (xs : List Entry) (w : fits (attr-fork e b) xs ≡ true) where
   i : attributes-code e b ≡ 0
   i = inode-passed e b t
 
@@ -45,11 +45,11 @@ module _ (e : Edition) (sane : Sane e) (b : List ℕ) (t : attr-code e b ≡ 0) 
   new-stored = ap stored new-fork ∙ with-stored (attr-fork e b) xs f-long f-short w
 
   pub new-kept : every name-legal-of xs ≡ true → every flags-legal-of xs ≡ true → distinct xs ≡ true → Kept e b (changed e b n xs)
-  unfolding attr-code
+  unfolding verdict
   new-kept p g d =
       let k : attributes-code e (changed e b n xs) ≡ 0 = ap (attributes-code e) is-put ∙ code-kept e sane b i (fork-with (attr-fork e b) xs) new-length in
       record {
-        accepted = rw k (ap fork-code new-fork ∙ with-passes (attr-fork e b) xs f-long f-short w p g d);
+        accepted = rw k (ap fork-verdict new-fork ∙ with-passes (attr-fork e b) xs f-long f-short w p g d);
         long = ap length is-put ∙ length-put b (attr-start e b) (fork-with (attr-fork e b) xs);
         outside = ap (take (attr-start e b)) is-put ∙ outside-kept e sane b i (fork-with (attr-fork e b) xs) new-length;
         pad = ap (byte 3) new-fork ∙ with-pad (attr-fork e b) xs f-long f-short w;

@@ -14,8 +14,8 @@ use Rattle.be.proofs.Parts.{bytes-drop, field-lt, field-1}
 use Rattle.be.proofs.Codes.{both}
 use Rattle.dinode.specs.Core.{attr-start, attr-fork}
 use Rattle.attr_sf.specs.Entry.{Entry, entry-bytes, is-key, others, run}
-use Rattle.attr_sf.specs.Fork.{header, count, stored, fork-code, fits, name-legal-of, flags-legal-of}
-use Rattle.attr_sf.specs.Calls.{attr-code, asked-code, held-code, found-code, after-remove}
+use Rattle.attr_sf.specs.Fork.{header, count, stored, fork-verdict, fits, name-legal-of, flags-legal-of}
+use Rattle.attr_sf.specs.Calls.{verdict, asked-code, held-request, lookup-code, remove-bytes}
 use Rattle.attr_sf.specs.Laws.{Removal-law}
 use Rattle.attr_sf.proofs.ForkTests.{long, end-above, end-inside, all-named, all-flagged, all-once}
 use Rattle.attr_sf.proofs.InodeTests.{fork-passed, tests-passed, asked-legal, still-asked}
@@ -44,7 +44,7 @@ count-byte : (f : List ℕ) → bytes f ≡ true → header ≤ length f → cou
 unfolding count
 count-byte f y l = omega (arith, field-1 f 2, field-lt 2 1 f y (omega arith))
 
-others-fit : (f name : List ℕ) (flags : ℕ) → bytes f ≡ true → fork-code f ≡ 0 → fits f (others name flags (stored f)) ≡ true
+others-fit : (f name : List ℕ) (flags : ℕ) → bytes f ≡ true → fork-verdict f ≡ 0 → fits f (others name flags (stored f)) ≡ true
 unfolding fits
 others-fit f name flags y z =
     let a : length (others name flags (stored f)) ≤ length (stored f) = others-length name flags (stored f) in
@@ -52,23 +52,23 @@ others-fit f name flags y z =
     rw (le-leb (length (others name flags (stored f))) 255 (omega (arith, number f name flags z, count-byte f y (long f z))), le-leb (header + length (run (others name flags (stored f)))) (length f) (omega (arith, body-length f name flags z, end-inside f z, end-above f z)))
 
 pub removal-law : Removal-law
-unfolding found-code after-remove attr-fork
+unfolding lookup-code remove-bytes attr-fork
 removal-law e sane b name flags y q =
-    let p = both (asked-code e b name flags) (held-code (attr-fork e b) name flags) q in
-    let t : attr-code e b ≡ 0 = tests-passed e b name flags (p .0) in
-    let z : fork-code (attr-fork e b) ≡ 0 = fork-passed e b t in
+    let p = both (asked-code e b name flags) (held-request (attr-fork e b) name flags) q in
+    let t : verdict e b ≡ 0 = tests-passed e b name flags (p .0) in
+    let z : fork-verdict (attr-fork e b) ≡ 0 = fork-passed e b t in
     let k = asked-legal e b name flags (p .0) in
     let w : fits (attr-fork e b) (others name flags (stored (attr-fork e b))) ≡ true = others-fit (attr-fork e b) name flags (bytes-drop (attr-start e b) b y) z in
     let kept =
-    new-kept e sane b t (found-code e b name flags) q (others name flags (stored (attr-fork e b))) w
+    new-kept e sane b t (lookup-code e b name flags) q (others name flags (stored (attr-fork e b))) w
     (others-every name flags name-legal-of (stored (attr-fork e b)) (all-named (attr-fork e b) z))
     (others-every name flags flags-legal-of (stored (attr-fork e b)) (all-flagged (attr-fork e b) z))
     (others-distinct name flags (stored (attr-fork e b)) (all-once (attr-fork e b) z)) in
-    let st = new-stored e sane b t (found-code e b name flags) q (others name flags (stored (attr-fork e b))) w in
+    let st = new-stored e sane b t (lookup-code e b name flags) q (others name flags (stored (attr-fork e b))) w in
     record {
       left = kept;
       rest = st;
       gone =
-          absent-if e (after-remove e b name flags) name flags (still-asked e (after-remove e b name flags) name flags (kept .accepted) k)
+          absent-if e (remove-bytes e b name flags) name flags (still-asked e (remove-bytes e b name flags) name flags (kept .accepted) k)
           (ap (some-of (is-key name flags)) st ∙ others-none name flags (stored (attr-fork e b)));
     }

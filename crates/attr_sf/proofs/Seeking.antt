@@ -16,7 +16,7 @@ use Rattle.records.specs.Records.{tiled}
 use Rattle.attr_sf.specs.declared.Place.{Place}
 use Rattle.attr_sf.specs.declared.Place.the-variants.{At, Refused}
 use Rattle.attr_sf.specs.declared.Plan.{Plan}
-use Rattle.attr_sf.specs.Fork.{header, totsize, count, size-at, fork-code, place-of, seek}
+use Rattle.attr_sf.specs.Fork.{header, totsize, count, size-at, fork-verdict, place-of, seek}
 use Rattle.attr_sf.specs.Calls.{held, found-in, attr-at}
 use Rattle.attr_sf.specs.Plan.{plan-of}
 use Rattle.attr_sf.proofs.Tiling.{three, seek-count, seek-fits, seek-within, value-inside}
@@ -27,29 +27,29 @@ pub at-never : {a n k : ℕ} → _≡_ {A = Place} (At a n) (Refused k) → ⊥
 at-never h = let q : _≡_ {A = ℕ} 0 1 = cc in omega arith
 
 -- the entries' end and count, as they are read
-pub seek-may : (f : List ℕ) {end n : ℕ} → end ≡ field 0 2 f → n ≡ byte 2 f → fork-code f ≡ 0 → (tiled (size-at f) end n header ≡ true) × (end ≤ length f)
+pub seek-may : (f : List ℕ) {end n : ℕ} → end ≡ field 0 2 f → n ≡ byte 2 f → fork-verdict f ≡ 0 → (tiled (size-at f) end n header ≡ true) × (end ≤ length f)
 unfolding totsize count
 seek-may f e m z = rw (e, m) (all-tiled f z, end-inside f z)
 
 module _ (f name : List ℕ) (flags : ℕ) where
-  pub place-fits : fork-code f ≡ 0 → place-of f name flags < totsize f → place-of f name flags + size-at f (place-of f name flags) ≤ totsize f
+  pub place-fits : fork-verdict f ≡ 0 → place-of f name flags < totsize f → place-of f name flags + size-at f (place-of f name flags) ≤ totsize f
   unfolding place-of
   place-fits z h = rw (← all-ends f z) (seek-fits f name flags (count f) header (rw (← all-ends f z) at h))
 
-  pub count-above : fork-code f ≡ 0 → place-of f name flags < totsize f → 1 ≤ count f
+  pub count-above : fork-verdict f ≡ 0 → place-of f name flags < totsize f → 1 ≤ count f
   unfolding place-of
   count-above z h = seek-count f name flags (count f) header (rw (← all-ends f z) at h)
 
-  pub place-within : fork-code f ≡ 0 → place-of f name flags ≤ totsize f
+  pub place-within : fork-verdict f ≡ 0 → place-of f name flags ≤ totsize f
   unfolding place-of
   place-within z = rw (← all-ends f z) (seek-within f name flags (count f) header)
 
   -- as it is read
-  pub place-is : {n r : ℕ} → n ≡ byte 2 f → fork-code f ≡ 0 → r ≡ seek f name flags n header → (r ≡ place-of f name flags) × (r ≤ totsize f)
+  pub place-is : {n r : ℕ} → n ≡ byte 2 f → fork-verdict f ≡ 0 → r ≡ seek f name flags n header → (r ≡ place-of f name flags) × (r ≤ totsize f)
   unfolding place-of count
   place-is {n} {r} m z h = let q : r ≡ place-of f name flags = h ∙ rw m in (q, rw q (place-within z))
 
-  module _ {p t : ℕ} (q : p ≡ place-of f name flags) (d : t ≡ field 0 2 f) (h : p < t) (z : fork-code f ≡ 0) where
+  module _ {p t : ℕ} (q : p ≡ place-of f name flags) (d : t ≡ field 0 2 f) (h : p < t) (z : fork-verdict f ≡ 0) where
     below : place-of f name flags < totsize f
     unfolding totsize
     below = rw (q, d) at h
@@ -74,7 +74,7 @@ module _ (f name : List ℕ) (flags : ℕ) where
   found-not s {p} {t} q d h = rw (← q, ← d, le-ltb p t h)
 
   -- a value that is found lies in the fork that starts at s
-  pub found-inside : (s a n : ℕ) → fork-code f ≡ 0 → At a n ≡ found-in s f name flags → a + n ≤ s + length f
+  pub found-inside : (s a n : ℕ) → fork-verdict f ≡ 0 → At a n ≡ found-in s f name flags → a + n ≤ s + length f
   unfolding found-in held attr-at
   found-inside s a n z h =
       by-cases (ltb (place-of f name flags) (totsize f))

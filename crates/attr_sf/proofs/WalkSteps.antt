@@ -20,9 +20,9 @@ use Rattle.attr_sf.specs.declared.Seen.the-variants.{Live, End}
 use Rattle.attr_sf.specs.declared.Step.{Step}
 use Rattle.attr_sf.specs.declared.Walked.{Walked}
 use Rattle.attr_sf.specs.declared.Walked.the-variants.{Stepped, Refused}
-use Rattle.attr_sf.specs.Fork.{fork-code, header, totsize, count, size-at}
-use Rattle.attr_sf.specs.Calls.{attr-code, attr-at, fork-if}
-use Rattle.attr_sf.specs.Walk.{live-step, end-step, step-in, walked-in, walked, step-code, walked-code}
+use Rattle.attr_sf.specs.Fork.{fork-verdict, header, totsize, count, size-at}
+use Rattle.attr_sf.specs.Calls.{verdict, attr-at, fork-if}
+use Rattle.attr_sf.specs.Walk.{live-step, end-step, step-in, walked-in, walk-step, step-code, walked-code}
 use Rattle.attr_sf.proofs.ForkTests.{all-ends, end-inside}
 use Rattle.attr_sf.proofs.InodeTests.{lent-fork, if-passed, if-refused}
 
@@ -39,7 +39,7 @@ live-is s f place n v g z a b d h = rw (a, b, d, h)
 module _ (f : List ℕ) (place : ℕ) where
   -- as the code reads the entries' end and count
   module _ {end n : ℕ} (e : end ≡ field 0 2 f) (m : n ≡ byte 2 f) where
-    pub walk-fits : fork-code f ≡ 0 → stands (size-at f) n header place ≡ true → (place ≡ end → ⊥) → place + size-at f place ≤ length f
+    pub walk-fits : fork-verdict f ≡ 0 → stands (size-at f) n header place ≡ true → (place ≡ end → ⊥) → place + size-at f place ≤ length f
     unfolding totsize count
     walk-fits z h d =
         omega (arith, stands-fits (size-at f) place (count f) header (rw m at h) (λ q. d (q ∙ all-ends f z ∙ sym e)), all-ends f z, end-inside f z)
@@ -58,18 +58,18 @@ module _ (f : List ℕ) (place : ℕ) where
       walk-live h q r = rw (← m, ← e, h, ne-eqb place end q, r)
 
 module _ (e : Edition) (b : List ℕ) (place : ℕ) where
-  pub walked-at : (s m : ℕ) (r : Walked) → At s m ≡ fork-if (attr-code e b) e b → r ≡ walked-in s (take (length b - s) (drop s b)) place → r ≡ walked e b place
-  unfolding walked
+  pub walked-at : (s m : ℕ) (r : Walked) → At s m ≡ fork-if (verdict e b) e b → r ≡ walked-in s (take (length b - s) (drop s b)) place → r ≡ walk-step e b place
+  unfolding walk-step
   walked-at s m r h q =
-      let z = if-passed e b (attr-code e b) s m h in q ∙ rw (lent-fork e b s (z .1), z .1, z .0)
+      let z = if-passed e b (verdict e b) s m h in q ∙ rw (lent-fork e b s (z .1), z .1, z .0)
 
-  pub walked-refused : (n : ℕ) → Fork-refused n ≡ fork-if (attr-code e b) e b → Refused n ≡ walked e b place
-  unfolding walked
-  walked-refused n h = let z = if-refused e b (attr-code e b) n h in ap (λ (x : ℕ). Refused x) (z .0) ∙ rw (ne-eqb (attr-code e b) 0 (z .1))
+  pub walked-refused : (n : ℕ) → Fork-refused n ≡ fork-if (verdict e b) e b → Refused n ≡ walk-step e b place
+  unfolding walk-step
+  walked-refused n h = let z = if-refused e b (verdict e b) n h in ap (λ (x : ℕ). Refused x) (z .0) ∙ rw (ne-eqb (verdict e b) 0 (z .1))
 
   -- a step's number
-  pub step-is : walked-code (walked e b place) ≡ step-code e b place
-  unfolding walked walked-in step-code
+  pub step-is : walked-code (walk-step e b place) ≡ step-code e b place
+  unfolding walk-step walked-in step-code
   step-is =
-      by-cases (eqb (attr-code e b) 0)
+      by-cases (eqb (verdict e b) 0)
       (λ q. by-cases (stands (size-at (attr-fork e b)) (count (attr-fork e b)) header place) (λ h. rw (q, h)) (λ h. rw (q, h))) (λ q. rw q)

@@ -13,28 +13,28 @@ use Rattle.dinode.specs.Core.{attr-start, attr-fork}
 use Rattle.attr_sf.specs.declared.Walked.{Walked}
 use Rattle.attr_sf.specs.declared.Walked.the-variants.{Stepped}
 use Rattle.attr_sf.specs.Fork.{header, totsize, count, stored, size-at}
-use Rattle.attr_sf.specs.Calls.{attr-code}
-use Rattle.attr_sf.specs.Walk.{live-step, end-step, step-in, walked-in, walked, walk}
+use Rattle.attr_sf.specs.Calls.{verdict}
+use Rattle.attr_sf.specs.Walk.{live-step, end-step, step-in, walked-in, walk-step, walk}
 use Rattle.attr_sf.specs.Laws.{Walk-law, Places-law}
 use Rattle.attr_sf.proofs.ForkTests.{all-ends}
 use Rattle.attr_sf.proofs.InodeTests.{fork-passed}
 use Rattle.attr_sf.proofs.Tiling.{three}
 
-module _ (e : Edition) (b : List ℕ) (t : attr-code e b ≡ 0) where
-  step-end : (at : ℕ) → stands (size-at (attr-fork e b)) (count (attr-fork e b)) header at ≡ true → at ≡ totsize (attr-fork e b) → walked e b at ≡ Stepped (end-step at)
-  unfolding walked walked-in step-in
+module _ (e : Edition) (b : List ℕ) (t : verdict e b ≡ 0) where
+  step-end : (at : ℕ) → stands (size-at (attr-fork e b)) (count (attr-fork e b)) header at ≡ true → at ≡ totsize (attr-fork e b) → walk-step e b at ≡ Stepped (end-step at)
+  unfolding walk-step walked-in step-in
   step-end at s q = rw (t, s, eq-eqb at (totsize (attr-fork e b)) q)
 
   step-live : (at : ℕ) → stands (size-at (attr-fork e b)) (count (attr-fork e b)) header at ≡ true → (at ≡ totsize (attr-fork e b) → ⊥)
-      → walked e b at ≡ Stepped (live-step (attr-start e b) (attr-fork e b) at)
-  unfolding walked walked-in step-in
+      → walk-step e b at ≡ Stepped (live-step (attr-start e b) (attr-fork e b) at)
+  unfolding walk-step walked-in step-in
   step-live at s q = rw (t, s, ne-eqb at (totsize (attr-fork e b)) q)
 
-  walk-stop : (k at : ℕ) → walked e b at ≡ Stepped (end-step at) → walk e b (suc k) at ≡ Stepped (end-step at) ∷ []
+  walk-stop : (k at : ℕ) → walk-step e b at ≡ Stepped (end-step at) → walk e b (suc k) at ≡ Stepped (end-step at) ∷ []
   unfolding walk end-step
   walk-stop k at q = rw q
 
-  walk-on : (k at : ℕ) → walked e b at ≡ Stepped (live-step (attr-start e b) (attr-fork e b) at)
+  walk-on : (k at : ℕ) → walk-step e b at ≡ Stepped (live-step (attr-start e b) (attr-fork e b) at)
       → walk e b (suc k) at ≡ Stepped (live-step (attr-start e b) (attr-fork e b) at) ∷ walk e b k (at + size-at (attr-fork e b) at)
   unfolding walk live-step
   walk-on k at q = rw q
@@ -50,7 +50,7 @@ module _ (e : Edition) (b : List ℕ) (t : attr-code e b ≡ 0) where
   walks (suc n) at k d h =
       let f : List ℕ = attr-fork e b in
       let q : suc n + 1 + k ≡ suc (n + 1 + k) = omega arith in
-      let l : walked e b at ≡ Stepped (live-step (attr-start e b) f at) =
+      let l : walk-step e b at ≡ Stepped (live-step (attr-start e b) f at) =
       step-live at (h at (stands-first (size-at f) (suc n) at)) (λ q. omega (arith, three f at, start-above (size-at f) n (at + size-at f at))) in
       ap (λ (m : ℕ). walk e b m at) q ∙ walk-on (n + 1 + k) at l
       ∙ ap (λ (x : List Walked). Stepped (live-step (attr-start e b) f at) ∷ x) (walks n (at + size-at f at) k d (λ x s. h x (stands-later (size-at f) x n at s)))

@@ -13,7 +13,7 @@ use Rattle.dinode.specs.Core.{attributes-code, attr-start, attr-length, attr-fo
 use Rattle.dinode.specs.declared.Fork.{Fork}
 use Rattle.dinode.specs.declared.Fork.the-variants.{At as Fork-at, Refused as Fork-refused}
 use Rattle.attr_sf.specs.Entry.{Entry, entry, legal-key, others}
-use Rattle.attr_sf.specs.Fork.{totsize, stored, fork-code, place-of, fork-with, fits}
+use Rattle.attr_sf.specs.Fork.{totsize, stored, fork-verdict, place-of, fork-with, fits}
 use Rattle.attr_sf.specs.declared.Attr.{Attr}
 use Rattle.attr_sf.specs.declared.Place.{Place}
 use Rattle.attr_sf.specs.declared.Place.the-variants.{At, Refused}
@@ -21,12 +21,12 @@ use Rattle.attr_sf.specs.declared.Place.the-variants.{At, Refused}
 -- ---- the tests
 
 -- the first test of the inode and its attribute fork that fails; 0 when none does
-unfoldable pub attr-code : Edition → List ℕ → ℕ
-attr-code e b = attributes-code e b and-then fork-code (attr-fork e b)
+unfoldable pub verdict : Edition → List ℕ → ℕ
+verdict e b = attributes-code e b and-then fork-verdict (attr-fork e b)
 
 -- 11 ASKED: the caller's name or flags are not legal
 unfoldable pub asked-code : Edition → List ℕ → List ℕ → ℕ → ℕ
-asked-code e b name flags = attr-code e b and-then ASKED unless legal-key name flags then 0
+asked-code e b name flags = verdict e b and-then ASKED unless legal-key name flags then 0
 
 -- where the attribute fork lies, or the tests' number (inner: no public promise cites it)
 unfoldable pub fork-if : ℕ → Edition → List ℕ → Fork
@@ -39,11 +39,11 @@ unfoldable pub held : List ℕ → List ℕ → ℕ → Bool
 held f name flags = ltb (place-of f name flags) (totsize f)
 
 -- 13 ABSENT: lookup or removal: no such live entry
-unfoldable pub held-code : List ℕ → List ℕ → ℕ → ℕ
-held-code f name flags = ABSENT unless held f name flags then 0
+unfoldable pub held-request : List ℕ → List ℕ → ℕ → ℕ
+held-request f name flags = ABSENT unless held f name flags then 0
 
-unfoldable pub found-code : Edition → List ℕ → List ℕ → ℕ → ℕ
-found-code e b name flags = asked-code e b name flags and-then held-code (attr-fork e b) name flags
+unfoldable pub lookup-code : Edition → List ℕ → List ℕ → ℕ → ℕ
+lookup-code e b name flags = asked-code e b name flags and-then held-request (attr-fork e b) name flags
 
 -- the entry at a place of the fork that starts at s: where its name and its value lie in the inode
 unfoldable pub attr-at : ℕ → List ℕ → ℕ → Attr
@@ -62,8 +62,8 @@ found-in s f name flags =
     let a = attr-at s f (place-of f name flags) in cond (held f name flags) (At (a .«value_start») (a .«value_len»)) (Refused ABSENT)
 
 -- what a lookup answers: where the value lies in the inode, or the refusal
-unfoldable pub looked-up : Edition → List ℕ → List ℕ → ℕ → Place
-looked-up e b name flags =
+unfoldable pub lookup : Edition → List ℕ → List ℕ → ℕ → Place
+lookup e b name flags =
     cond (eqb (asked-code e b name flags) 0) (found-in (attr-start e b) (attr-fork e b) name flags) (Refused (asked-code e b name flags))
 
 -- a lookup's number, 0 where there is a value
@@ -93,11 +93,11 @@ set-entries name flags value xs = others name flags xs ++ (entry flags name valu
 unfoldable pub has-room : List ℕ → List ℕ → ℕ → List ℕ → Bool
 has-room f name flags value = leb (length value) 255 && fits f (set-entries name flags value (stored f))
 
-unfoldable pub room-code : List ℕ → List ℕ → ℕ → List ℕ → ℕ
-room-code f name flags value = NOROOM unless has-room f name flags value then 0
+unfoldable pub room-request : List ℕ → List ℕ → ℕ → List ℕ → ℕ
+room-request f name flags value = NOROOM unless has-room f name flags value then 0
 
 unfoldable pub set-code : Edition → List ℕ → List ℕ → ℕ → List ℕ → ℕ
-set-code e b name flags value = asked-code e b name flags and-then room-code (attr-fork e b) name flags value
+set-code e b name flags value = asked-code e b name flags and-then room-request (attr-fork e b) name flags value
 
 -- the fork after a change with this number and these entries
 unfoldable pub fork-changed : List ℕ → ℕ → List Entry → List ℕ
@@ -107,10 +107,14 @@ fork-changed f n xs = cond (eqb n 0) (fork-with f xs) f
 unfoldable pub changed : Edition → List ℕ → ℕ → List Entry → List ℕ
 changed e b n xs = cond (eqb n 0) (put b (attr-start e b) (fork-with (attr-fork e b) xs)) b
 
--- Removal closes the hole and lowers totsize and count
-unfoldable pub after-remove : Edition → List ℕ → List ℕ → ℕ → List ℕ
-after-remove e b name flags = changed e b (found-code e b name flags) (others name flags (stored (attr-fork e b)))
+-- a removal's number is a lookup's
+abbrev pub remove-code : Edition → List ℕ → List ℕ → ℕ → ℕ
+remove-code e b name flags = lookup-code e b name flags
 
-unfoldable pub after-set : Edition → List ℕ → List ℕ → ℕ → List ℕ → List ℕ
-after-set e b name flags value =
+-- Removal closes the hole and lowers totsize and count
+unfoldable pub remove-bytes : Edition → List ℕ → List ℕ → ℕ → List ℕ
+remove-bytes e b name flags = changed e b (remove-code e b name flags) (others name flags (stored (attr-fork e b)))
+
+unfoldable pub set-bytes : Edition → List ℕ → List ℕ → ℕ → List ℕ → List ℕ
+set-bytes e b name flags value =
     changed e b (set-code e b name flags value) (set-entries name flags value (stored (attr-fork e b)))

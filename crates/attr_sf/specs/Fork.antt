@@ -67,16 +67,16 @@ unfoldable pub flags-ok : List ℕ → Bool
 flags-ok f = every flags-legal-of (stored f)
 
 -- 6 and 7 of these entries, by number (inner: no public promise cites it)
-abbrev pub own-code : List Entry → ℕ
-own-code xs = NAME unless every name-legal-of xs then NUMBER unless every flags-legal-of xs then 0
+abbrev pub own-verdict : List Entry → ℕ
+own-verdict xs = NAME unless every name-legal-of xs then NUMBER unless every flags-legal-of xs then 0
 
 -- 10 TWICE: same name and flags
 unfoldable pub once-ok : List ℕ → Bool
 once-ok f = distinct (stored f)
 
 -- the first test that fails, by its number; 0 when none does
-unfoldable pub fork-code : List ℕ → ℕ
-fork-code f =
+unfoldable pub fork-verdict : List ℕ → ℕ
+fork-verdict f =
     SPAN unless span-ok f then
     TILE unless tile-ok f then
     NAME unless names-ok f then

@@ -16,7 +16,7 @@ use Rattle.dinode.specs.Core.{attr-start, attr-fork}
 use Rattle.attr_sf.specs.Entry.{Entry, entry, legal-flags, is-key, others}
 use Rattle.attr_sf.specs.Fork.{header, stored, count, totsize, size-at, entry-at}
 use Rattle.attr_sf.specs.Walk.{walk, live-step, end-step}
-use Rattle.attr_sf.specs.Calls.{attr-code, asked-code, attr-at, looked-up, place-code, part-of, found-code, set-code, after-remove, after-set}
+use Rattle.attr_sf.specs.Calls.{verdict, asked-code, attr-at, lookup, place-code, part-of, remove-code, set-code, remove-bytes, set-bytes}
 use Rattle.attr_sf.specs.declared.Walked.the-variants.{Stepped}
 use Rattle.attr_sf.specs.declared.Place.the-variants.{Refused}
 
@@ -25,7 +25,7 @@ use Rattle.attr_sf.specs.declared.Place.the-variants.{Refused}
 -- what is left, c, of the inode b
 pub record Kept (e : Edition) (b c : List ℕ) : Type 0 where
   -- it passes the tests
-  pub accepted : attr-code e c ≡ 0
+  pub accepted : verdict e c ≡ 0
   -- it is as long as before, and nothing outside the attribute fork has changed
   pub long : length c ≡ length b
   pub outside : take (attr-start e b) c ≡ take (attr-start e b) b
@@ -38,41 +38,41 @@ pub record Removed (e : Edition) (b name : List ℕ) (flags : ℕ) (c : List ℕ
   -- every other attribute is as before, in order
   pub rest : stored (attr-fork e c) ≡ others name flags (stored (attr-fork e b))
   -- the one asked for is absent
-  pub gone : looked-up e c name flags ≡ Refused ABSENT
+  pub gone : lookup e c name flags ≡ Refused ABSENT
 
 pub record Set (e : Edition) (b name : List ℕ) (flags : ℕ) (value c : List ℕ) : Type 0 where
   pub left : Kept e b c
   -- every other attribute is as before, in order, and the new one stands at the end
   pub rest : stored (attr-fork e c) ≡ others name flags (stored (attr-fork e b)) ++ (entry flags name value ∷ [])
   -- the lookup finds it, and gives exactly the value
-  pub there : place-code (looked-up e c name flags) ≡ 0
-  pub given : part-of c (looked-up e c name flags) ≡ value
+  pub there : place-code (lookup e c name flags) ≡ 0
+  pub given : part-of c (lookup e c name flags) ≡ value
 
 -- what a slice holds is bytes, always
 abbrev pub Removal-law : Type 0
 Removal-law = (e : Edition) → Sane e → (b name : List ℕ) (flags : ℕ) → bytes b ≡ true
-    → found-code e b name flags ≡ 0 → Removed e b name flags (after-remove e b name flags)
+    → remove-code e b name flags ≡ 0 → Removed e b name flags (remove-bytes e b name flags)
 
 abbrev pub Set-law : Type 0
 Set-law = (e : Edition) → Sane e → (b name : List ℕ) (flags : ℕ) (value : List ℕ)
-    → set-code e b name flags value ≡ 0 → Set e b name flags value (after-set e b name flags value)
+    → set-code e b name flags value ≡ 0 → Set e b name flags value (set-bytes e b name flags value)
 
 -- a set or a removal of one attribute changes no other lookup's answer
 pub record Alike (e : Edition) (b c m : List ℕ) (h : ℕ) : Type 0 where
-  pub number : place-code (looked-up e c m h) ≡ place-code (looked-up e b m h)
-  pub value : part-of c (looked-up e c m h) ≡ part-of b (looked-up e b m h)
+  pub number : place-code (lookup e c m h) ≡ place-code (lookup e b m h)
+  pub value : part-of c (lookup e c m h) ≡ part-of b (lookup e b m h)
 
 abbrev pub Unmoved-law : Type 0
 Unmoved-law = (e : Edition) → Sane e → (b name : List ℕ) (flags : ℕ) (value m : List ℕ) (h : ℕ)
     → is-key name flags (entry h m []) ≡ false → asked-code e b m h ≡ 0
-    → (set-code e b name flags value ≡ 0 → Alike e b (after-set e b name flags value) m h)
-    × (bytes b ≡ true → found-code e b name flags ≡ 0 → Alike e b (after-remove e b name flags) m h)
+    → (set-code e b name flags value ≡ 0 → Alike e b (set-bytes e b name flags value) m h)
+    × (bytes b ≡ true → remove-code e b name flags ≡ 0 → Alike e b (remove-bytes e b name flags) m h)
 
 -- a refusal changes no byte
 abbrev pub Refusal-law : Type 0
 Refusal-law = (e : Edition) (b name : List ℕ) (flags : ℕ) (value : List ℕ)
-    → ((set-code e b name flags value ≡ 0 → ⊥) → after-set e b name flags value ≡ b)
-    × ((found-code e b name flags ≡ 0 → ⊥) → after-remove e b name flags ≡ b)
+    → ((set-code e b name flags value ≡ 0 → ⊥) → set-bytes e b name flags value ≡ b)
+    × ((remove-code e b name flags ≡ 0 → ⊥) → remove-bytes e b name flags ≡ b)
 
 -- ---- lookup
 
@@ -83,21 +83,21 @@ pub record Found (e : Edition) (b name : List ℕ) (flags : ℕ) : Type 0 where
   pub back : List Entry
   pub whole : stored (attr-fork e b) ≡ front ++ (mid ∷ back)
   pub key : is-key name flags mid ≡ true
-  pub value : part-of b (looked-up e b name flags) ≡ mid .value
+  pub value : part-of b (lookup e b name flags) ≡ mid .value
 
 abbrev pub Found-law : Type 0
-Found-law = (e : Edition) (b name : List ℕ) (flags : ℕ) → place-code (looked-up e b name flags) ≡ 0 → Found e b name flags
+Found-law = (e : Edition) (b name : List ℕ) (flags : ℕ) → place-code (lookup e b name flags) ≡ 0 → Found e b name flags
 
 -- an absent answer means that no stored entry has the name and the flags
 abbrev pub Absent-law : Type 0
-Absent-law = (e : Edition) (b name : List ℕ) (flags : ℕ) → looked-up e b name flags ≡ Refused ABSENT
+Absent-law = (e : Edition) (b name : List ℕ) (flags : ℕ) → lookup e b name flags ≡ Refused ABSENT
     → some-of (is-key name flags) (stored (attr-fork e b)) ≡ false
 
 -- ---- the walk
 
 -- from the start it meets every entry once, in stored order, and then the end: entries plus one answers, and no more however long one asks
 abbrev pub Walk-law : Type 0
-Walk-law = (e : Edition) (b : List ℕ) (k : ℕ) → attr-code e b ≡ 0
+Walk-law = (e : Edition) (b : List ℕ) (k : ℕ) → verdict e b ≡ 0
     → walk e b (count (attr-fork e b) + 1 + k) header
     ≡ map (λ (at : ℕ). Stepped (live-step (attr-start e b) (attr-fork e b) at)) (places (size-at (attr-fork e b)) (count (attr-fork e b)) header)
     ++ (Stepped (end-step (totsize (attr-fork e b))) ∷ [])

@@ -10,7 +10,7 @@ use Rattle.records.specs.Records.{stands}
 use Rattle.edition.specs.declared.Edition.{Edition}
 use Rattle.dinode.specs.Core.{attr-start, attr-fork}
 use Rattle.attr_sf.specs.Fork.{header, totsize, count, size-at}
-use Rattle.attr_sf.specs.Calls.{attr-code, attr-at}
+use Rattle.attr_sf.specs.Calls.{verdict, attr-at}
 use Rattle.attr_sf.specs.declared.Seen.{Seen}
 use Rattle.attr_sf.specs.declared.Seen.the-variants.{Live, End}
 use Rattle.attr_sf.specs.declared.Step.{Step}
@@ -19,7 +19,7 @@ use Rattle.attr_sf.specs.declared.Walked.the-variants.{Stepped, Refused}
 
 -- 11 ASKED: the walk place is not legal (record starts and the list's end are), judged after the tests
 unfoldable pub step-code : Edition → List ℕ → ℕ → ℕ
-step-code e b place = attr-code e b and-then ASKED unless stands (size-at (attr-fork e b)) (count (attr-fork e b)) header place then 0
+step-code e b place = verdict e b and-then ASKED unless stands (size-at (attr-fork e b)) (count (attr-fork e b)) header place then 0
 
 -- a step at an entry of the fork that starts at s
 unfoldable pub live-step : ℕ → List ℕ → ℕ → Step
@@ -36,8 +36,8 @@ step-in s f place = cond (eqb place (totsize f)) (end-step place) (live-step s f
 unfoldable pub walked-in : ℕ → List ℕ → ℕ → Walked
 walked-in s f place = cond (stands (size-at f) (count f) header place) (Stepped (step-in s f place)) (Refused ASKED)
 
-unfoldable pub walked : Edition → List ℕ → ℕ → Walked
-walked e b place = cond (eqb (attr-code e b) 0) (walked-in (attr-start e b) (attr-fork e b) place) (Refused (attr-code e b))
+unfoldable pub walk-step : Edition → List ℕ → ℕ → Walked
+walk-step e b place = cond (eqb (verdict e b) 0) (walked-in (attr-start e b) (attr-fork e b) place) (Refused (verdict e b))
 
 -- a step's number, 0 where it is done
 abbrev pub walked-code : Walked → ℕ
@@ -61,5 +61,5 @@ next-of (Refused k) = 0
 unfoldable pub walk : Edition → List ℕ → ℕ → ℕ → List Walked
 walk e b zero place = []
 walk e b (suc n) place =
-    let a = walked e b place in
-    let rest = walk e b n (next-of (walked e b place)) in a ∷ cond (goes-on a) rest []
+    let a = walk-step e b place in
+    let rest = walk e b n (next-of (walk-step e b place)) in a ∷ cond (goes-on a) rest []

@@ -8,9 +8,9 @@ ghost use Rattle.be.specs.Lists.{some-of};
 ghost use Rattle.records.specs.Records.{tiled, stands};
 ghost use Rattle.edition.specs.Edition.{v4, Sane};
 ghost use Rattle.attr_sf.specs.Entry.{entry, entry-bytes, legal-flags, legal-key, is-key, distinct, others};
-ghost use Rattle.attr_sf.specs.Fork.{header, totsize, stored, size-at, entry-at, entries, name-legal-of, flags-legal-of, own-code, fork-code, seek, place-of};
-ghost use Rattle.attr_sf.specs.Calls.{attr-code, asked-code, fork-if, found-in, looked-up, place-code, start-of, length-of, part-of, held-code, found-code, room-code, set-code, set-entries, fork-changed, after-remove, after-set};
-ghost use Rattle.attr_sf.specs.Walk.{live-step, walked-in, walked, step-code, walked-code};
+ghost use Rattle.attr_sf.specs.Fork.{header, totsize, stored, size-at, entry-at, entries, name-legal-of, flags-legal-of, own-verdict, fork-verdict, seek, place-of};
+ghost use Rattle.attr_sf.specs.Calls.{verdict, asked-code, fork-if, found-in, lookup, place-code, start-of, length-of, part-of, held-request, lookup-code, remove-code, room-request, set-code, set-entries, fork-changed, remove-bytes, set-bytes};
+ghost use Rattle.attr_sf.specs.Walk.{live-step, walked-in, walk-step, step-code, walked-code};
 ghost use Rattle.attr_sf.specs.Plan.{plan-of};
 use dinode::Fork;
 use edition::Edition;
@@ -138,7 +138,7 @@ fn key_at<'a, 'b>(f: &'a [u8], at: usize, name: &'b [u8], flags: usize) -> bool
 // Tests 6 and 7 of n entries: 0, or the number of the first that fails.
 fn faults(f: &[u8], n: usize, end: usize) -> usize
     requires { ⌜ (tiled (size-at (now f)) end n header ≡ true) × (end ≤ length (now f)) ⌝ }
-    ensures { λ r. ⌜ r ≡ own-code (entries (now (f .entry)) n header) ⌝ }
+    ensures { λ r. ⌜ r ≡ own-verdict (entries (now (f .entry)) n header) ⌝ }
 {
     let mut left = n;
     let mut at = HEADER;
@@ -212,7 +212,7 @@ fn once(f: &[u8], n: usize, end: usize) -> bool
 
 // Tests 4 to 10 of a fork: 0, or the number of the first that fails.
 fn code_of_fork(f: &[u8]) -> usize
-    ensures { λ r. ⌜ r ≡ fork-code (now (f .entry)) ⌝ }
+    ensures { λ r. ⌜ r ≡ fork-verdict (now (f .entry)) ⌝ }
 {
     if f.len() < HEADER {
         return refusal::SPAN;
@@ -241,7 +241,7 @@ fn code_of_fork(f: &[u8]) -> usize
 // Tests 1 to 10: where the attribute fork lies, or the number of the first that fails.
 fn tested(e: Edition, b: &[u8]) -> Fork
     requires { ⌜ Sane e ⌝ }
-    ensures { λ r. ⌜ r ≡ fork-if (attr-code e (now (b .entry))) e (now (b .entry)) ⌝ }
+    ensures { λ r. ⌜ r ≡ fork-if (verdict e (now (b .entry))) e (now (b .entry)) ⌝ }
 {
     match dinode::fork_of_attributes(e, b) {
         Fork::At(start, len) => {
@@ -257,7 +257,7 @@ fn tested(e: Edition, b: &[u8]) -> Fork
 
 // Tests an inode and its attributes: 0, or the number of the first test that fails.
 pub fn test(b: &[u8]) -> usize
-    ensures { λ r. ⌜ r ≡ attr-code v4 (now (b .entry)) ⌝ }
+    ensures { λ r. ⌜ r ≡ verdict v4 (now (b .entry)) ⌝ }
 {
     match tested(V4::edition(), b) {
         Fork::At(_, _) => 0,
@@ -290,7 +290,7 @@ fn asked<'a, 'b>(e: Edition, b: &'a [u8], name: &'b [u8], flags: usize) -> Fork
 
 // Where the entry asked for starts in a fork; the entries' end when there is none.
 fn place_in<'a, 'b>(f: &'a [u8], name: &'b [u8], flags: usize) -> usize
-    requires { ⌜ fork-code (now f) ≡ 0 ⌝ }
+    requires { ⌜ fork-verdict (now f) ≡ 0 ⌝ }
     ensures { λ r. ⌜ (r ≡ place-of (now (f .entry)) (now (name .entry)) flags) × (r ≤ totsize (now (f .entry))) ⌝ }
 {
     let end = be::be16(f, 0);
@@ -300,7 +300,7 @@ fn place_in<'a, 'b>(f: &'a [u8], name: &'b [u8], flags: usize) -> usize
 
 // Where its value lies in the inode whose attribute fork starts at s.
 fn find_in<'a, 'b>(f: &'a [u8], s: usize, name: &'b [u8], flags: usize) -> Place
-    requires { ⌜ (fork-code (now f) ≡ 0) × (s + length (now f) < 4096) ⌝ }
+    requires { ⌜ (fork-verdict (now f) ≡ 0) × (s + length (now f) < 4096) ⌝ }
     ensures { λ r. ⌜ r ≡ found-in s (now (f .entry)) (now (name .entry)) flags ⌝ }
 {
     let at = place_in(f, name, flags);
@@ -313,7 +313,7 @@ fn find_in<'a, 'b>(f: &'a [u8], s: usize, name: &'b [u8], flags: usize) -> Place
 
 fn look<'a, 'b>(e: Edition, b: &'a [u8], name: &'b [u8], flags: usize) -> Place
     requires { ⌜ Sane e ⌝ }
-    ensures { λ r. ⌜ r ≡ looked-up e (now (b .entry)) (now (name .entry)) flags ⌝ }
+    ensures { λ r. ⌜ r ≡ lookup e (now (b .entry)) (now (name .entry)) flags ⌝ }
 {
     match asked(e, b, name, flags) {
         Fork::At(start, _) => find_in(&b[start..], start, name, flags),
@@ -323,16 +323,16 @@ fn look<'a, 'b>(e: Edition, b: &'a [u8], name: &'b [u8], flags: usize) -> Place
 
 // Looks an attribute up: where its value lies in the inode, or the refusal.
 pub fn lookup<'a, 'b>(b: &'a [u8], name: &'b [u8], flags: usize) -> Place
-    ensures { λ r. ⌜ (r ≡ looked-up v4 (now (b .entry)) (now (name .entry)) flags) × (place-code r ≡ found-code v4 (now (b .entry)) (now (name .entry)) flags) ⌝ }
+    ensures { λ r. ⌜ (r ≡ lookup v4 (now (b .entry)) (now (name .entry)) flags) × (place-code r ≡ lookup-code v4 (now (b .entry)) (now (name .entry)) flags) ⌝ }
 {
     look(V4::edition(), b, name, flags)
 }
 
 // The value in place: a part of the inode, its first zero bytes where there is no value or the lookup is refused.
 pub fn value<'a, 'b>(b: &'a [u8], name: &'b [u8], flags: usize) -> &'a [u8]
-    ensures contents { λ r. ⌜ now r ≡ part-of (now (b .entry)) (looked-up v4 (now (b .entry)) (now (name .entry)) flags) ⌝ }
-    ensures place { λ r. ⌜ (r .ptr .0 ≡ b .entry .ptr .0) × (r .ptr .1 ≡ b .entry .ptr .1 + start-of (looked-up v4 (now (b .entry)) (now (name .entry)) flags)) ⌝ }
-    ensures long { λ r. ⌜ length (now r) ≡ length-of (looked-up v4 (now (b .entry)) (now (name .entry)) flags) ⌝ }
+    ensures contents { λ r. ⌜ now r ≡ part-of (now (b .entry)) (lookup v4 (now (b .entry)) (now (name .entry)) flags) ⌝ }
+    ensures place { λ r. ⌜ (r .ptr .0 ≡ b .entry .ptr .0) × (r .ptr .1 ≡ b .entry .ptr .1 + start-of (lookup v4 (now (b .entry)) (now (name .entry)) flags)) ⌝ }
+    ensures long { λ r. ⌜ length (now r) ≡ length-of (lookup v4 (now (b .entry)) (now (name .entry)) flags) ⌝ }
 {
     match lookup(b, name, flags) {
         Place::At(at, len) => {
@@ -386,7 +386,7 @@ fn step_from(f: &[u8], s: usize, place: usize) -> Step
 
 // A step in a fork that passes its tests.
 fn walk_in(f: &[u8], s: usize, place: usize) -> Walked
-    requires { ⌜ (fork-code (now f) ≡ 0) × (s + length (now f) < 4096) ⌝ }
+    requires { ⌜ (fork-verdict (now f) ≡ 0) × (s + length (now f) < 4096) ⌝ }
     ensures { λ r. ⌜ r ≡ walked-in s (now (f .entry)) place ⌝ }
 {
     let end = be::be16(f, 0);
@@ -405,7 +405,7 @@ fn walk_in(f: &[u8], s: usize, place: usize) -> Walked
 
 fn walk_on(e: Edition, b: &[u8], place: usize) -> Walked
     requires { ⌜ Sane e ⌝ }
-    ensures { λ r. ⌜ r ≡ walked e (now (b .entry)) place ⌝ }
+    ensures { λ r. ⌜ r ≡ walk-step e (now (b .entry)) place ⌝ }
 {
     match tested(e, b) {
         Fork::At(start, _) => walk_in(&b[start..], start, place),
@@ -415,7 +415,7 @@ fn walk_on(e: Edition, b: &[u8], place: usize) -> Walked
 
 // One step of the walk over an inode's attributes, from a place that is counted from the fork's start.
 pub fn step_at(b: &[u8], place: usize) -> Walked
-    ensures { λ r. ⌜ (r ≡ walked v4 (now (b .entry)) place) × (walked-code r ≡ step-code v4 (now (b .entry)) place) ⌝ }
+    ensures { λ r. ⌜ (r ≡ walk-step v4 (now (b .entry)) place) × (walked-code r ≡ step-code v4 (now (b .entry)) place) ⌝ }
 {
     walk_on(V4::edition(), b, place)
 }
@@ -429,7 +429,7 @@ struct Plan {
 }
 
 fn plan_in<'a, 'b>(f: &'a [u8], name: &'b [u8], flags: usize) -> Plan
-    requires { ⌜ fork-code (now f) ≡ 0 ⌝ }
+    requires { ⌜ fork-verdict (now f) ≡ 0 ⌝ }
     ensures { λ r. ⌜ (r ≡ plan-of (now (f .entry)) (now (name .entry)) flags) × ((r .at + r .size ≤ r .end) × (r .end ≤ length (now (f .entry)))) ⌝ }
 {
     let at = place_in(f, name, flags);
@@ -493,8 +493,8 @@ fn write_entry<'a, 'b, 'c>(
 
 // Removes an entry from a fork that passes its tests.
 fn remove_in<'a, 'b>(f: &'a mut [u8], name: &'b [u8], flags: usize) -> usize
-    requires { ⌜ fork-code (now f) ≡ 0 ⌝ }
-    ensures { λ r. ⌜ (r ≡ held-code (now (f .entry)) (now (name .entry)) flags) × (now (f .exit) ≡ fork-changed (now (f .entry)) (held-code (now (f .entry)) (now (name .entry)) flags) (others (now (name .entry)) flags (stored (now (f .entry))))) ⌝ }
+    requires { ⌜ fork-verdict (now f) ≡ 0 ⌝ }
+    ensures { λ r. ⌜ (r ≡ held-request (now (f .entry)) (now (name .entry)) flags) × (now (f .exit) ≡ fork-changed (now (f .entry)) (held-request (now (f .entry)) (now (name .entry)) flags) (others (now (name .entry)) flags (stored (now (f .entry))))) ⌝ }
 {
     let p = plan_in(&f[..], name, flags);
     let at = p.at;
@@ -511,8 +511,8 @@ fn remove_in<'a, 'b>(f: &'a mut [u8], name: &'b [u8], flags: usize) -> usize
 
 // Sets an entry in a fork that passes its tests.
 fn set_in<'a, 'b, 'c>(f: &'a mut [u8], name: &'b [u8], flags: usize, value: &'c [u8]) -> usize
-    requires { ⌜ ((fork-code (now f) ≡ 0) × (length (now f) < 65536)) × ((length (now name) < 256) × (flags < 256)) ⌝ }
-    ensures { λ r. ⌜ (r ≡ room-code (now (f .entry)) (now (name .entry)) flags (now (value .entry))) × (now (f .exit) ≡ fork-changed (now (f .entry)) (room-code (now (f .entry)) (now (name .entry)) flags (now (value .entry))) (set-entries (now (name .entry)) flags (now (value .entry)) (stored (now (f .entry))))) ⌝ }
+    requires { ⌜ ((fork-verdict (now f) ≡ 0) × (length (now f) < 65536)) × ((length (now name) < 256) × (flags < 256)) ⌝ }
+    ensures { λ r. ⌜ (r ≡ room-request (now (f .entry)) (now (name .entry)) flags (now (value .entry))) × (now (f .exit) ≡ fork-changed (now (f .entry)) (room-request (now (f .entry)) (now (name .entry)) flags (now (value .entry))) (set-entries (now (name .entry)) flags (now (value .entry)) (stored (now (f .entry))))) ⌝ }
 {
     let p = plan_in(&f[..], name, flags);
     let at = p.at;
@@ -538,7 +538,7 @@ fn set_in<'a, 'b, 'c>(f: &'a mut [u8], name: &'b [u8], flags: usize, value: &'c 
 
 fn take_out<'a, 'b>(e: Edition, b: &'a mut [u8], name: &'b [u8], flags: usize) -> usize
     requires { ⌜ Sane e ⌝ }
-    ensures { λ r. ⌜ (r ≡ found-code e (now (b .entry)) (now (name .entry)) flags) × (now (b .exit) ≡ after-remove e (now (b .entry)) (now (name .entry)) flags) ⌝ }
+    ensures { λ r. ⌜ (r ≡ remove-code e (now (b .entry)) (now (name .entry)) flags) × (now (b .exit) ≡ remove-bytes e (now (b .entry)) (now (name .entry)) flags) ⌝ }
 {
     match asked(e, &b[..], name, flags) {
         Fork::At(start, _) => remove_in(&mut b[start..], name, flags),
@@ -548,7 +548,7 @@ fn take_out<'a, 'b>(e: Edition, b: &'a mut [u8], name: &'b [u8], flags: usize) -
 
 // Removes an attribute: 0, or the number of the refusal, which leaves every byte as it was.
 pub fn remove<'a, 'b>(b: &'a mut [u8], name: &'b [u8], flags: usize) -> usize
-    ensures { λ r. ⌜ (r ≡ found-code v4 (now (b .entry)) (now (name .entry)) flags) × (now (b .exit) ≡ after-remove v4 (now (b .entry)) (now (name .entry)) flags) ⌝ }
+    ensures { λ r. ⌜ (r ≡ remove-code v4 (now (b .entry)) (now (name .entry)) flags) × (now (b .exit) ≡ remove-bytes v4 (now (b .entry)) (now (name .entry)) flags) ⌝ }
 {
     take_out(V4::edition(), b, name, flags)
 }
@@ -561,7 +561,7 @@ fn put_in<'a, 'b, 'c>(
     value: &'c [u8],
 ) -> usize
     requires { ⌜ Sane e ⌝ }
-    ensures { λ r. ⌜ (r ≡ set-code e (now (b .entry)) (now (name .entry)) flags (now (value .entry))) × (now (b .exit) ≡ after-set e (now (b .entry)) (now (name .entry)) flags (now (value .entry))) ⌝ }
+    ensures { λ r. ⌜ (r ≡ set-code e (now (b .entry)) (now (name .entry)) flags (now (value .entry))) × (now (b .exit) ≡ set-bytes e (now (b .entry)) (now (name .entry)) flags (now (value .entry))) ⌝ }
 {
     match asked(e, &b[..], name, flags) {
         Fork::At(start, _) => set_in(&mut b[start..], name, flags, value),
@@ -571,7 +571,7 @@ fn put_in<'a, 'b, 'c>(
 
 // Sets an attribute: an equal one goes, and the new one stands at the end. 0, or the number of the refusal, which leaves every byte as it was.
 pub fn set<'a, 'b, 'c>(b: &'a mut [u8], name: &'b [u8], flags: usize, value: &'c [u8]) -> usize
-    ensures { λ r. ⌜ (r ≡ set-code v4 (now (b .entry)) (now (name .entry)) flags (now (value .entry))) × (now (b .exit) ≡ after-set v4 (now (b .entry)) (now (name .entry)) flags (now (value .entry))) ⌝ }
+    ensures { λ r. ⌜ (r ≡ set-code v4 (now (b .entry)) (now (name .entry)) flags (now (value .entry))) × (now (b .exit) ≡ set-bytes v4 (now (b .entry)) (now (name .entry)) flags (now (value .entry))) ⌝ }
 {
     put_in(V4::edition(), b, name, flags, value)
 }

@@ -1,8 +1,8 @@
 // Short-form attributes: the inode is lent; an attribute is named by its name and flags.
 ghost use mathlib.Core.Path.{_≡_};
 ghost use Rattle.edition.specs.Edition.{v4};
-ghost use Rattle.attr_sf.specs.Calls.{attr-code, looked-up, found-code, set-code, after-remove, after-set};
-ghost use Rattle.attr_sf.specs.Walk.{walked};
+ghost use Rattle.attr_sf.specs.Calls.{verdict, lookup, remove-code, set-code, remove-bytes, set-bytes};
+ghost use Rattle.attr_sf.specs.Walk.{walk-step};
 ghost use Rattle.pelunziwa.specs.Answers.{as-place, no-attr, as-attr-seen, as-attr-step};
 use crate::AttrStep;
 use crate::Place;
@@ -12,7 +12,7 @@ use attr_sf::Walked;
 // Tests the attributes of an inode.
 #[no_mangle]
 pub extern "C" fn pzw_attr_test(inode: &[u8]) -> u32
-    ensures { λ r. ⌜ r ≡ attr-code v4 (now (inode .entry)) ⌝ }
+    ensures { λ r. ⌜ r ≡ verdict v4 (now (inode .entry)) ⌝ }
 {
     crate::code(attr_sf::test(inode))
 }
@@ -20,7 +20,7 @@ pub extern "C" fn pzw_attr_test(inode: &[u8]) -> u32
 // Where a value lies in the inode.
 #[no_mangle]
 pub extern "C" fn pzw_attr_lookup<'a, 'b>(inode: &'a [u8], name: &'b [u8], flags: u32) -> Place
-    ensures { λ r. ⌜ r ≡ as-place (looked-up v4 (now (inode .entry)) (now (name .entry)) flags) ⌝ }
+    ensures { λ r. ⌜ r ≡ as-place (lookup v4 (now (inode .entry)) (now (name .entry)) flags) ⌝ }
 {
     match attr_sf::lookup(inode, name, flags as usize) {
         attr_sf::Place::At(a, n) => Place {
@@ -45,7 +45,7 @@ pub extern "C" fn pzw_attr_set<'a, 'b, 'c>(
     value: &'c [u8],
 ) -> u32
     ensures { λ r. ⌜ (r ≡ set-code v4 (now (inode .entry)) (now (name .entry)) flags (now (value .entry)))
-        × (now (inode .exit) ≡ after-set v4 (now (inode .entry)) (now (name .entry)) flags (now (value .entry))) ⌝ }
+        × (now (inode .exit) ≡ set-bytes v4 (now (inode .entry)) (now (name .entry)) flags (now (value .entry))) ⌝ }
 {
     crate::code(attr_sf::set(inode, name, flags as usize, value))
 }
@@ -53,8 +53,8 @@ pub extern "C" fn pzw_attr_set<'a, 'b, 'c>(
 // Takes an attribute out.
 #[no_mangle]
 pub extern "C" fn pzw_attr_remove<'a, 'b>(inode: &'a mut [u8], name: &'b [u8], flags: u32) -> u32
-    ensures { λ r. ⌜ (r ≡ found-code v4 (now (inode .entry)) (now (name .entry)) flags)
-        × (now (inode .exit) ≡ after-remove v4 (now (inode .entry)) (now (name .entry)) flags) ⌝ }
+    ensures { λ r. ⌜ (r ≡ remove-code v4 (now (inode .entry)) (now (name .entry)) flags)
+        × (now (inode .exit) ≡ remove-bytes v4 (now (inode .entry)) (now (name .entry)) flags) ⌝ }
 {
     crate::code(attr_sf::remove(inode, name, flags as usize))
 }
@@ -97,7 +97,7 @@ fn seen_step(next: usize, seen: Seen) -> AttrStep
 // One step of the walk, from a place counted from the fork's start.
 #[no_mangle]
 pub extern "C" fn pzw_attr_step_at(inode: &[u8], place: u64) -> AttrStep
-    ensures { λ r. ⌜ r ≡ as-attr-step (walked v4 (now (inode .entry)) place) ⌝ }
+    ensures { λ r. ⌜ r ≡ as-attr-step (walk-step v4 (now (inode .entry)) place) ⌝ }
 {
     match attr_sf::step_at(inode, place as usize) {
         Walked::Stepped(t) => {

@@ -4,13 +4,13 @@ use mathlib.Core.List.{List}
 use borrow.Author.Needs.{needs}
 use Rattle.edition.specs.declared.Edition.{Edition}
 use Rattle.edition.specs.Edition.{v4}
-use Rattle.attr_sf.specs.Calls.{found-code, after-remove}
+use Rattle.attr_sf.specs.Calls.{lookup-code, remove-bytes}
 use Rattle.attr_sf.proofs.remove.Statement.{statement}
 use Rattle.attr_sf.proofs.remove.Tie as tie
 
 -- of the edition that was made
-made : {e : Edition} {r : ℕ} {after : List ℕ} (b name : List ℕ) (flags : ℕ) → (r ≡ found-code e b name flags) × (after ≡ after-remove e b name flags) → e ≡ v4
-    → (r ≡ found-code v4 b name flags) × (after ≡ after-remove v4 b name flags)
+made : {e : Edition} {r : ℕ} {after : List ℕ} (b name : List ℕ) (flags : ℕ) → (r ≡ lookup-code e b name flags) × (after ≡ remove-bytes e b name flags) → e ≡ v4
+    → (r ≡ lookup-code v4 b name flags) × (after ≡ remove-bytes v4 b name flags)
 made b name flags h q = rw (← q) h
 
 pub remove-spec : {M : Type 1} → statement M

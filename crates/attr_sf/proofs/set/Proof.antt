@@ -4,14 +4,14 @@ use mathlib.Core.List.{List}
 use borrow.Author.Needs.{needs}
 use Rattle.edition.specs.declared.Edition.{Edition}
 use Rattle.edition.specs.Edition.{v4}
-use Rattle.attr_sf.specs.Calls.{set-code, after-set}
+use Rattle.attr_sf.specs.Calls.{set-code, set-bytes}
 use Rattle.attr_sf.proofs.set.Statement.{statement}
 use Rattle.attr_sf.proofs.set.Tie as tie
 
 -- of the edition that was made
 made : {e : Edition} {r : ℕ} {after : List ℕ} (b name : List ℕ) (flags : ℕ) (value : List ℕ)
-    → (r ≡ set-code e b name flags value) × (after ≡ after-set e b name flags value) → e ≡ v4
-    → (r ≡ set-code v4 b name flags value) × (after ≡ after-set v4 b name flags value)
+    → (r ≡ set-code e b name flags value) × (after ≡ set-bytes e b name flags value) → e ≡ v4
+    → (r ≡ set-code v4 b name flags value) × (after ≡ set-bytes v4 b name flags value)
 made b name flags value h q = rw (← q) h
 
 pub set-spec : {M : Type 1} → statement M

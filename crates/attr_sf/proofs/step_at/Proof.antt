@@ -5,14 +5,14 @@ use borrow.Author.Needs.{needs}
 use Rattle.edition.specs.declared.Edition.{Edition}
 use Rattle.edition.specs.Edition.{v4}
 use Rattle.attr_sf.specs.declared.Walked.{Walked}
-use Rattle.attr_sf.specs.Walk.{walked, step-code, walked-code}
+use Rattle.attr_sf.specs.Walk.{walk-step, step-code, walked-code}
 use Rattle.attr_sf.proofs.WalkSteps.{step-is}
 use Rattle.attr_sf.proofs.step_at.Statement.{statement}
 use Rattle.attr_sf.proofs.step_at.Tie as tie
 
 -- of the edition that was made
-made : {e : Edition} {r : Walked} (b : List ℕ) (place : ℕ) → r ≡ walked e b place → e ≡ v4
-    → (r ≡ walked v4 b place) × (walked-code r ≡ step-code v4 b place)
+made : {e : Edition} {r : Walked} (b : List ℕ) (place : ℕ) → r ≡ walk-step e b place → e ≡ v4
+    → (r ≡ walk-step v4 b place) × (walked-code r ≡ step-code v4 b place)
 made b place h q = let k = rw q at h in (k, ap walked-code k ∙ step-is v4 b place)
 
 pub step-at-spec : {M : Type 1} → statement M

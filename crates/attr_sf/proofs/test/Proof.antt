@@ -5,13 +5,13 @@ use borrow.Author.Needs.{needs}
 use Rattle.edition.specs.declared.Edition.{Edition}
 use Rattle.edition.specs.Edition.{v4}
 use Rattle.dinode.specs.declared.Fork.{Fork}
-use Rattle.attr_sf.specs.Calls.{attr-code, fork-if}
+use Rattle.attr_sf.specs.Calls.{verdict, fork-if}
 use Rattle.attr_sf.proofs.InodeTests.{test-at, test-refused}
 use Rattle.attr_sf.proofs.test.Statement.{statement}
 use Rattle.attr_sf.proofs.test.Tie as tie
 
 -- of the edition that was made
-made : {e : Edition} {r : Fork} (b : List ℕ) → r ≡ fork-if (attr-code e b) e b → e ≡ v4 → r ≡ fork-if (attr-code v4 b) v4 b
+made : {e : Edition} {r : Fork} (b : List ℕ) → r ≡ fork-if (verdict e b) e b → e ≡ v4 → r ≡ fork-if (verdict v4 b) v4 b
 made b h q = rw (← q) h
 
 returns : tie.Need-returns

@@ -1,5 +1,5 @@
 use borrow.Author.Needs.{needs}
-use Rattle.attr_sf.proofs.SmallCodes.{found-small}
+use Rattle.attr_sf.proofs.SmallCodes.{lookup-small}
 use Rattle.pelunziwa.proofs.attr.pzw_attr_remove.Statement.{statement}
 use Rattle.pelunziwa.proofs.attr.pzw_attr_remove.Tie as tie
 
@@ -8,6 +8,6 @@ pzw-attr-remove-spec =
     tie.close
     (tie.spec
     (λ c κs. search needs)
-    (λ c κs. rw (c .before .before .remove .ensures .0) (found-small _ _ _ _))
+    (λ c κs. rw (c .before .before .remove .ensures .0) (lookup-small _ _ _ _))
     (λ c. search needs)
     (λ c. search needs))

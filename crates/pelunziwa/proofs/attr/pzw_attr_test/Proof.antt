@@ -1,5 +1,5 @@
 use borrow.Author.Needs.{needs}
-use Rattle.attr_sf.proofs.SmallCodes.{attr-small}
+use Rattle.attr_sf.proofs.SmallCodes.{verdict-small}
 use Rattle.pelunziwa.proofs.attr.pzw_attr_test.Statement.{statement}
 use Rattle.pelunziwa.proofs.attr.pzw_attr_test.Tie as tie
 
@@ -8,5 +8,5 @@ pzw-attr-test-spec =
     tie.close
     (tie.spec
     (λ c κs. search needs)
-    (λ c κs. rw (c .test .ensures) (attr-small _ _))
+    (λ c κs. rw (c .test .ensures) (verdict-small _ _))
     (λ c. search needs))
