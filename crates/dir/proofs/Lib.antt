@@ -1,1 +1,2 @@
 pub mod FileTypes
+pub mod EveryList

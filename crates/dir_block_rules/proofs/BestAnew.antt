@@ -19,7 +19,7 @@ use Rattle.dir_block_rules.specs.Change.{best-table, insert-code, remove
 use Rattle.dir.specs.Calls.{Call, look-up, insert, remove, done, found-or, done-or}
 use Rattle.dir_block_rules.specs.Calls.{reply, after}
 use Rattle.dir.specs.Book.{is-done}
-use Rattle.dir_block_rules.specs.Demand.{call-bytes}
+use Rattle.dir.specs.Along.{call-bytes}
 use Rattle.dir_block_rules.specs.Claims.{Best-right}
 use Rattle.dir_block_rules.proofs.EachCall.{refused-not-done, insert-done, remove-done}
 

@@ -30,7 +30,8 @@ use Rattle.dir_block_rules.specs.Change.{insert-writes, insert-code, ins
 use Rattle.dir.specs.Calls.{done-or, Call, look-up, insert, remove, found, done, refuse, call-name}
 use Rattle.dir_block_rules.specs.Calls.{reply, after, book-of}
 use Rattle.dir.specs.Book.{held, Book, named, holds, target-held, SameBook, book-reply, book-after, entered, is-done}
-use Rattle.dir_block_rules.specs.Demand.{Reuse, Call-right, call-bytes}
+use Rattle.dir.specs.Along.{call-bytes}
+use Rattle.dir_block_rules.specs.Demand.{Reuse, Call-right, book-next}
 use Rattle.be.proofs.Bools.{and-left, and-right, by-cases, clash}
 use Rattle.dir_block_rules.proofs.RecordPlaces.{Split, some-split, some-at, every-at}
 use Rattle.name.proofs.Same.{same-eq, same-name-refl}
@@ -42,7 +43,6 @@ use Rattle.dir_block_rules.proofs.InsertFree.{Asked}
 use Rattle.dir_block_rules.proofs.InsertCases.{Inserted, insert-any}
 use Rattle.dir_block_rules.proofs.LookupFinds.{Removed, hit-of, spot, spot-name, target-found, removed-of}
 use Rattle.dir_block_rules.proofs.StaysBytes.{bytes-changed, all-insert, all-remove}
-use Rattle.dir_block_rules.proofs.EveryList.{Steps}
 
 pub number-lt : (i : ℕ) → legal-number i ≡ true → i < 2 ^ 56
 number-lt i h = number-bounds i h .1
@@ -280,11 +280,19 @@ module _ (e : Edition) (sane : Sane e) (b : List ℕ) (h : bytes b ≡ true) (a 
       (λ z. unchanged e sane b h a k m (remove n) an (rw z refl) (refused-is (remove n) an (refused-not-done (remove-code e b n) z))
       (λ dn x i xb lg ln hd len. absurd (clash (ap is-done dn) (refused-not-done (remove-code e b n) z))))
 
--- every call
-pub steps : (e : Edition) → Sane e → Steps e
-steps e sane = record { right = λ k b c h a m q. right k b h a m c q; stays = λ b c h a q. stays-bytes e sane b h a c q }
+-- an accepted block whose names and numbers are the book's
+pub record Kept (e : Edition) (k : Book) (b : List ℕ) : Type 0 where
+  pub are-bytes : bytes b ≡ true
+  pub ok : Accepted e b
+  pub same : SameBook (book-of e b) k
+
+-- every call on it is right, and leaves such a block
+pub each-call : (e : Edition) → Sane e → (k : Book) (b : List ℕ) (c : Call) → Kept e k b → call-bytes c ≡ true → Call-right e k b c × Kept e (book-next e k b c) (after e b c)
+each-call e sane k b c s q =
+    let r : Call-right e k b c = right c q in
+    (r, record { are-bytes = stays-bytes e sane b (s .are-bytes) (s .ok) c q; ok = r .accepted; same = r .listed })
   where
-    right : (k : Book) (b : List ℕ) → bytes b ≡ true → Accepted e b → SameBook (book-of e b) k → (c : Call) → call-bytes c ≡ true → Call-right e k b c
-    right k b h a m (look-up n) q = look-right e sane b h a k m n
-    right k b h a m (insert n i) q = insert-right e sane b h a k m n i q
-    right k b h a m (remove n) q = remove-right e sane b h a k m n q
+    right : (c : Call) → call-bytes c ≡ true → Call-right e k b c
+    right (look-up n) q = look-right e sane b (s .are-bytes) (s .ok) k (s .same) n
+    right (insert n i) q = insert-right e sane b (s .are-bytes) (s .ok) k (s .same) n i q
+    right (remove n) q = remove-right e sane b (s .are-bytes) (s .ok) k (s .same) n q

@@ -29,7 +29,6 @@ pub mod BooksAgree
 pub mod LookupFinds
 pub mod StaysBytes
 pub mod EachCall
-pub mod EveryList
 pub mod Demand3
 pub mod LookupRight
 pub mod WholeWalk

@@ -22,7 +22,7 @@ use Rattle.dir_block_rules.specs.Lookup.{lookup, names-compared}
 use Rattle.dir_block_rules.specs.Change.{best-table, insert-slot}
 use Rattle.dir.specs.Calls.{Call, done}
 use Rattle.dir_block_rules.specs.Calls.{reply, after}
-use Rattle.dir_block_rules.specs.Demand.{call-bytes}
+use Rattle.dir.specs.Along.{call-bytes}
 use Rattle.dir_block_rules.specs.Walk.{entry-of, step-over, step-end, is-place, walk-step, walk}
 
 -- some live entry of the block bears the name

@@ -18,6 +18,7 @@ use Rattle.dir_block_rules.specs.Room.{has-room}
 use Rattle.dir.specs.Calls.{Call, look-up, insert, remove, Reply, done, call-name}
 use Rattle.dir_block_rules.specs.Calls.{reply, after, book-of}
 use Rattle.dir.specs.Book.{Book, holds, book-reply, book-after, SameBook}
+use Rattle.dir.specs.Along.{call-bytes, Along}
 
 -- right after a removal that is done, any legal absent name that is no longer than the removed one goes in with any legal number
 unfoldable pub Reuse : Edition → List ℕ → Call → Reply → Type 0
@@ -41,18 +42,13 @@ pub record Call-right (e : Edition) (k : Book) (b : List ℕ) (c : Call) : Type 
   -- freed room serves again
   pub reuse : Reuse e (after e b c) c (reply e b c)
 
--- each call gets the block and the book that the one before left
-abbrev pub Run : Edition → Book → List ℕ → List Call → Type 0
-Run e k b [] = Unit {0}
-Run e k b (c ∷ cs) =
-    Call-right e k b c × Run e (book-after e k (has-room e b (call-name c)) c) (after e b c) cs
+-- the book after call c on block b: it is told whether the room rule finds room in the block that the call gets
+abbrev pub book-next : Edition → Book → List ℕ → Call → Book
+book-next e k b c = book-after e k (has-room e b (call-name c)) c
 
--- a call's name is a slice of bytes
-abbrev pub call-bytes : Call → Bool
-call-bytes c = bytes (call-name c)
-
--- demand 3: every accepted block and every list of calls, refused ones among them; the book starts as the block's names and numbers
+-- demand 3: every accepted block and every list of calls, refused ones among them; the book starts as the block's names and numbers,
+-- and each call gets the block and the book that the one before left
 unfoldable pub Demand-3 : Edition → Type 0
 Demand-3 e =
     (b : List ℕ) → bytes b ≡ true → Accepted e b
-    → (cs : List Call) → every call-bytes cs ≡ true → Run e (book-of e b) b cs
+    → (cs : List Call) → every call-bytes cs ≡ true → Along (Call-right e) (book-next e) (after e) (book-of e b) b cs

@@ -11,6 +11,7 @@ use Rattle.be.proofs.Bools.{by-cases, and-left, and-right, or-right, neither}
 use Rattle.edition.specs.declared.Edition.{Edition}
 use Rattle.edition.specs.Edition.{Sane}
 use Rattle.name.specs.Name.{legal-name, same-name, fixed-name, dot, dotdot}
+use Rattle.name.proofs.Legality.{dotdot-legal}
 use Rattle.name.proofs.Same.{same-name-refl, same-name-sym}
 use Rattle.dir.specs.declared.Looked.the-variants.{Found, Absent}
 use Rattle.dir.specs.Target.{target, kept-of}
@@ -49,11 +50,6 @@ target-at e (y ∷ ys) zs x h =
 name-at : (e : Edition) (ys zs : List SfEntry) (x : SfEntry) → every (name-ok e) (ys ++ (x ∷ zs)) ≡ true → name-ok e x ≡ true
 name-at e [] zs x h = and-left (name-ok e x) _ h
 name-at e (y ∷ ys) zs x h = name-at e ys zs x (and-right (name-ok e y) _ h)
-
--- ".." is a legal name
-dotdot-legal : (e : Edition) → legal-name e dotdot ≡ true
-unfolding legal-name
-dotdot-legal e = refl
 
 module _ (e : Edition) (sane : Sane e) (told : ℕ) (b : List ℕ) (v : verdict e told b ≡ 0) where
   absent : (n : List ℕ) → legal-name e n ≡ true → fixed-name n ≡ false

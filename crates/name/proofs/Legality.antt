@@ -84,3 +84,8 @@ fixed-dot n a h q = rw (sym h ∙ q) refl
 pub fixed-rest : (n : List ℕ) (a b : Bool) → a ≡ same n dot → a ≡ false → b ≡ same n dotdot → b ≡ fixed-name n
 unfolding fixed-name
 fixed-rest n a b h q k = rw (sym h ∙ q) k
+
+-- ".." is a legal name
+pub dotdot-legal : (e : Edition) → legal-name e dotdot ≡ true
+unfolding legal-name
+dotdot-legal e = refl
