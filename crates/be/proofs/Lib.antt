@@ -4,3 +4,4 @@ pub mod Numbers
 pub mod Parts
 pub mod Writes
 pub mod Stores
+pub mod Splits

@@ -1,2 +1,3 @@
 pub mod FileTypes
 pub mod EveryList
+pub mod Books

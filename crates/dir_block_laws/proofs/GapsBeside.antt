@@ -20,7 +20,7 @@ use Rattle.be.proofs.Bools.{and-right}
 use Rattle.dir_block_rules.proofs.CutJoin.{Laid, join, laid-front}
 use Rattle.edition.proofs.Sizes.{entry-size-least}
 use Rattle.dir_block_rules.proofs.GapsApart.{last-gap?}
-use Rattle.dir_block_rules.proofs.RecordPlaces.{Split}
+use Rattle.be.proofs.Splits.{Split}
 use Rattle.dir_block_rules.proofs.SearchFinds.{First, seek-first, seek-hit}
 use Rattle.name.proofs.Same.{same-name-length}
 use Rattle.dir_block_rules.proofs.AcceptedParts.{keep-find, Found-in, place-of}

@@ -23,7 +23,7 @@ use Rattle.be.proofs.Bools.{by-cases}
 use Rattle.be.proofs.Numbers.{length-to-be}
 use Rattle.dir.specs.declared.Target.{Target}
 use Rattle.dir_block_rules.specs.Lookup.{sought}
-use Rattle.dir_block_rules.proofs.RecordPlaces.{Split}
+use Rattle.be.proofs.Splits.{Split}
 use Rattle.dir_block_rules.proofs.AcceptedParts.{keep-find, Found-in}
 use Rattle.dir_block_rules.proofs.ChangeAccepted.{longest-in, length-insert, length-without}
 use Rattle.edition.proofs.Sizes.{entry-size-eights}

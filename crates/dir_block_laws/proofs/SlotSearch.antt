@@ -27,7 +27,7 @@ use Rattle.dir_block_rules.proofs.CutJoin.{join}
 use Rattle.edition.proofs.Sizes.{entry-size-least}
 use Rattle.dir_block_rules.proofs.BlockParts.{slots-count}
 use Rattle.dir_block_rules.proofs.IndexedEntries.{Indexed, addr-of}
-use Rattle.dir_block_rules.proofs.RecordPlaces.{Split, every-at}
+use Rattle.be.proofs.Splits.{Split, every-at}
 use Rattle.dir_block_rules.proofs.SearchFinds.{Owner, owner}
 use Rattle.dir_block_rules.proofs.Acceptance.{Passed, passed, tile-whole}
 use Rattle.dir_block_rules.proofs.GoodParts.{block-bound}

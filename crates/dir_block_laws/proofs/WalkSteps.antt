@@ -27,7 +27,8 @@ use Rattle.dir.specs.declared.Target.{Target}
 use Rattle.dir_block_rules.specs.Lookup.{target-at}
 use Rattle.dir_block_rules.specs.Walk.{step-over, step-end, is-place, walk-step}
 use Rattle.dir_block_rules.proofs.CutJoin.{Laid, join, laid-back, laid-front, join-append}
-use Rattle.dir_block_rules.proofs.RecordPlaces.{some-at, off-above, none-at, target-there}
+use Rattle.be.proofs.Splits.{some-at}
+use Rattle.dir_block_rules.proofs.RecordPlaces.{off-above, none-at, target-there}
 use Rattle.dir_block_rules.proofs.WholeWalk.{step-at, at-end}
 use Rattle.dir_block_laws.specs.Tiled.{Tiled, Ready}
 use Rattle.dir_block_laws.specs.Pass.{Place, Steps}

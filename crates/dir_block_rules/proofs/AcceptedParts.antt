@@ -24,7 +24,8 @@ use Rattle.dir_block_rules.proofs.BlockParts.{build, build-end, Fit, Sl
 use Rattle.dir_block_rules.proofs.Acceptance.{Passed, passed, tile-whole, tile-apart}
 use Rattle.dir_block_rules.proofs.SlotCounts.{Apart}
 use Rattle.dir_block_rules.proofs.IndexedEntries.{indexed, addr-of}
-use Rattle.dir_block_rules.proofs.RecordPlaces.{Split, apart-keep, laid-eights, name-there, target-there}
+use Rattle.be.proofs.Splits.{Split}
+use Rattle.dir_block_rules.proofs.RecordPlaces.{apart-keep, laid-eights, name-there, target-there}
 use Rattle.dir_block_rules.proofs.SearchFinds.{Reads}
 use Rattle.dir_block_rules.proofs.GoodParts.{Good}
 

@@ -21,7 +21,7 @@ use Rattle.be.proofs.Writes.{length-written}
 use Rattle.be.proofs.Numbers.{length-to-be}
 use Rattle.dir_block_rules.proofs.CutJoin.{join, Laid, join-append}
 use Rattle.dir_block_rules.proofs.BlockParts.{build, Fit, length-slot-bytes, build-records, build-slots, build-stale, length-build}
-use Rattle.dir_block_rules.proofs.RecordPlaces.{Split, split-cons}
+use Rattle.be.proofs.Splits.{Split, split-cons}
 use Rattle.dir_block_rules.proofs.GoodParts.{Good, new-head, new-fit, new-build, new-size, new-magic, new-table, good-accepted, good-pairs, block-bound}
 use Rattle.dir_block_rules.proofs.AcceptedParts.{tests, fit-of, build-of, magic-of, index-bytes}
 

@@ -33,12 +33,13 @@ use Rattle.dir.specs.Book.{held, Book, named, holds, target-held, SameBook, boo
 use Rattle.dir.specs.Along.{call-bytes}
 use Rattle.dir_block_rules.specs.Demand.{Reuse, Call-right, book-next}
 use Rattle.be.proofs.Bools.{and-left, and-right, by-cases, clash}
-use Rattle.dir_block_rules.proofs.RecordPlaces.{Split, some-split, some-at, every-at}
+use Rattle.be.proofs.Splits.{Split, some-split, some-at, every-at}
 use Rattle.name.proofs.Same.{same-eq, same-name-refl}
 use Rattle.dir_block_rules.proofs.BestTable.{longest-every}
 use Rattle.dir_block_rules.proofs.AcceptedParts.{good-of}
 use Rattle.dir_block_rules.proofs.PartsAddUp.{adds-up}
-use Rattle.dir_block_rules.proofs.BooksAgree.{holds-same, holds-entries, first-named, First-named, first-is, book-inserted, book-removed}
+use Rattle.dir.proofs.Books.{holds-same, first-named, First-named}
+use Rattle.dir_block_rules.proofs.BooksAgree.{holds-entries, first-is, book-inserted, book-removed}
 use Rattle.dir_block_rules.proofs.InsertFree.{Asked}
 use Rattle.dir_block_rules.proofs.InsertCases.{Inserted, insert-any}
 use Rattle.dir_block_rules.proofs.LookupFinds.{Removed, hit-of, spot, spot-name, target-found, removed-of}

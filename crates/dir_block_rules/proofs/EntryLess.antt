@@ -18,7 +18,8 @@ use Rattle.dir_block_rules.proofs.SlotCounts.{Apart, at-addr}
 use Rattle.dir_block_rules.proofs.OwnNumber.{own-mid}
 use Rattle.dir_block_rules.proofs.SlotOrder.{From}
 use Rattle.dir_block_rules.proofs.IndexedEntries.{Indexed, Slotted, slotted, →slotted, at-both, addr-of}
-use Rattle.dir_block_rules.proofs.OneMore.{every-mid, some-mid, once-mid, tally-mid, length-mid, alone}
+use Rattle.be.proofs.Splits.{every-mid, some-mid, tally-mid, length-mid}
+use Rattle.dir_block_rules.proofs.OneMore.{once-mid, alone}
 use Rattle.dir_block_rules.proofs.GoodParts.{Good}
 
 -- a slot made stale keeps the order

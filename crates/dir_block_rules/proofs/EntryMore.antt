@@ -29,8 +29,9 @@ use Rattle.dir_block_rules.proofs.OwnNumber.{own-mid}
 use Rattle.dir_block_rules.proofs.CutJoin.{Laid}
 use Rattle.dir_block_rules.proofs.SlotCounts.{Apart}
 use Rattle.dir_block_rules.proofs.IndexedEntries.{Kept, indexed-insert, addr-of}
-use Rattle.dir_block_rules.proofs.OneMore.{every-mid, some-mid, once-mid}
-use Rattle.dir_block_rules.proofs.RecordPlaces.{Split, some-split, every-at, every-map, apart-keep, apart-front}
+use Rattle.be.proofs.Splits.{every-mid, some-mid, Split, some-split, every-at, every-map}
+use Rattle.dir_block_rules.proofs.OneMore.{once-mid}
+use Rattle.dir_block_rules.proofs.RecordPlaces.{apart-keep, apart-front}
 use Rattle.dir_block_rules.proofs.GoodParts.{Good}
 
 -- the name and the number of a new entry

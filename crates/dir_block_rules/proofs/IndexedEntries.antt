@@ -18,7 +18,7 @@ use Rattle.dir_block_rules.specs.Change.{insert-slot}
 use Rattle.be.proofs.Bools.{and-left, and-right, and-both, by-cases, clash, every-head, every-tail, every-cons}
 use Rattle.dir_block_rules.proofs.SlotOrder.{From, rising-from, from-rising, insert-from, tally-insert, drop-first-from, keep-from}
 use Rattle.dir_block_rules.proofs.SlotCounts.{Apart, at-addr, pigeon}
-use Rattle.dir_block_rules.proofs.OneMore.{every-mid, length-mid}
+use Rattle.be.proofs.Splits.{every-mid, length-mid}
 
 -- what index-ok says of the entries as
 pub record Indexed (e : Edition) (es : List Rec) (ss : List Slot) (n : ℕ) : Type 0 where

@@ -24,7 +24,7 @@ use Rattle.be.proofs.Bools.{and-left, and-right, by-cases}
 use Rattle.edition.proofs.Sizes.{entry-size-least}
 use Rattle.dir_block_rules.proofs.CutJoin.{join, Laid, laid-back}
 use Rattle.dir_block_rules.proofs.BlockParts.{length-slot-bytes}
-use Rattle.dir_block_rules.proofs.RecordPlaces.{Split}
+use Rattle.be.proofs.Splits.{Split}
 use Rattle.dir_block_rules.proofs.GoodParts.{tally-length}
 use Rattle.dir.proofs.FileTypes.{target-type}
 use Rattle.dir_block_rules.proofs.EntryMore.{entry-name, entry-target}

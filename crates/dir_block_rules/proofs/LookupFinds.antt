@@ -24,7 +24,7 @@ use Rattle.dir_block_rules.proofs.CutJoin.{join, Laid, join-append}
 use Rattle.dir_block_rules.proofs.WritesLeave.{free, gap-raw, length-gap-raw}
 use Rattle.dir_block_rules.proofs.InsertGood.{gap-raw-gap}
 use Rattle.dir_block_rules.proofs.IndexedEntries.{addr-of}
-use Rattle.dir_block_rules.proofs.RecordPlaces.{Split, every-at}
+use Rattle.be.proofs.Splits.{Split, every-at}
 use Rattle.dir_block_rules.proofs.SearchFinds.{First, seek-hit, seek-first, Owner, match-owner, hit-is}
 use Rattle.dir_block_rules.proofs.PartsAddUp.{entry-long}
 use Rattle.name.proofs.Same.{same-name-length, same-name-fixed}

@@ -25,7 +25,7 @@ use Rattle.dir_block_rules.specs.Verdict.{Accepted}
 use Rattle.dir.specs.Answers.{looked-code, looked-target, looked-compared}
 use Rattle.dir_block_rules.specs.Lookup.{candidate, match, step-if, seek, sought, name-at, target-at, bears, up-to, names-compared, lookup, lookup-refusal, lookup-code, lookup-target, lookup-compared}
 use Rattle.dir_block_rules.specs.Claims.{borne, Lookup-right}
-use Rattle.dir_block_rules.proofs.RecordPlaces.{Split, split-cons, some-at, some-split}
+use Rattle.be.proofs.Splits.{Split, split-cons, some-at, some-split}
 use Rattle.dir_block_rules.proofs.SearchFinds.{Owner, owner, read-at}
 use Rattle.dir_block_rules.proofs.AcceptedParts.{good-of, apart-of, reads-of}
 use Rattle.dir_block_rules.proofs.BooksAgree.{one-target}

@@ -21,39 +21,7 @@ use Rattle.edition.proofs.Sizes.{entry-size-least}
 use Rattle.dir_block_rules.proofs.CutJoin.{Laid, Whole}
 use Rattle.dir_block_rules.proofs.SlotCounts.{Apart}
 use Rattle.dir_block_rules.proofs.IndexedEntries.{addr-of}
-use Rattle.dir_block_rules.proofs.OneMore.{every-mid, some-mid}
-
--- a list in three: what stands before an element, the element, and the rest
-pub record Split {A : Type 0} (l : List A) : Type 0 where
-  pub before : List A
-  pub here : A
-  pub behind : List A
-  pub is : l ≡ before ++ here ∷ behind
-
-module _ {A : Type 0} where
-  abbrev pub split-cons : (x : A) (l : List A) → Split l → Split (x ∷ l)
-  split-cons x l s = record { before = x ∷ s .before; here = s .here; behind = s .behind; is = ap (λ (m : List A). x ∷ m) (s .is) }
-
-  pub some-split : (p : A → Bool) (l : List A) → some-of p l ≡ true → (s : Split l) × (p (s .here) ≡ true)
-  some-split p [] h = absurd (false≢true h)
-  some-split p (x ∷ l) h =
-      by-cases (p x)
-      (λ q. (record { before = []; here = x; behind = l; is = refl }, q))
-      (λ q. let r : (s : Split l) × (p (s .here) ≡ true) = some-split p l (rw q at h) in (split-cons x l (r .0), r .1))
-
-  pub some-at : (p : A → Bool) (xs : List A) (x : A) (ys : List A) → p x ≡ true → some-of p (xs ++ x ∷ ys) ≡ true
-  some-at p xs x ys h = some-mid p xs x ys ∙ rw h
-
-  pub every-at : (p : A → Bool) (xs : List A) (x : A) (ys : List A) → every p (xs ++ x ∷ ys) ≡ true → p x ≡ true
-  every-at p xs x ys h = and-left (p x) (every p (xs ++ ys)) (sym (every-mid p xs x ys) ∙ h)
-
-  pub tally-split : (p : A → Bool) (l : List A) → 0 < tally p l → (s : Split l) × (p (s .here) ≡ true)
-  tally-split p [] h = absurd (omega arith)
-  tally-split p (x ∷ l) h =
-      by-cases (p x)
-      (λ q. (record { before = []; here = x; behind = l; is = refl }, q))
-      (λ q. let h′ : 0 < 0 + tally p l = rw q at h in
-      let r : (s : Split l) × (p (s .here) ≡ true) = tally-split p l (omega arith) in (split-cons x l (r .0), r .1))
+use Rattle.be.proofs.Splits.{every-mid, every-map}
 
 -- addresses past a bound are not at it
 above : (e : Edition) (p : Rec → Bool) (a o : ℕ) (rs : List Rec) → 8 * a + 8 ≤ o → Laid e o rs → every (λ c. not (eqb a c)) (map addr-of (keep p rs)) ≡ true
@@ -76,10 +44,6 @@ apart-keep e p o (r ∷ rs) h l =
 
 eqb-not-swap : (a b : ℕ) → not (eqb a b) ≡ true → not (eqb b a) ≡ true
 eqb-not-swap a b h = rw (ne-eqb b a (λ (z : b ≡ a). eqb-false a b (not-true (eqb a b) h) (sym z)))
-
-pub every-map : {A B : Type 0} (p : B → Bool) (f : A → B) (l : List A) → every p (map f l) ≡ every (λ a. p (f a)) l
-every-map p f [] = refl
-every-map p f (x ∷ l) = ap (λ (t : Bool). p (f x) && t) (every-map p f l)
 
 -- the element in the middle may stand first
 pub apart-front : (xs : List Rec) (x : Rec) (ys : List Rec) → Apart (map addr-of (xs ++ x ∷ ys)) → Apart (addr-of x ∷ map addr-of (xs ++ ys))

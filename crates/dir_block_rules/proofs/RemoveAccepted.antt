@@ -22,7 +22,8 @@ use Rattle.dir_block_rules.proofs.BlockParts.{build, Fit, SlotsFit, tai
 use Rattle.dir_block_rules.proofs.WritesLeave.{free, Gapful, length-free, free-laid}
 use Rattle.dir_block_rules.proofs.SlotCounts.{Apart}
 use Rattle.dir_block_rules.proofs.IndexedEntries.{addr-of}
-use Rattle.dir_block_rules.proofs.RecordPlaces.{Split, apart-front}
+use Rattle.be.proofs.Splits.{Split}
+use Rattle.dir_block_rules.proofs.RecordPlaces.{apart-front}
 use Rattle.dir_block_rules.proofs.GoodParts.{Good, tally-length}
 use Rattle.dir_block_rules.proofs.EntryLess.{good-remove}
 use Rattle.dir_block_rules.proofs.GapsApart.{Follows, follows, from-follows, last-gap?, follows-front, follows-back, follows-append, last-no}

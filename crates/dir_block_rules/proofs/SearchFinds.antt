@@ -20,8 +20,8 @@ use Rattle.dir_block_rules.specs.Lookup.{Sought, seek, candidate, match,
 use Rattle.be.proofs.Bools.{and-left, and-right, and-both, by-cases, clash}
 use Rattle.dir_block_rules.proofs.SlotCounts.{Apart, at-addr}
 use Rattle.dir_block_rules.proofs.IndexedEntries.{Indexed, Slotted, slotted, addr-of, at-both, no-stray, tally-le}
-use Rattle.dir_block_rules.proofs.OneMore.{tally-mid, some-none}
-use Rattle.dir_block_rules.proofs.RecordPlaces.{Split, some-split, some-at, every-at, tally-split, every-map, apart-pos}
+use Rattle.be.proofs.Splits.{tally-mid, some-none, Split, some-split, some-at, every-at, tally-split, every-map}
+use Rattle.dir_block_rules.proofs.RecordPlaces.{apart-pos}
 
 -- a name is compared at live slots only, and the search ends at that name only
 candidate-live : (h : ℕ) (s : Slot) → candidate h s ≡ true → is-live s ≡ true

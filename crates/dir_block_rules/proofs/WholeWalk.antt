@@ -23,7 +23,8 @@ use Rattle.dir_block_rules.specs.Walk.{record-at, step-over, step-end, i
 use Rattle.dir_block_rules.specs.Claims.{climbs, Walks, Walk-right}
 use Rattle.be.proofs.Bools.{and-both, by-cases}
 use Rattle.dir_block_rules.proofs.CutJoin.{join, Laid, join-append, laid-back}
-use Rattle.dir_block_rules.proofs.RecordPlaces.{some-at, part-there}
+use Rattle.be.proofs.Splits.{some-at}
+use Rattle.dir_block_rules.proofs.RecordPlaces.{part-there}
 use Rattle.edition.specs.Edition.{v4, Sane}
 use Rattle.edition.proofs.Sizes.{v4-sane}
 use Rattle.dir_block_rules.proofs.AcceptedParts.{fit-of, index-bytes, block-around, end-of-data}

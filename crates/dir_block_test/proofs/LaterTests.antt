@@ -23,7 +23,8 @@ use Rattle.be.proofs.Bools.{by-cases, and-left, and-right, every-head, every-ta
 use Rattle.dir_block_rules.proofs.CutJoin.{Laid, join, join-cut}
 use Rattle.dir_block_rules.proofs.SlotCounts.{Apart}
 use Rattle.dir_block_rules.proofs.IndexedEntries.{addr-of, Indexed, indexed}
-use Rattle.dir_block_rules.proofs.RecordPlaces.{Split, apart-keep, laid-eights, every-at}
+use Rattle.be.proofs.Splits.{Split, every-at}
+use Rattle.dir_block_rules.proofs.RecordPlaces.{apart-keep, laid-eights}
 use Rattle.dir_block_rules.proofs.SearchFinds.{Reads, Owner, owner}
 use Rattle.name.proofs.Same.{same-eq}
 use Rattle.dir_block_rules.proofs.GoodParts.{laid-small}

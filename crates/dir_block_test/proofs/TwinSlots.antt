@@ -16,11 +16,12 @@ use Rattle.dir_block_rules.specs.Lookup.{name-at}
 use Rattle.dir_block_rules.specs.Verdict.{once-ok, has-slot}
 use Rattle.be.proofs.Bools.{by-cases, and-left, and-right, and-both, clash, and-false}
 use Rattle.dir_block_rules.proofs.SlotOrder.{From}
-use Rattle.dir_block_rules.proofs.OneMore.{some-mid, tally-mid, once-mid}
+use Rattle.be.proofs.Splits.{some-mid, tally-mid, Split, some-split, some-at, every-at, tally-split, split-cons, every-map}
+use Rattle.dir_block_rules.proofs.OneMore.{once-mid}
 use Rattle.name.proofs.Same.{same-name-swap, same-name-hash}
 use Rattle.dir_block_rules.proofs.SlotCounts.{Apart, at-addr}
 use Rattle.dir_block_rules.proofs.IndexedEntries.{Indexed, addr-of, at-both, Slotted, slotted}
-use Rattle.dir_block_rules.proofs.RecordPlaces.{Split, some-split, some-at, every-at, tally-split, apart-pos, split-cons, apart-front, every-map}
+use Rattle.dir_block_rules.proofs.RecordPlaces.{apart-pos, apart-front}
 use Rattle.dir_block_rules.proofs.SearchFinds.{Owner, owner, Reads, read-at as reads}
 use Rattle.dir_block_test.specs.Passes.{clash-from, once-in, name-of}
 
