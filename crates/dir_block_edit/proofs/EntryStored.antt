@@ -2,12 +2,12 @@
 -- Assumes nothing.
 use Prim.Native.Nat.{ℕ, _+_, _-_, _≤_, _<_}
 use native.Mathlib.Omega.{arith}
-use mathlib.Core.Path.{_≡_, refl, sym, _∙_, ap, ap₂}
+use mathlib.Core.Path.{_≡_, refl, _∙_, ap, ap₂}
 use mathlib.Core.List.{List, _++_, append-assoc}
 use lib.ListN.{length, replicate, length-append, length-replicate}
 use Rattle.be.specs.Bytes.{put, to-be, written}
 use Rattle.be.proofs.Numbers.{length-to-be, to-be-1}
-use Rattle.be.proofs.Writes.{put-next, put-nothing}
+use Rattle.be.proofs.Writes.{put-next}
 use Rattle.edition.specs.declared.Edition.{Edition}
 use Rattle.edition.specs.Edition.{entry-size}
 use Rattle.edition.proofs.Sizes.{entry-size-least}

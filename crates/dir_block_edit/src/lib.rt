@@ -8,7 +8,7 @@ ghost use Rattle.be.specs.Lists.{without-first, keep};
 ghost use Rattle.be.specs.Bytes.{byte, bytes, to-be, put, written};
 ghost use Rattle.edition.specs.Edition.{v4, entry-size, Sane};
 ghost use Rattle.name.specs.Name.{hash-of, legal-name, fixed-name};
-ghost use Rattle.dir.specs.Target.{target, legal-type, legal-target};
+ghost use Rattle.dir.specs.Target.{target, legal-target};
 ghost use Rattle.dir_block_rules.specs.Record.{entry-bytes, gap-writes, gaps, size};
 ghost use Rattle.dir_block_rules.specs.Block.{records, data-end, count-of, stale-of, slots, slot, is-stale, is-live};
 ghost use Rattle.dir_block_rules.specs.Lookup.{sought};

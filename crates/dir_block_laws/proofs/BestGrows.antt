@@ -1,6 +1,6 @@
 -- The best-gap table grows gap by gap: the table of gs and one gap more is the table of gs with that gap put in.
 -- Assumes nothing.
-use Prim.Native.Nat.{ℕ, zero, suc, _+_, _-_, _<_}
+use Prim.Native.Nat.{ℕ, zero, suc, _<_}
 use native.Mathlib.Omega.{arith}
 use mathlib.Core.Bool.{Bool, true, not, cond}
 use mathlib.Core.Path.{_≡_, refl, sym, _∙_, ap, ap₂}
@@ -14,7 +14,7 @@ use Rattle.dir_block_rules.specs.Record.{Rec, size, besides}
 use Rattle.dir_block_rules.specs.Room.{longest}
 use Rattle.dir_block_rules.specs.Verdict.{Pair, pair}
 use Rattle.dir_block_rules.specs.Change.{best-of}
-use Rattle.be.proofs.Bools.{by-cases, every-head, every-tail, every-cons, keep-append, every-keep}
+use Rattle.be.proofs.Bools.{by-cases, every-head, every-tail, keep-append, every-keep}
 use Rattle.dir_block_rules.proofs.GoodParts.{every-longest, length-best}
 use Rattle.dir_block_laws.specs.BestSoFar.{ins}
 

@@ -11,7 +11,7 @@ use borrow.Author.Tests.{eq-eqb, ne-eqb, not-true}
 use Rattle.be.specs.Bytes.{be, field}
 use Rattle.edition.specs.declared.Edition.{Edition}
 use Rattle.edition.specs.Edition.{entry-size, Sane}
-use Rattle.dir_block_rules.specs.Record.{Rec, size, is-gap, is-entry, gap-start, says, gaps, tag, entries}
+use Rattle.dir_block_rules.specs.Record.{Rec, size, is-gap, is-entry, gap-start, gaps, entries}
 use Rattle.dir_block_rules.specs.Block.{records, slots, data-end, count-of}
 use Rattle.dir_block_rules.specs.Lookup.{sought, seek, name-at, candidate}
 use Rattle.name.specs.Name.{hash-of, same-name}

@@ -11,8 +11,8 @@ use lib.Dec.{leb, ltb}
 use lib.ListN.{length, take, drop, length-append, length-drop, length-take, take-append-drop}
 use lib.Seq.{drop-drop, take-add, take-all}
 use borrow.Author.Tests.{eq-eqb, ne-eqb, leb-true, ltb-true, le-leb, lt-leb, not-true}
-use Rattle.be.specs.Lists.{every, keep, without-first, tally}
-use Rattle.be.specs.Bytes.{bytes, part, field, put, to-be, write, written}
+use Rattle.be.specs.Lists.{every, without-first, tally}
+use Rattle.be.specs.Bytes.{part, field, put, to-be, written}
 use Rattle.edition.specs.declared.Edition.{Edition}
 use Rattle.dir_block_rules.specs.Block.{Slot, slot, slots, slots-in, slot-bytes, data-end, count-of, stale-of, is-stale, is-live}
 use Rattle.dir_block_rules.specs.Change.{index-writes, insert-slot}

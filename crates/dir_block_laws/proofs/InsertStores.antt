@@ -9,7 +9,7 @@ use lib.Dec.{eqb, leb}
 use lib.ListN.{length}
 use borrow.Author.Tests.{eqb-false, eq-eqb, ne-eqb, leb-true, leb-false, le-leb, lt-leb, not-true}
 use Rattle.be.specs.Lists.{keep, without-first}
-use Rattle.be.specs.Bytes.{bytes, put, to-be, write, Write, written}
+use Rattle.be.specs.Bytes.{bytes, put, to-be, Write, written}
 use Rattle.edition.specs.declared.Edition.{Edition}
 use Rattle.edition.specs.Edition.{entry-size, Sane}
 use Rattle.dir_block_rules.specs.Record.{Rec, size, gaps, besides, is-gap, gap-writes}

@@ -15,8 +15,7 @@ use Rattle.edition.specs.declared.Edition.{Edition}
 use Rattle.dir_block_rules.specs.Record.{Rec, size, is-gap, gap-start, says}
 use Rattle.dir_block_rules.specs.Block.{records, slots, slot-bytes, stale-of, count-of, data-end}
 use Rattle.dir_block_rules.specs.Verdict.{span-ok}
-use Rattle.dir_block_rules.specs.Room.{last-of}
-use Rattle.be.proofs.Bools.{by-cases, and-left, every-cons, and-right}
+use Rattle.be.proofs.Bools.{by-cases, every-cons, and-right}
 use Rattle.dir_block_rules.proofs.CutJoin.{Whole, Laid, join, join-append, laid-back, laid-front, says-append, gap-start-append}
 use Rattle.dir_block_rules.proofs.BlockParts.{tail-bytes, build-end, refit, rebuild, room-for as span-room, end-is as span-end}
 use Rattle.dir_block_laws.specs.Tiled.{Tiled}

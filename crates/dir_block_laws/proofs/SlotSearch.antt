@@ -4,7 +4,7 @@ use Prim.Native.Nat.{ℕ, zero, suc, _+_, _-_, _*_, _≤_, _<_}
 use native.Mathlib.Nat.{add-zero, add-suc, suc-add, sub-zero}
 use native.Mathlib.Numerals.{add-one}
 use native.Mathlib.Omega.{arith}
-use mathlib.Core.Bool.{true, false, not, cond, _&&_}
+use mathlib.Core.Bool.{true, false, cond, _&&_}
 use mathlib.Core.Path.{_≡_, refl, sym, _∙_, ap, ap₂, subst}
 use mathlib.Core.List.{List, [], _∷_, _++_}
 use lib.Dec.{eqb, leb, ltb}
@@ -13,10 +13,10 @@ use lib.Seq.{drop-drop}
 use borrow.Author.Tests.{ltb-true, ltb-false, leb-true, lt-ltb, le-leb, eq-eqb, ne-eqb, eqb-true, not-true}
 use Rattle.be.specs.Lists.{every}
 use Rattle.be.proofs.Parts.{bytes-all}
-use Rattle.be.specs.Bytes.{byte, be, part, field}
+use Rattle.be.specs.Bytes.{byte, be, field}
 use Rattle.edition.specs.declared.Edition.{Edition}
 use Rattle.edition.specs.Edition.{entry-size, Sane}
-use Rattle.dir_block_rules.specs.Record.{Rec, size, is-gap, is-entry, says, entries}
+use Rattle.dir_block_rules.specs.Record.{Rec, size, is-gap, is-entry, entries}
 use Rattle.name.specs.Name.{hash-of, same-name}
 use Rattle.dir_block_rules.specs.Block.{Slot, slot, slots-in, slots, records, count-of, stale-of, data-end, is-live}
 use Rattle.dir_block_rules.specs.Lookup.{candidate, step-if, seek, sought, name-at}

@@ -6,7 +6,7 @@ use mathlib.Core.Bool.{true, false, _&&_}
 use mathlib.Core.Path.{_≡_, refl, sym, _∙_, ap, ap₂, subst}
 use mathlib.Core.List.{List, [], _∷_, _++_}
 use lib.Dec.{leb}
-use lib.ListN.{length, take, drop, length-append}
+use lib.ListN.{length, take, drop}
 use lib.Seq.{drop-drop}
 use borrow.Author.Tests.{leb-true}
 use Rattle.be.specs.Lists.{every}
@@ -17,7 +17,7 @@ use Rattle.dir_block_rules.specs.Record.{size, cut, whole, gaps, gap-writes}
 use Rattle.dir_block_rules.specs.Block.{records, data-end, count-of, stale-of}
 use Rattle.name.specs.Name.{fixed-name}
 use Rattle.dir_block_rules.specs.Lookup.{sought}
-use Rattle.dir_block_rules.specs.Verdict.{Accepted, span-ok, size-ok, tile-ok, Pair}
+use Rattle.dir_block_rules.specs.Verdict.{Accepted, span-ok, size-ok, tile-ok}
 use Rattle.dir_block_rules.specs.Change.{gap-start-before, gap-end-after, with-best, changed, pair-bytes, best-of, remove-writes}
 use Rattle.be.proofs.Bools.{and-left}
 use Rattle.be.proofs.Writes.{length-put, put-next, drop-put}

@@ -8,10 +8,10 @@ use mathlib.Core.Path.{_≡_, refl, sym, _∙_, ap, ap₂, subst}
 use mathlib.Core.List.{List, [], _∷_, _++_, append-assoc}
 use lib.Dec.{eqb}
 use lib.ListN.{length, take, drop, getD, length-append, length-take, take-append-drop, List·getD-append}
-use lib.Seq.{getD-drop, take-append-le}
+use lib.Seq.{getD-drop}
 use borrow.Author.Tests.{eq-eqb, ne-eqb}
 use Rattle.be.specs.Lists.{every, some-of, keep}
-use Rattle.be.specs.Bytes.{be, byte, field}
+use Rattle.be.specs.Bytes.{byte, field}
 use Rattle.be.proofs.Bools.{every-cons, every-append, and-both, by-cases}
 use Rattle.edition.specs.declared.Edition.{Edition}
 use Rattle.edition.specs.Edition.{Sane, entry-size}

@@ -4,7 +4,7 @@ use mathlib.Core.Bool.{cond}
 use mathlib.Core.List.{List, [], _∷_}
 use lib.Dec.{ltb}
 use lib.ListN.{length, take}
-use Rattle.dir_block_rules.specs.Verdict.{Pair, pair}
+use Rattle.dir_block_rules.specs.Verdict.{Pair}
 
 unfoldable pub ins : Pair → List Pair → List Pair
 ins p [] = []

@@ -1,13 +1,11 @@
 -- Acceptance, as the tests that pass.
 -- Assumes nothing.
-use Prim.Native.Nat.{ℕ, suc}
-use native.Mathlib.Omega.{arith}
-use mathlib.Core.Bool.{Bool, true, false}
-use mathlib.Core.Path.{_≡_, refl}
+use Prim.Native.Nat.{ℕ}
+use mathlib.Core.Bool.{true}
+use mathlib.Core.Path.{_≡_}
 use mathlib.Core.List.{List}
 use Rattle.be.proofs.Codes.{passes}
 use Rattle.be.specs.Lists.{every}
-use Rattle.be.specs.Codes.{_unless_then_}
 use Rattle.edition.specs.declared.Edition.{Edition}
 use Rattle.dir_block_rules.specs.Record.{Rec, whole, apart, entries, gaps}
 use Rattle.dir_block_rules.specs.Block.{records, slots, stale-of}

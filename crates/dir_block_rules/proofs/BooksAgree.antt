@@ -2,11 +2,10 @@
 -- Assumes nothing.
 use Prim.Native.Nat.{ℕ, _+_}
 use native.Mathlib.Omega.{arith}
-use mathlib.Core.Bool.{Bool, true, false, not, _&&_, _||_, cond, true≢false, false≢true}
+use mathlib.Core.Bool.{Bool, true, false, not, _&&_, cond, true≢false}
 use mathlib.Core.Path.{_≡_, refl, sym, _∙_, ap, ap₂, subst}
 use mathlib.Core.List.{List, [], _∷_, _++_, map, nil≢cons, head-eq-of-cons-eq, tail-eq-of-cons-eq}
-use lib.Dec.{eqb}
-use borrow.Author.Tests.{eqb-true, eq-eqb, not-true}
+use borrow.Author.Tests.{not-true}
 use Rattle.name.proofs.Same.{same-refl, same-eq, same-name-sym, same-name-trans}
 use Rattle.be.specs.Lists.{some-of, tally, without-first, same}
 use Rattle.edition.specs.declared.Edition.{Edition}
@@ -15,13 +14,13 @@ use Rattle.dir.specs.declared.Target.{Target}
 use Rattle.be.proofs.Splits.{some-map}
 use Rattle.dir.proofs.Books.{target-self, target-eq, in-other, book-sym, First-named}
 use Rattle.dir.specs.Target.{target, same-target}
-use Rattle.dir_block_rules.specs.Record.{Rec, target-of, name, number, entries}
+use Rattle.dir_block_rules.specs.Record.{Rec, target-of, name, entries}
 use Rattle.dir_block_rules.specs.Block.{records}
 use Rattle.dir_block_rules.specs.Verdict.{once-ok}
-use Rattle.dir.specs.Book.{Held, held, Book, named, holds, target-held, same-held, SameBook}
+use Rattle.dir.specs.Book.{Held, held, Book, named, holds, same-held, SameBook}
 use Rattle.dir_block_rules.specs.Calls.{book-of}
-use Rattle.be.proofs.Bools.{and-left, and-right, and-both, by-cases, clash, neither, and-false}
-use Rattle.be.proofs.Splits.{some-mid, tally-mid, Split, split-cons, some-split, some-at, tally-split}
+use Rattle.be.proofs.Bools.{and-left, by-cases, clash, neither, and-false}
+use Rattle.be.proofs.Splits.{some-mid, Split, split-cons, some-at}
 use Rattle.dir_block_rules.proofs.OneMore.{once-mid, alone}
 
 abbrev pub entry-held : Edition → Rec → Held

@@ -20,7 +20,7 @@ use Rattle.edition.specs.declared.Edition.{Edition}
 use Rattle.edition.specs.Edition.{entry-size, Sane}
 use Rattle.name.specs.Name.{legal-name, legal-number, fixed-name, same-name, dot, dotdot}
 use Rattle.dir.specs.declared.Target.{Target}
-use Rattle.dir.specs.Target.{target, kept-of, legal-target}
+use Rattle.dir.specs.Target.{kept-of, legal-target}
 use Rattle.dir_block_rules.specs.Record.{Rec, size, entries, gaps, name}
 use Rattle.dir_block_rules.specs.Block.{records, stale-of}
 use Rattle.dir_block_rules.specs.Verdict.{Accepted, names-ok, name-ok, entry-at}

@@ -9,8 +9,8 @@ use lib.Dec.{eqb}
 use borrow.Author.Tests.{ne-eqb, not-true}
 use Rattle.be.specs.Lists.{every, some-of, tally, same}
 use Rattle.edition.specs.declared.Edition.{Edition}
-use Rattle.name.specs.Name.{legal-name, legal-number, hash-of, fixed-name, dot, dotdot}
-use Rattle.dir_block_rules.specs.Record.{Rec, apart, entries, name, number}
+use Rattle.name.specs.Name.{legal-name, hash-of, fixed-name, dot, dotdot}
+use Rattle.dir_block_rules.specs.Record.{Rec, apart, entries, name}
 use Rattle.dir_block_rules.specs.Block.{Slot, slot, is-stale, is-live}
 use Rattle.dir_block_rules.specs.Verdict.{names-ok, numbers-ok, own-in, number-ok, once-ok, name-ok, entry-at, has-slot}
 use Rattle.be.proofs.Bools.{and-left, and-right, and-both, every-head, every-tail, every-cons, or-second, neither}

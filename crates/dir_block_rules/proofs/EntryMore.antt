@@ -1,27 +1,27 @@
 -- One entry more: the parts stay good.
 -- Assumes nothing.
-use Prim.Native.Nat.{ℕ, zero, suc, _+_, _-_, _/_, _^_, _≤_, _<_}
+use Prim.Native.Nat.{ℕ, _+_, _-_, _/_, _^_, _<_}
 use native.Mathlib.Omega.{arith}
-use mathlib.Core.Bool.{Bool, true, false, not, _&&_, _||_, true≢false}
-use mathlib.Core.Path.{_≡_, refl, sym, _∙_, ap, ap₂, subst}
+use mathlib.Core.Bool.{Bool, true, false, not, _&&_}
+use mathlib.Core.Path.{_≡_, sym, _∙_, ap, ap₂, subst}
 use mathlib.Core.List.{List, _∷_, _++_, map, append-assoc}
-use lib.Dec.{eqb, leb}
+use lib.Dec.{eqb}
 use lib.ListN.{replicate, length, take, getD, length-append}
 use lib.Seq.{take-append-seam, take-at}
-use borrow.Author.Tests.{eqb-true, eqb-false, ne-eqb, not-true, leb-true}
+use borrow.Author.Tests.{eqb-true, eqb-false, ne-eqb, not-true}
 use Rattle.be.specs.Lists.{every, some-of, same}
-use Rattle.be.specs.Bytes.{be, be-from, to-be, field}
+use Rattle.be.specs.Bytes.{be, to-be, field}
 use Rattle.edition.specs.declared.Edition.{Edition}
 use Rattle.edition.specs.Edition.{entry-size, Sane}
-use Rattle.name.specs.Name.{legal-name, legal-number, hash-of, same-name, fixed-name, dot, dotdot}
+use Rattle.name.specs.Name.{legal-name, hash-of, same-name, fixed-name, dot, dotdot}
 use Rattle.dir.specs.declared.Target.{Target}
-use Rattle.dir.specs.Target.{target, kept-of, legal-type, legal-target}
-use Rattle.dir.proofs.FileTypes.{target-number, target-type, kept-read}
+use Rattle.dir.specs.Target.{target, kept-of, legal-type}
+use Rattle.dir.proofs.FileTypes.{kept-read}
 use Rattle.dir_block_rules.specs.Record.{target-of, kind-of, pad, Rec, rec, apart, entries, is-entry, name, number, entry-bytes}
 use Rattle.dir_block_rules.specs.Block.{Slot, slot}
 use Rattle.dir_block_rules.specs.Verdict.{names-ok, numbers-ok, own-in, number-ok, name-ok, entry-at}
 use Rattle.dir_block_rules.specs.Change.{insert-slot}
-use Rattle.be.proofs.Bools.{and-left, and-right, and-both, or-right, neither, by-cases}
+use Rattle.be.proofs.Bools.{and-left, and-right, and-both, or-right, neither}
 use Rattle.be.proofs.Numbers.{be-to-be, length-to-be}
 use Rattle.be.proofs.Parts.{part-at}
 use Rattle.dir_block_rules.proofs.WritesLeave.{entry-namelen}

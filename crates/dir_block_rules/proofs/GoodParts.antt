@@ -7,7 +7,7 @@ use mathlib.Core.Bool.{Bool, true, not, _&&_}
 use mathlib.Core.Path.{_≡_, refl, sym, _∙_, ap, subst}
 use mathlib.Core.List.{List, [], _∷_, _++_, append-assoc}
 use lib.Dec.{eqb, leb, ltb, leb·zero}
-use lib.ListN.{length, take, drop, length-append, length-take, length-drop, take-append-drop}
+use lib.ListN.{length, take, drop, length-append, length-take, take-append-drop}
 use lib.Seq.{take-append-le, take-at, drop-at}
 use borrow.Author.Tests.{le-leb, ltb-true, lt-ltb}
 use Rattle.edition.proofs.Sizes.{block-size-bounds}

@@ -15,7 +15,7 @@ use Rattle.edition.specs.Edition.{entry-size, Sane}
 use Rattle.name.specs.Name.{hash-of}
 use Rattle.dir.specs.declared.Target.{Target}
 use Rattle.dir.specs.Target.{kept-of}
-use Rattle.dir_block_rules.specs.Record.{target-of, gap-writes, Rec, rec, size, is-gap, entries, gaps, name, number, besides}
+use Rattle.dir_block_rules.specs.Record.{target-of, gap-writes, Rec, rec, size, is-gap, entries, gaps, name, besides}
 use Rattle.dir_block_rules.specs.Block.{Slot, slot, slot-bytes, records, slots, stale-of, data-end, is-stale, is-live}
 use Rattle.dir_block_rules.specs.Verdict.{Accepted, best-pairs}
 use Rattle.dir_block_rules.specs.Room.{some-stale, Room, room-of, longest, last-of, touching, case-a, case-b, case-c, case-d, has-room}

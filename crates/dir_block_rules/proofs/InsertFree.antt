@@ -12,7 +12,7 @@ use Rattle.be.specs.Lists.{some-of, keep, tally, without-first}
 use Rattle.be.specs.Bytes.{bytes, to-be, written, Write}
 use Rattle.edition.specs.declared.Edition.{Edition}
 use Rattle.edition.specs.Edition.{entry-size, Sane}
-use Rattle.name.specs.Name.{hash-of, same-name, legal-name, legal-number, fixed-name}
+use Rattle.name.specs.Name.{hash-of, same-name, legal-name, fixed-name}
 use Rattle.dir.specs.declared.Target.{Target}
 use Rattle.dir_block_rules.specs.Record.{Rec, size, is-gap, is-entry, entries, name}
 use Rattle.dir_block_rules.specs.Block.{Slot, slot, slot-bytes, records, slots, stale-of, is-stale, is-live}

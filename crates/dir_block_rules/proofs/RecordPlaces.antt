@@ -3,14 +3,14 @@
 use Prim.Native.Nat.{ℕ, _+_, _*_, _%_, _≤_, _<_}
 use native.Mathlib.Nat.{add-assoc}
 use native.Mathlib.Omega.{arith}
-use mathlib.Core.Bool.{Bool, true, false, not, _&&_, false≢true}
+use mathlib.Core.Bool.{Bool, true, false, not, _&&_}
 use mathlib.Core.Path.{_≡_, refl, sym, _∙_, ap, ap₂}
 use mathlib.Core.List.{List, [], _∷_, _++_, map}
 use lib.Dec.{eqb}
 use lib.ListN.{length, take, drop, getD, length-drop, List·getD-append}
 use lib.Seq.{drop-append-seam, take-append-le, drop-append-le, drop-append-add, getD-append-add}
 use borrow.Author.Tests.{eqb-false, eq-eqb, ne-eqb, not-true}
-use Rattle.be.specs.Lists.{every, some-of, tally, keep}
+use Rattle.be.specs.Lists.{every, some-of, keep}
 use Rattle.be.specs.Bytes.{be, part}
 use Rattle.edition.specs.declared.Edition.{Edition}
 use Rattle.dir.specs.Target.{target}

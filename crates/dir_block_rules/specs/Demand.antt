@@ -2,9 +2,9 @@
 -- Its proof: proofs/Demand3.antt.
 -- Assumes nothing.
 use Prim.Native.Nat.{ℕ, _≤_}
-use mathlib.Core.Bool.{Bool, true, false}
+use mathlib.Core.Bool.{true, false}
 use mathlib.Core.Path.{_≡_}
-use mathlib.Core.List.{List, [], _∷_}
+use mathlib.Core.List.{List}
 use lib.ListN.{length}
 use Rattle.be.specs.Lists.{every}
 use Rattle.be.specs.Bytes.{bytes}

@@ -1,7 +1,7 @@
 -- The tests of a block, in number order; the first that fails is the answer, 0 if none does.
 -- Assumes nothing.
 use Prim.Native.Nat.{ℕ, zero, suc, _+_, _*_, _/_}
-use mathlib.Core.Bool.{Bool, true, not, cond, _&&_, _||_, Bool·beq}
+use mathlib.Core.Bool.{Bool, true, not, cond, _&&_, Bool·beq}
 use mathlib.Core.Path.{_≡_}
 use mathlib.Core.List.{List, [], _∷_}
 use lib.Dec.{eqb, leb}

@@ -1,6 +1,6 @@
 -- What the passes over the records answer, in the definitions' terms.
 -- Assumes nothing.
-use Prim.Native.Nat.{ℕ, _+_, _-_, _/_, _≤_, _<_, min}
+use Prim.Native.Nat.{ℕ, _+_, _/_, _≤_, _<_, min}
 use native.Mathlib.Omega.{arith}
 use mathlib.Core.Bool.{Bool, true, false, not, _&&_, _||_}
 use mathlib.Core.Path.{_≡_, refl, sym, _∙_, ap}
@@ -11,7 +11,7 @@ use borrow.Author.Tests.{le-leb, lt-leb, leb-true, leb-false}
 use Rattle.be.specs.Lists.{every, keep}
 use Rattle.edition.specs.declared.Edition.{Edition}
 use Rattle.name.specs.Name.{hash-of}
-use Rattle.dir_block_rules.specs.Record.{Rec, whole, apart, is-gap, entries, name, number}
+use Rattle.dir_block_rules.specs.Record.{Rec, whole, apart, is-gap, entries, name}
 use Rattle.dir_block_rules.specs.Verdict.{tile-ok, name-ok, number-ok}
 use Rattle.be.proofs.Bools.{by-cases}
 use Rattle.dir_block_test.specs.Passes.{no-fault, tile-from, tiled, fault, worst}

@@ -1,6 +1,6 @@
 -- What the passes' answers make of the verdict.
 -- Assumes nothing.
-use Prim.Native.Nat.{ℕ, zero, suc, _+_, _-_, _*_, _%_, _≤_, _<_}
+use Prim.Native.Nat.{ℕ, suc, _+_, _-_, _*_, _%_, _≤_, _<_}
 use native.Mathlib.Nat.{sub-zero}
 use native.Mathlib.Omega.{arith}
 use mathlib.Core.Bool.{Bool, true, false, not, cond, _&&_, Bool·beq}
@@ -17,9 +17,9 @@ use Rattle.edition.specs.declared.Edition.{Edition}
 use Rattle.edition.specs.Edition.{Sane, entry-size, largest-block, record-places}
 use Rattle.name.specs.Name.{dot, legal-name}
 use Rattle.dir_block_rules.specs.Record.{Rec, rec, whole, is-gap, is-entry, entries, gaps, name}
-use Rattle.dir_block_rules.specs.Block.{Slot, slots-in, is-live, is-stale}
+use Rattle.dir_block_rules.specs.Block.{Slot, is-live, is-stale}
 use Rattle.dir_block_rules.specs.Verdict.{tile-ok, entry-at, name-ok, names-ok, numbers-ok, number-ok, own-in, index-ok, rising, best-ok, best-pairs, pairs-in, pair, Pair, zero-pair, once-ok}
-use Rattle.be.proofs.Bools.{by-cases, and-left, and-right, every-head, every-tail, every-cons, and-false}
+use Rattle.be.proofs.Bools.{by-cases, and-left, and-right, every-head, every-tail, every-cons}
 use Rattle.dir_block_rules.proofs.CutJoin.{Laid, join, join-cut}
 use Rattle.dir_block_rules.proofs.SlotCounts.{Apart}
 use Rattle.dir_block_rules.proofs.IndexedEntries.{addr-of, Indexed, indexed}

@@ -1,6 +1,6 @@
 -- INDEX: where the hashes rise and the counts agree, one slot found for each entry is all there is to show.
 -- Assumes nothing.
-use Prim.Native.Nat.{ℕ, _+_, _-_, _/_, _≤_}
+use Prim.Native.Nat.{ℕ, _+_, _/_, _≤_}
 use native.Mathlib.Nat.{zero-add}
 use native.Mathlib.Omega.{arith}
 use mathlib.Core.Bool.{Bool, true, _&&_, false≢true}
@@ -12,7 +12,7 @@ use borrow.Author.Tests.{le-leb}
 use Rattle.be.specs.Lists.{every, some-of, tally, total}
 use Rattle.edition.specs.declared.Edition.{Edition}
 use Rattle.name.specs.Name.{hash-of}
-use Rattle.dir_block_rules.specs.Record.{Rec, entries, name}
+use Rattle.dir_block_rules.specs.Record.{Rec, name}
 use Rattle.dir_block_rules.specs.Block.{Slot, is-stale, is-live}
 use Rattle.dir_block_rules.specs.Verdict.{has-slot, rising}
 use Rattle.be.proofs.Bools.{by-cases, and-left, every-head, every-tail, every-cons, clash}

@@ -1,11 +1,10 @@
 -- A lookup gives what is stored.
 -- Assumes nothing.
-use Prim.Native.Nat.{ℕ, _+_}
+use Prim.Native.Nat.{ℕ}
 use mathlib.Core.Bool.{true, false, cond}
-use mathlib.Core.Path.{_≡_, refl, sym, _∙_}
+use mathlib.Core.Path.{_≡_, refl, _∙_}
 use mathlib.Core.List.{List, [], _∷_, _++_}
-use lib.Dec.{eqb}
-use borrow.Author.Tests.{eqb-true, not-true}
+use borrow.Author.Tests.{not-true}
 use Rattle.be.specs.Lists.{every, same}
 use Rattle.be.proofs.Bools.{by-cases, and-left, and-right, or-right, neither}
 use Rattle.edition.specs.declared.Edition.{Edition}

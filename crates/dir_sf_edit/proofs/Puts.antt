@@ -2,14 +2,13 @@
 -- Assumes nothing.
 use Prim.Native.Nat.{ℕ, _+_, _<_}
 use native.Mathlib.Omega.{arith}
-use mathlib.Core.Path.{_≡_, refl, sym, _∙_, ap}
+use mathlib.Core.Path.{_≡_, refl, _∙_, ap}
 use mathlib.Core.List.{List, [], _∷_, _++_, append-assoc}
 use lib.ListN.{length, length-append}
 use Rattle.be.specs.Bytes.{to-be, put}
 use Rattle.be.proofs.Numbers.{length-to-be, to-be-1}
-use Rattle.be.proofs.Writes.{put-nothing, put-next, put-then}
+use Rattle.be.proofs.Writes.{put-then}
 use Rattle.edition.specs.declared.Edition.{Edition}
-use Rattle.edition.specs.Edition.{Sane}
 use Rattle.dir.specs.declared.Target.{Target}
 use Rattle.dir_sf.specs.Entry.{entry, width-of, entry-bytes}
 use Rattle.dir_sf.proofs.Leaves.{narrow, broad}

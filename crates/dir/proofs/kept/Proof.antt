@@ -1,6 +1,5 @@
 use mathlib.Core.Path.{refl, sym}
 use borrow.Author.Tests.{eq-eqb, ne-eqb}
-use borrow.Author.Needs.{needs}
 use Rattle.dir.proofs.kept.Statement.{statement}
 use Rattle.dir.proofs.kept.Tie as tie
 

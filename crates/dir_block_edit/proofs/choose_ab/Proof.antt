@@ -1,5 +1,4 @@
 use Rattle.dir_block_index.proofs.LiveSlotsPacked.{few-stale}
-use Prim.Native.Nat.{_-_}
 use native.Mathlib.Omega.{arith}
 use mathlib.Core.Path.{sym, _∙_}
 use lib.ListN.{length}

@@ -1,5 +1,5 @@
 use Rattle.dir_block_edit.proofs.RoomTaken.{room-c, room-d, room-no-t, room-no-cd}
-use Prim.Native.Nat.{_-_, _<_}
+use Prim.Native.Nat.{_<_}
 use native.Mathlib.Omega.{arith}
 use mathlib.Core.Path.{refl, sym, _∙_}
 use lib.ListN.{length}

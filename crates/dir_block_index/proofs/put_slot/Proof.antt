@@ -1,4 +1,3 @@
-use Prim.Native.Nat.{_-_}
 use mathlib.Core.Path.{refl}
 use Rattle.dir_block_laws.proofs.IndexStores.{slot-stored}
 use borrow.Author.Needs.{needs}

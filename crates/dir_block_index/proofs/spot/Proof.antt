@@ -1,4 +1,3 @@
-use Prim.Native.Nat.{_-_}
 use Rattle.dir_block_laws.proofs.IndexStores.{spot-found}
 use borrow.Author.Needs.{needs}
 use Rattle.dir_block_index.proofs.spot.Statement.{statement}
