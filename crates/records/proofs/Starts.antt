@@ -154,10 +154,3 @@ module _ (size : ℕ → ℕ) where
         where
           less : (a b : ℕ) → a ≤ b → (a ≡ b → ⊥) → a < b
           less a b l d = by-cases (eqb a b) (λ q. absurd (d (eqb-true a b q))) (λ q. omega (arith, eqb-false a b q))
-
-  -- the starts are places, and so is the end
-  pub stands-start : (j n at : ℕ) → j ≤ n → stands size n at (start size j at) ≡ true
-  unfolding start
-  stands-start zero n at h = stands-first n at
-  stands-start (suc j) zero at h = absurd (omega arith)
-  stands-start (suc j) (suc n) at h = stands-later (start size j (at + size at)) n at (stands-start j n (at + size at) (omega arith))

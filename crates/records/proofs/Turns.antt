@@ -78,10 +78,6 @@ module _ {size : ℕ → ℕ} {end at k i p : ℕ} (r : Run size end at k i p) w
   run-inside = omega (arith, r .place, r .lies, start-fewer size i k at (r .upto))
 
   module _ (h : i < k) where
-    -- the next record
-    pub run-fits : p + size p ≤ end
-    run-fits = omega (arith, r .lies, run-ends, start-fits size (k - i) p (omega arith))
-
     module _ {s : ℕ} (q : s ≡ size p) where
       pub run-next : Run size end at k (i + 1) (p + s)
       run-next =
