@@ -16,7 +16,7 @@ use Rattle.records.specs.Records.{start}
 use Rattle.records.proofs.Starts.{length-records}
 use Rattle.records.proofs.Joined.{joined-append, joined-stored}
 use Rattle.attr_sf.specs.Entry.{is-key, others, entry-bytes, run}
-use Rattle.attr_sf.specs.Fork.{header, totsize, count, stored, size-at, entry-at, place-of, fork-verdict}
+use Rattle.attr_sf.specs.Fork.{header, totsize, count, stored, size-at, entry-at, key-place, fork-verdict}
 use Rattle.attr_sf.proofs.Tiling.{seek-some}
 use Rattle.attr_sf.proofs.ForkTests.{end-above, end-inside, all-ends, all-once}
 use Rattle.attr_sf.proofs.StoredBytes.{stored-bytes}
@@ -29,11 +29,11 @@ pub record Apart (f name : List ℕ) (flags : ℕ) : Type 0 where
   pub own : List ℕ
   pub behind : List ℕ
   pub whole : f ≡ take header f ++ (before ++ (own ++ (behind ++ drop (totsize f) f)))
-  pub starts : place-of f name flags ≡ header + length before
-  pub sized : cond (ltb (place-of f name flags) (totsize f)) (size-at f (place-of f name flags)) 0 ≡ length own
+  pub starts : key-place f name flags ≡ header + length before
+  pub sized : cond (ltb (key-place f name flags) (totsize f)) (size-at f (key-place f name flags)) 0 ≡ length own
   pub stops : totsize f ≡ header + length before + length own + length behind
   pub rest : run (others name flags (stored f)) ≡ before ++ behind
-  pub kept : length (others name flags (stored f)) ≡ cond (ltb (place-of f name flags) (totsize f)) (count f - 1) (count f)
+  pub kept : length (others name flags (stored f)) ≡ cond (ltb (key-place f name flags) (totsize f)) (count f - 1) (count f)
 
 module _ (f name : List ℕ) (flags : ℕ) (z : fork-verdict f ≡ 0) where
   body : part header (totsize f - header) f ≡ run (stored f)
@@ -54,12 +54,12 @@ module _ (f name : List ℕ) (flags : ℕ) (z : fork-verdict f ≡ 0) where
   unfolding stored
   number = length-records (size-at f) (entry-at f) (count f) header
 
-  pub splits : place-of f name flags < totsize f → Split f name flags (count f) header
-  unfolding place-of stored
+  pub splits : key-place f name flags < totsize f → Split f name flags (count f) header
+  unfolding key-place stored
   splits h = split f name flags (count f) header (rw (all-ends f z) (end-inside f z)) (all-once f z) (rw (← all-ends f z) at h)
 
-  found : place-of f name flags < totsize f → Apart f name flags
-  unfolding place-of stored
+  found : key-place f name flags < totsize f → Apart f name flags
+  unfolding key-place stored
   found h =
       let s = splits h in
       let a = s .around in
@@ -80,15 +80,15 @@ module _ (f name : List ℕ) (flags : ℕ) (z : fork-verdict f ≡ 0) where
       }
 
   -- no entry has the name and the flags
-  pub absent : totsize f ≤ place-of f name flags → some-of (is-key name flags) (stored f) ≡ false
-  unfolding place-of stored
-  absent h = sym (seek-some f name flags (count f) header) ∙ le-ltb (place-of f name flags) (start (size-at f) (count f) header) (rw (all-ends f z) h)
+  pub absent : totsize f ≤ key-place f name flags → some-of (is-key name flags) (stored f) ≡ false
+  unfolding key-place stored
+  absent h = sym (seek-some f name flags (count f) header) ∙ le-ltb (key-place f name flags) (start (size-at f) (count f) header) (rw (all-ends f z) h)
 
-  missing : totsize f ≤ place-of f name flags → Apart f name flags
+  missing : totsize f ≤ key-place f name flags → Apart f name flags
   missing h =
       let o : others name flags (stored f) ≡ stored f = others-all name flags (stored f) (absent h) in
-      let p : place-of f name flags ≡ totsize f = omega (arith, place-within f name flags z) in
-      let t : ltb (place-of f name flags) (totsize f) ≡ false = le-ltb _ _ h in
+      let p : key-place f name flags ≡ totsize f = omega (arith, place-within f name flags z) in
+      let t : ltb (key-place f name flags) (totsize f) ≡ false = le-ltb _ _ h in
       record {
         before = run (stored f);
         own = [];
@@ -102,4 +102,4 @@ module _ (f name : List ℕ) (flags : ℕ) (z : fork-verdict f ≡ 0) where
       }
 
   pub layout : Apart f name flags
-  layout = by-cases (ltb (place-of f name flags) (totsize f)) (λ q. found (ltb-true _ _ q)) (λ q. missing (ltb-false _ _ q))
+  layout = by-cases (ltb (key-place f name flags) (totsize f)) (λ q. found (ltb-true _ _ q)) (λ q. missing (ltb-false _ _ q))

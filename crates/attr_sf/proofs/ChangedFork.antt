@@ -14,7 +14,7 @@ use Rattle.records.proofs.Joined.{joined-append}
 use Rattle.attr_sf.specs.declared.Plan.{Plan}
 use Rattle.attr_sf.specs.Plan.{plan-of}
 use Rattle.attr_sf.specs.Entry.{entry, others, entry-bytes, run}
-use Rattle.attr_sf.specs.Fork.{header, totsize, count, stored, size-at, place-of, fork-verdict, fork-with, fits}
+use Rattle.attr_sf.specs.Fork.{header, totsize, count, stored, size-at, key-place, fork-verdict, fork-with, fits}
 use Rattle.attr_sf.specs.Calls.{held, held-request, set-entries, has-room, room-request, fork-changed}
 use Rattle.attr_sf.proofs.ForkTests.{long, end-inside}
 use Rattle.attr_sf.proofs.ReadBack.{bytes-length}
@@ -26,15 +26,15 @@ abbrev pub closed : List ℕ → ℕ → ℕ → ℕ → List ℕ
 closed f end p s = put (put f p (part (p + s) (end - (p + s)) f)) (end - s) (replicate (length f - (end - s)) 0)
 
 module _ (f name : List ℕ) (flags : ℕ) (z : fork-verdict f ≡ 0) (P : Plan) (q : P ≡ plan-of f name flags) where
-  p-at : P .at ≡ place-of f name flags
+  p-at : P .at ≡ key-place f name flags
   unfolding plan-of
   p-at = ap (λ (x : Plan). x .at) q
 
-  p-size : P .size ≡ cond (ltb (place-of f name flags) (totsize f)) (size-at f (place-of f name flags)) 0
+  p-size : P .size ≡ cond (ltb (key-place f name flags) (totsize f)) (size-at f (key-place f name flags)) 0
   unfolding plan-of
   p-size = ap (λ (x : Plan). x .size) q
 
-  p-kept : P .kept ≡ cond (ltb (place-of f name flags) (totsize f)) (count f - 1) (count f)
+  p-kept : P .kept ≡ cond (ltb (key-place f name flags) (totsize f)) (count f - 1) (count f)
   unfolding plan-of
   p-kept = ap (λ (x : Plan). x .kept) q
 

@@ -17,7 +17,7 @@ use Rattle.dinode.specs.declared.Fork.the-variants.{At as Fork-at, Refused as F
 use Rattle.attr_sf.specs.declared.Place.{Place}
 use Rattle.attr_sf.specs.declared.Place.the-variants.{At, Refused}
 use Rattle.attr_sf.specs.Entry.{Entry, is-key, legal-key}
-use Rattle.attr_sf.specs.Fork.{header, totsize, count, stored, entry-at, place-of, fork-verdict, span-ok, tile-ok, names-ok, flags-ok, once-ok}
+use Rattle.attr_sf.specs.Fork.{header, totsize, count, stored, entry-at, key-place, fork-verdict, span-ok, tile-ok, names-ok, flags-ok, once-ok}
 use Rattle.attr_sf.specs.Calls.{verdict, fork-if, asked-code, held, held-request, lookup-code, attr-at, found-in, lookup, place-code, part-of}
 use Rattle.attr_sf.specs.Laws.{Found-law, Absent-law}
 use Rattle.attr_sf.proofs.Tiling.{seek-some}
@@ -47,19 +47,19 @@ module _ (p : Entry → Bool) where
 
 module _ (f name : List ℕ) (flags : ℕ) (z : fork-verdict f ≡ 0) where
   pub held-some : held f name flags ≡ some-of (is-key name flags) (stored f)
-  unfolding held place-of stored
+  unfolding held key-place stored
   held-some = rw (← all-ends f z) (seek-some f name flags (count f) header)
 
-  held-place : held f name flags ≡ true → place-of f name flags < totsize f
+  held-place : held f name flags ≡ true → key-place f name flags < totsize f
   unfolding held
   held-place h = ltb-true _ _ h
 
   -- the entry that is found, read where it stands
-  found-reads : (q : place-of f name flags < totsize f) → entry-at f (place-of f name flags) ≡ splits f name flags z q .around .mid
-  unfolding place-of
+  found-reads : (q : key-place f name flags < totsize f) → entry-at f (key-place f name flags) ≡ splits f name flags z q .around .mid
+  unfolding key-place
   found-reads q = splits f name flags z q .reads
 
-  kept-found : (q : place-of f name flags < totsize f)
+  kept-found : (q : key-place f name flags < totsize f)
       → keep (is-key name flags) (stored f) ≡ splits f name flags z q .around .mid ∷ keep (is-key name flags) (splits f name flags z q .around .back)
   unfolding stored
   kept-found q =
@@ -108,11 +108,11 @@ module _ (e : Edition) (b name : List ℕ) (flags : ℕ) (a : asked-code e b nam
   z = fork-passed e b (tests-passed e b name flags a)
 
   looked-found : held (attr-fork e b) name flags ≡ true
-      → part-of b (lookup e b name flags) ≡ entry-at (attr-fork e b) (place-of (attr-fork e b) name flags) .value
+      → part-of b (lookup e b name flags) ≡ entry-at (attr-fork e b) (key-place (attr-fork e b) name flags) .value
   unfolding lookup found-in
   looked-found q =
-      let r = attr-at (attr-start e b) (attr-fork e b) (place-of (attr-fork e b) name flags) in
-      rw (a, q) (part-at-is b (r .«value_start») (r .«value_len») ∙ parts-law e b (place-of (attr-fork e b) name flags) .1)
+      let r = attr-at (attr-start e b) (attr-fork e b) (key-place (attr-fork e b) name flags) in
+      rw (a, q) (part-at-is b (r .«value_start») (r .«value_len») ∙ parts-law e b (key-place (attr-fork e b) name flags) .1)
 
   looked-none : held (attr-fork e b) name flags ≡ false → lookup e b name flags ≡ Refused ABSENT
   unfolding lookup found-in
@@ -126,7 +126,7 @@ module _ (e : Edition) (b name : List ℕ) (flags : ℕ) (a : asked-code e b nam
   value-by =
       by-cases (held (attr-fork e b) name flags)
       (λ q.
-      let p : place-of (attr-fork e b) name flags < totsize (attr-fork e b) = held-place (attr-fork e b) name flags z q in
+      let p : key-place (attr-fork e b) name flags < totsize (attr-fork e b) = held-place (attr-fork e b) name flags z q in
       looked-found q ∙ ap (λ (x : Entry). x .value) (found-reads (attr-fork e b) name flags z p)
       ∙ ap value-among (sym (kept-found (attr-fork e b) name flags z p)))
       (λ q. rw (looked-none q, kept-none (attr-fork e b) name flags z q))
@@ -154,7 +154,7 @@ unfolding stored
 found-law e b name flags h =
     let k = found-asked e b name flags h in
     let z : fork-verdict (attr-fork e b) ≡ 0 = fork-passed e b (tests-passed e b name flags (k .0)) in
-    let p : place-of (attr-fork e b) name flags < totsize (attr-fork e b) = held-place (attr-fork e b) name flags z (k .1) in
+    let p : key-place (attr-fork e b) name flags < totsize (attr-fork e b) = held-place (attr-fork e b) name flags z (k .1) in
     let s = splits (attr-fork e b) name flags z p .around in
     record {
       front = s .front;

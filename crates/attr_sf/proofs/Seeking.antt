@@ -16,7 +16,7 @@ use Rattle.records.specs.Records.{tiled}
 use Rattle.attr_sf.specs.declared.Place.{Place}
 use Rattle.attr_sf.specs.declared.Place.the-variants.{At, Refused}
 use Rattle.attr_sf.specs.declared.Plan.{Plan}
-use Rattle.attr_sf.specs.Fork.{header, totsize, count, size-at, fork-verdict, place-of, seek}
+use Rattle.attr_sf.specs.Fork.{header, totsize, count, size-at, fork-verdict, key-place, seek}
 use Rattle.attr_sf.specs.Calls.{held, found-in, attr-at}
 use Rattle.attr_sf.specs.Plan.{plan-of}
 use Rattle.attr_sf.proofs.Tiling.{three, seek-count, seek-fits, seek-within, value-inside}
@@ -32,25 +32,25 @@ unfolding totsize count
 seek-may f e m z = rw (e, m) (all-tiled f z, end-inside f z)
 
 module _ (f name : List ℕ) (flags : ℕ) where
-  pub place-fits : fork-verdict f ≡ 0 → place-of f name flags < totsize f → place-of f name flags + size-at f (place-of f name flags) ≤ totsize f
-  unfolding place-of
+  pub place-fits : fork-verdict f ≡ 0 → key-place f name flags < totsize f → key-place f name flags + size-at f (key-place f name flags) ≤ totsize f
+  unfolding key-place
   place-fits z h = rw (← all-ends f z) (seek-fits f name flags (count f) header (rw (← all-ends f z) at h))
 
-  pub count-above : fork-verdict f ≡ 0 → place-of f name flags < totsize f → 1 ≤ count f
-  unfolding place-of
+  pub count-above : fork-verdict f ≡ 0 → key-place f name flags < totsize f → 1 ≤ count f
+  unfolding key-place
   count-above z h = seek-count f name flags (count f) header (rw (← all-ends f z) at h)
 
-  pub place-within : fork-verdict f ≡ 0 → place-of f name flags ≤ totsize f
-  unfolding place-of
+  pub place-within : fork-verdict f ≡ 0 → key-place f name flags ≤ totsize f
+  unfolding key-place
   place-within z = rw (← all-ends f z) (seek-within f name flags (count f) header)
 
   -- as it is read
-  pub place-is : {n r : ℕ} → n ≡ byte 2 f → fork-verdict f ≡ 0 → r ≡ seek f name flags n header → (r ≡ place-of f name flags) × (r ≤ totsize f)
-  unfolding place-of count
-  place-is {n} {r} m z h = let q : r ≡ place-of f name flags = h ∙ rw m in (q, rw q (place-within z))
+  pub place-is : {n r : ℕ} → n ≡ byte 2 f → fork-verdict f ≡ 0 → r ≡ seek f name flags n header → (r ≡ key-place f name flags) × (r ≤ totsize f)
+  unfolding key-place count
+  place-is {n} {r} m z h = let q : r ≡ key-place f name flags = h ∙ rw m in (q, rw q (place-within z))
 
-  module _ {p t : ℕ} (q : p ≡ place-of f name flags) (d : t ≡ field 0 2 f) (h : p < t) (z : fork-verdict f ≡ 0) where
-    below : place-of f name flags < totsize f
+  module _ {p t : ℕ} (q : p ≡ key-place f name flags) (d : t ≡ field 0 2 f) (h : p < t) (z : fork-verdict f ≡ 0) where
+    below : key-place f name flags < totsize f
     unfolding totsize
     below = rw (q, d) at h
 
@@ -64,12 +64,12 @@ module _ (f name : List ℕ) (flags : ℕ) where
     unfolding count
     at-count m = rw m (count-above z below)
 
-  pub found-at : (s : ℕ) {p t : ℕ} → p ≡ place-of f name flags → t ≡ field 0 2 f → p < t
+  pub found-at : (s : ℕ) {p t : ℕ} → p ≡ key-place f name flags → t ≡ field 0 2 f → p < t
       → At (s + (p + 3 + byte p f)) (byte (p + 1) f) ≡ found-in s f name flags
   unfolding found-in held attr-at totsize
   found-at s {p} {t} q d h = rw (← q, ← d, lt-ltb p t h)
 
-  pub found-not : (s : ℕ) {p t : ℕ} → p ≡ place-of f name flags → t ≡ field 0 2 f → t ≤ p → Refused ABSENT ≡ found-in s f name flags
+  pub found-not : (s : ℕ) {p t : ℕ} → p ≡ key-place f name flags → t ≡ field 0 2 f → t ≤ p → Refused ABSENT ≡ found-in s f name flags
   unfolding found-in held totsize
   found-not s {p} {t} q d h = rw (← q, ← d, le-ltb p t h)
 
@@ -77,16 +77,16 @@ module _ (f name : List ℕ) (flags : ℕ) where
   pub found-inside : (s a n : ℕ) → fork-verdict f ≡ 0 → At a n ≡ found-in s f name flags → a + n ≤ s + length f
   unfolding found-in held attr-at
   found-inside s a n z h =
-      by-cases (ltb (place-of f name flags) (totsize f))
+      by-cases (ltb (key-place f name flags) (totsize f))
       (λ q.
-      let r : At a n ≡ At (s + (place-of f name flags + 3 + byte (place-of f name flags) f)) (byte (place-of f name flags + 1) f) = rw q at h in
-      let x : a ≡ s + (place-of f name flags + 3 + byte (place-of f name flags) f) = cc in
-      let y : n ≡ byte (place-of f name flags + 1) f = cc in
-      omega (arith, value-inside f (place-of f name flags) (totsize f) (place-fits z (ltb-true _ _ q)), end-inside f z))
+      let r : At a n ≡ At (s + (key-place f name flags + 3 + byte (key-place f name flags) f)) (byte (key-place f name flags + 1) f) = rw q at h in
+      let x : a ≡ s + (key-place f name flags + 3 + byte (key-place f name flags) f) = cc in
+      let y : n ≡ byte (key-place f name flags + 1) f = cc in
+      omega (arith, value-inside f (key-place f name flags) (totsize f) (place-fits z (ltb-true _ _ q)), end-inside f z))
       (λ q. absurd (at-never (rw q at h)))
 
 -- the plan
-module _ (f name : List ℕ) (flags : ℕ) {p t n : ℕ} (q : p ≡ place-of f name flags) (d : t ≡ field 0 2 f) (m : n ≡ byte 2 f) where
+module _ (f name : List ℕ) (flags : ℕ) {p t n : ℕ} (q : p ≡ key-place f name flags) (d : t ≡ field 0 2 f) (m : n ≡ byte 2 f) where
   pub plan-found : {s : ℕ} → s ≡ size-at f p → p < t → _≡_ {A = Plan} (record { at = p; size = s; kept = n - 1; end = t }) (plan-of f name flags)
   unfolding plan-of totsize count
   plan-found z h = rw (← q, ← d, ← m, z, lt-ltb p t h)

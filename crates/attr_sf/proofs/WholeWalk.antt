@@ -3,7 +3,7 @@
 use Prim.Native.Nat.{ℕ, zero, suc, _+_}
 use native.Mathlib.Omega.{arith}
 use mathlib.Core.Bool.{true}
-use mathlib.Core.Path.{_≡_, refl, _∙_, ap}
+use mathlib.Core.Path.{_≡_, _∙_, ap}
 use mathlib.Core.List.{List, [], _∷_, _++_, map}
 use borrow.Author.Tests.{eq-eqb, ne-eqb}
 use Rattle.records.specs.Records.{start, places, stands}
@@ -12,10 +12,10 @@ use Rattle.edition.specs.declared.Edition.{Edition}
 use Rattle.dinode.specs.Core.{attr-start, attr-fork}
 use Rattle.attr_sf.specs.declared.Walked.{Walked}
 use Rattle.attr_sf.specs.declared.Walked.the-variants.{Stepped}
-use Rattle.attr_sf.specs.Fork.{header, totsize, count, stored, size-at}
+use Rattle.attr_sf.specs.Fork.{header, totsize, count, size-at}
 use Rattle.attr_sf.specs.Calls.{verdict}
 use Rattle.attr_sf.specs.Walk.{live-step, end-step, step-in, walked-in, walk-step, walk}
-use Rattle.attr_sf.specs.Laws.{Walk-law, Places-law}
+use Rattle.attr_sf.specs.Laws.{Walk-law}
 use Rattle.attr_sf.proofs.ForkTests.{all-ends}
 use Rattle.attr_sf.proofs.InodeTests.{fork-passed}
 use Rattle.attr_sf.proofs.Tiling.{three}
@@ -57,7 +57,3 @@ module _ (e : Edition) (b : List ℕ) (t : verdict e b ≡ 0) where
 
 pub walk-law : Walk-law
 walk-law e b k t = walks e b t (count (attr-fork e b)) header k (all-ends (attr-fork e b) (fork-passed e b t)) (λ x s. s)
-
-pub places-law : Places-law
-unfolding stored
-places-law f = refl

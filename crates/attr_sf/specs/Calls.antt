@@ -13,7 +13,7 @@ use Rattle.dinode.specs.Core.{attributes-code, attr-start, attr-length, attr-fo
 use Rattle.dinode.specs.declared.Fork.{Fork}
 use Rattle.dinode.specs.declared.Fork.the-variants.{At as Fork-at, Refused as Fork-refused}
 use Rattle.attr_sf.specs.Entry.{Entry, entry, legal-key, others}
-use Rattle.attr_sf.specs.Fork.{totsize, stored, fork-verdict, place-of, fork-with, fits}
+use Rattle.attr_sf.specs.Fork.{totsize, stored, fork-verdict, key-place, fork-with, fits}
 use Rattle.attr_sf.specs.declared.Attr.{Attr}
 use Rattle.attr_sf.specs.declared.Place.{Place}
 use Rattle.attr_sf.specs.declared.Place.the-variants.{At, Refused}
@@ -36,7 +36,7 @@ fork-if n e b = cond (eqb n 0) (Fork-at (attr-start e b) (attr-length e b)) (For
 
 -- an attribute with this name and these flags is stored
 unfoldable pub held : List ℕ → List ℕ → ℕ → Bool
-held f name flags = ltb (place-of f name flags) (totsize f)
+held f name flags = ltb (key-place f name flags) (totsize f)
 
 -- 13 ABSENT: lookup or removal: no such live entry
 unfoldable pub held-request : List ℕ → List ℕ → ℕ → ℕ
@@ -59,7 +59,7 @@ attr-at s f at =
 -- where the value lies in the inode whose attribute fork starts at s
 unfoldable pub found-in : ℕ → List ℕ → List ℕ → ℕ → Place
 found-in s f name flags =
-    let a = attr-at s f (place-of f name flags) in cond (held f name flags) (At (a .«value_start») (a .«value_len»)) (Refused ABSENT)
+    let a = attr-at s f (key-place f name flags) in cond (held f name flags) (At (a .«value_start») (a .«value_len»)) (Refused ABSENT)
 
 -- what a lookup answers: where the value lies in the inode, or the refusal
 unfoldable pub lookup : Edition → List ℕ → List ℕ → ℕ → Place

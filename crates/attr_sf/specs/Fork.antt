@@ -9,7 +9,7 @@ use Rattle.refusal.specs.Refusal.{SPAN, TILE, NAME, NUMBER, TWICE}
 use Rattle.be.specs.Codes.{_unless_then_}
 use Rattle.be.specs.Lists.{every}
 use Rattle.be.specs.Bytes.{byte, field, part, to-be}
-use Rattle.records.specs.Records.{records, tiled}
+use Rattle.records.specs.Records.{read-records, tiled}
 use Rattle.name.specs.Name.{legal-attr-name}
 use Rattle.attr_sf.specs.Entry.{Entry, legal-flags, is-key, distinct, run}
 
@@ -37,7 +37,7 @@ entry-at f at =
 
 -- n entries from a place on
 abbrev pub entries : List ℕ → ℕ → ℕ → List Entry
-entries f n at = records (size-at f) (entry-at f) n at
+entries f n at = read-records (size-at f) (entry-at f) n at
 
 -- the entries that are stored
 unfoldable pub stored : List ℕ → List Entry
@@ -89,8 +89,8 @@ seek f name flags zero at = at
 seek f name flags (suc n) at =
     let next = seek f name flags n (at + size-at f at) in cond (is-key name flags (entry-at f at)) at next
 
-unfoldable pub place-of : List ℕ → List ℕ → ℕ → ℕ
-place-of f name flags = seek f name flags (count f) header
+unfoldable pub key-place : List ℕ → List ℕ → ℕ → ℕ
+key-place f name flags = seek f name flags (count f) header
 
 -- the fork with these entries: the pad byte is left alone, unused bytes are zeroed
 unfoldable pub fork-with : List ℕ → List Entry → List ℕ

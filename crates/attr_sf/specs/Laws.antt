@@ -102,10 +102,6 @@ Walk-law = (e : Edition) (b : List ℕ) (k : ℕ) → verdict e b ≡ 0
     ≡ map (λ (at : ℕ). Stepped (live-step (attr-start e b) (attr-fork e b) at)) (places (size-at (attr-fork e b)) (count (attr-fork e b)) header)
     ++ (Stepped (end-step (totsize (attr-fork e b))) ∷ [])
 
--- the places are those of the stored entries
-abbrev pub Places-law : Type 0
-Places-law = (f : List ℕ) → stored f ≡ map (entry-at f) (places (size-at f) (count f) header)
-
 -- what a step says of an entry: the parts of the inode that it names are the entry's own
 abbrev pub Parts-law : Type 0
 Parts-law = (e : Edition) (b : List ℕ) (at : ℕ)

@@ -4,14 +4,14 @@ use Prim.Native.Nat.{ℕ, _-_}
 use mathlib.Core.Bool.{cond}
 use mathlib.Core.List.{List}
 use lib.Dec.{ltb}
-use Rattle.attr_sf.specs.Fork.{totsize, count, size-at, place-of}
+use Rattle.attr_sf.specs.Fork.{totsize, count, size-at, key-place}
 use Rattle.attr_sf.specs.declared.Plan.{Plan}
 
 unfoldable pub plan-of : List ℕ → List ℕ → ℕ → Plan
 plan-of f name flags =
     record {
-      at = place-of f name flags;
-      size = cond (ltb (place-of f name flags) (totsize f)) (size-at f (place-of f name flags)) 0;
-      kept = cond (ltb (place-of f name flags) (totsize f)) (count f - 1) (count f);
+      at = key-place f name flags;
+      size = cond (ltb (key-place f name flags) (totsize f)) (size-at f (key-place f name flags)) 0;
+      kept = cond (ltb (key-place f name flags) (totsize f)) (count f - 1) (count f);
       end = totsize f;
     }

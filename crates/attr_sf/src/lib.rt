@@ -8,7 +8,7 @@ ghost use Rattle.be.specs.Lists.{some-of};
 ghost use Rattle.records.specs.Records.{tiled, stands};
 ghost use Rattle.edition.specs.Edition.{v4, Sane};
 ghost use Rattle.attr_sf.specs.Entry.{entry, entry-bytes, legal-flags, legal-key, is-key, distinct, others};
-ghost use Rattle.attr_sf.specs.Fork.{header, totsize, stored, size-at, entry-at, entries, name-legal-of, flags-legal-of, own-verdict, fork-verdict, seek, place-of};
+ghost use Rattle.attr_sf.specs.Fork.{header, totsize, stored, size-at, entry-at, entries, name-legal-of, flags-legal-of, own-verdict, fork-verdict, seek, key-place};
 ghost use Rattle.attr_sf.specs.Calls.{verdict, asked-code, fork-if, found-in, lookup, place-code, start-of, length-of, part-of, held-request, lookup-code, remove-code, room-request, set-code, set-entries, fork-changed, remove-bytes, set-bytes};
 ghost use Rattle.attr_sf.specs.Walk.{live-step, walked-in, walk-step, step-code, walked-code};
 ghost use Rattle.attr_sf.specs.Plan.{plan-of};
@@ -291,7 +291,7 @@ fn asked<'a, 'b>(e: Edition, b: &'a [u8], name: &'b [u8], flags: usize) -> Fork
 // Where the entry asked for starts in a fork; the entries' end when there is none.
 fn place_in<'a, 'b>(f: &'a [u8], name: &'b [u8], flags: usize) -> usize
     requires { ⌜ fork-verdict (now f) ≡ 0 ⌝ }
-    ensures { λ r. ⌜ (r ≡ place-of (now (f .entry)) (now (name .entry)) flags) × (r ≤ totsize (now (f .entry))) ⌝ }
+    ensures { λ r. ⌜ (r ≡ key-place (now (f .entry)) (now (name .entry)) flags) × (r ≤ totsize (now (f .entry))) ⌝ }
 {
     let end = be::be16(f, 0);
     let n = be::be8(f, 2);

@@ -15,7 +15,7 @@ ghost use Rattle.dir_block_rules.specs.Lookup.{sought};
 ghost use Rattle.dir_block_rules.specs.Room.{has-room, room-of, other-gaps, longest};
 ghost use Rattle.dir_block_rules.specs.Change.{gap-start-before, gap-end-after, changed, remove-writes, remove-code, remove-bytes, index-writes, insert-slot, entry-writes, insert-code, insert-bytes};
 ghost use Rattle.dir_block_laws.specs.Tiled.{Ready, Tiled};
-ghost use Rattle.dir_block_laws.specs.SlotPlaces.{Spot};
+ghost use Rattle.dir_block_laws.specs.SlotIndex.{Spot};
 ghost use Rattle.dir_block_laws.specs.Pass.{Entry-at, Inside, Scanned};
 ghost use Rattle.dir_block_scan.specs.Table.{table};
 ghost use Rattle.dir_block_edit.specs.Chosen.{chosen};
@@ -153,7 +153,7 @@ fn put_first(e: Edition, b: &mut [u8], o: usize, u: usize, to: Target, name: &[u
     put_gap(b, end, u - end);
 }
 
-// (a): the longest gap, l bytes at o; the first stale slot's place is taken.
+// (a): the longest gap, l bytes at o; the first stale slot is taken.
 fn insert_a(
     e: Edition,
     b: &mut [u8],

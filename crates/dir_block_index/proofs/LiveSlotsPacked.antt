@@ -23,7 +23,7 @@ use Rattle.dir_block_rules.proofs.ChangeAccepted.{length-insert, length-live}
 use Rattle.edition.specs.Edition.{Sane}
 use Rattle.dir_block_rules.proofs.RemoveWrites.{slot-bytes-append}
 use Rattle.dir_block_laws.specs.Tiled.{Ready}
-use Rattle.dir_block_laws.specs.SlotPlaces.{all-below, all-from, Spot}
+use Rattle.dir_block_laws.specs.SlotIndex.{all-below, all-from, Spot}
 use Rattle.dir_block_laws.proofs.RecordSteps.{end-fits}
 use Rattle.dir_block_laws.proofs.SlotSearch.{slots-drop, tiled, length-slots}
 use Rattle.dir_block_laws.proofs.IndexStores.{put-front, slot-front, one-slot, insert-at, tail-stored, stale-some, take-slots}

@@ -9,7 +9,7 @@ ghost use Rattle.edition.specs.Edition.{Sane};
 ghost use Rattle.dir_block_rules.specs.Block.{data-end, count-of, stale-of, slots, slot, is-stale, is-live, slot-bytes, slots-in};
 ghost use Rattle.dir_block_rules.specs.Change.{index-writes, insert-slot};
 ghost use Rattle.dir_block_laws.specs.Tiled.{Ready};
-ghost use Rattle.dir_block_laws.specs.SlotPlaces.{Spot, First-stale};
+ghost use Rattle.dir_block_laws.specs.SlotIndex.{Spot, First-stale};
 use edition::Edition;
 
 // Two numbers of 4 bytes: a slot, or the tail.
@@ -49,7 +49,7 @@ fn first_stale(e: Edition, b: &[u8], end: usize, count: usize) -> usize
     j
 }
 
-// One slot more at place i: those before it move down by 8. Room rule (c), (d).
+// One slot more at index i: those before it move down by 8. Room rule (c), (d).
 pub fn grow(e: Edition, b: &mut [u8], end: usize, count: usize, i: usize, h: usize, a: usize)
     requires { ⌜ Sane e × Ready e (now b) ⌝ }
     requires { ⌜ (end ≡ data-end (now b)) × ((count ≡ count-of (now b)) × (8 ≤ end)) ⌝ }
@@ -62,7 +62,7 @@ pub fn grow(e: Edition, b: &mut [u8], end: usize, count: usize, i: usize, h: usi
     put_slot(b, n - 8, count + 1, 0);
 }
 
-// The slot at place p, and the stale slot at place j gone: those between the two move by 8, in one move.
+// The slot at index p, and the stale slot at index j gone: those between the two move by 8, in one move.
 fn move_one(e: Edition, b: &mut [u8], end: usize, p: usize, j: usize, h: usize, a: usize)
     requires { ⌜ Sane e × Ready e (now b) ⌝ }
     requires { ⌜ end ≡ data-end (now b) ⌝ }
@@ -79,7 +79,7 @@ fn move_one(e: Edition, b: &mut [u8], end: usize, p: usize, j: usize, h: usize, 
     put_slot(b, end + 8 * p, h, a);
 }
 
-// The index with the first stale slot's place taken. Room rule (a).
+// The index with the first stale slot taken. Room rule (a).
 pub fn reuse(
     e: Edition,
     b: &mut [u8],
@@ -129,7 +129,7 @@ fn pack(b: &mut [u8], o: usize, k: usize, dst: usize) -> usize
     w
 }
 
-// The index without its stale slots, and the new slot at its place. Room rule (b).
+// The index without its stale slots, and the new slot in its order. Room rule (b).
 pub fn squeeze(
     e: Edition,
     b: &mut [u8],

@@ -25,7 +25,7 @@ use Rattle.edition.specs.Edition.{Sane}
 use Rattle.dir_block_rules.proofs.AcceptedParts.{good-of}
 use Rattle.dir_block_rules.proofs.RemoveWrites.{slot-bytes-append}
 use Rattle.dir_block_laws.specs.Tiled.{Ready}
-use Rattle.dir_block_laws.specs.SlotPlaces.{all-below, all-from, Spot, First-stale}
+use Rattle.dir_block_laws.specs.SlotIndex.{all-below, all-from, Spot, First-stale}
 use Rattle.be.proofs.Writes.{put-next, put-comm, put-same, part-behind}
 use Rattle.dir_block_laws.proofs.RecordSteps.{end-fits}
 use Rattle.dir_block_laws.proofs.SlotSearch.{slots-drop, slot-at, tiled, length-slots, all-tail}

@@ -33,7 +33,7 @@ use Rattle.dir_block_rules.proofs.Acceptance.{Passed, passed, tile-whole}
 use Rattle.dir_block_rules.proofs.GoodParts.{block-bound}
 use Rattle.dir_block_rules.proofs.AcceptedParts.{good-of, apart-of, reads-of, keep-find, Found-in}
 use Rattle.dir_block_laws.specs.Tiled.{Tiled, Ready}
-use Rattle.dir_block_laws.specs.SlotPlaces.{all-below, all-from}
+use Rattle.dir_block_laws.specs.SlotIndex.{all-below, all-from}
 use Rattle.dir_block_laws.proofs.RecordSteps.{Here, here, end-fits, stale-most}
 use Rattle.dir_block_laws.proofs.RecordPass.{says-entry}
 

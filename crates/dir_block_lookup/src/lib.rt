@@ -11,7 +11,7 @@ ghost use Rattle.dir_block_rules.specs.Lookup.{sought, name-at, target-at, look
 ghost use Rattle.dir_block_rules.specs.Walk.{is-place, walk-step, Step-promise};
 ghost use Rattle.dir_block_laws.specs.Pass.{Place, Steps};
 ghost use Rattle.dir_block_laws.specs.Tiled.{Ready};
-ghost use Rattle.dir_block_laws.specs.SlotPlaces.{all-below, all-from};
+ghost use Rattle.dir_block_laws.specs.SlotIndex.{all-below, all-from};
 ghost use Rattle.dir_block_lookup.specs.Hit.{as-sought};
 use dir::Entry;
 use dir::Looked;

@@ -23,7 +23,7 @@ use Rattle.dir.specs.declared.Target.{Target}
 use Rattle.dir.specs.Target.{kept-of, legal-target}
 use Rattle.dir_block_rules.specs.Record.{Rec, size, entries, gaps, name}
 use Rattle.dir_block_rules.specs.Block.{records, stale-of}
-use Rattle.dir_block_rules.specs.Verdict.{Accepted, names-ok, name-ok, entry-at}
+use Rattle.dir_block_rules.specs.Verdict.{Accepted, names-ok, name-ok, entry-stands}
 use Rattle.dir_block_rules.specs.Lookup.{lookup, lookup-refusal, sought, target-at}
 use Rattle.dir_block_rules.specs.Room.{some-stale, room-of, longest, has-room}
 use Rattle.dir_block_rules.specs.Change.{insert-writes, insert-code, insert-bytes, remove-writes, remove-code, remove-bytes}
@@ -178,7 +178,7 @@ beq-yes false false h k = k
 
 module _ (e : Edition) (sane : Sane e) (b : List ℕ) (h : bytes b ≡ true) (a : Accepted e b) where
   -- "." and ".." are always held
-  held-at : (d : List ℕ) (o : ℕ) → entry-at o (records e b) ≡ true → ((r : Rec) → name-ok e r ≡ true → eqb (r .off) o ≡ true → same (name r) d ≡ true)
+  held-at : (d : List ℕ) (o : ℕ) → entry-stands o (records e b) ≡ true → ((r : Rec) → name-ok e r ≡ true → eqb (r .off) o ≡ true → same (name r) d ≡ true)
       → every (name-ok e) (entries (records e b)) ≡ true → (m : List ℕ) → same m d ≡ true → some-of (λ r. same-name e m (name r)) (entries (records e b)) ≡ true
   held-at d o at ok ev m q =
       let t : (t : Split (entries (records e b))) × (eqb (t .here .off) o ≡ true) = some-split (λ r. eqb (r .off) o) (entries (records e b)) at in
@@ -193,8 +193,8 @@ module _ (e : Edition) (sane : Sane e) (b : List ℕ) (h : bytes b ≡ true) (a 
   fixed-held m q =
       let rs : List Rec = records e b in
       let nm : Bool = every (name-ok e) (entries rs) in
-      let h0 : Bool = entry-at (e .header) rs in
-      let h1 : Bool = entry-at (e .header + 16) rs in
+      let h0 : Bool = entry-stands (e .header) rs in
+      let h1 : Bool = entry-stands (e .header + 16) rs in
       let ns : (nm && h0 && h1) ≡ true = good-of e sane b h a .names in
       by-cases (same m dot)
       (λ y. held-at dot (e .header) (and-right nm h0 (and-left (nm && h0) h1 ns))

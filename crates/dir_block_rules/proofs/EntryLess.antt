@@ -12,7 +12,7 @@ use Rattle.edition.specs.declared.Edition.{Edition}
 use Rattle.name.specs.Name.{legal-name, hash-of, fixed-name, dot, dotdot}
 use Rattle.dir_block_rules.specs.Record.{Rec, apart, entries, name}
 use Rattle.dir_block_rules.specs.Block.{Slot, slot, is-stale, is-live}
-use Rattle.dir_block_rules.specs.Verdict.{names-ok, numbers-ok, own-in, number-ok, once-ok, name-ok, entry-at, has-slot}
+use Rattle.dir_block_rules.specs.Verdict.{names-ok, numbers-ok, own-in, number-ok, once-ok, name-ok, entry-stands, has-slot}
 use Rattle.be.proofs.Bools.{and-left, and-right, and-both, every-head, every-tail, every-cons, or-second, neither}
 use Rattle.dir_block_rules.proofs.SlotCounts.{Apart, at-addr}
 use Rattle.dir_block_rules.proofs.OwnNumber.{own-mid}
@@ -80,8 +80,8 @@ unfolding names-ok numbers-ok fixed-name
 good-remove e rs rs′ xs x ys us s vs st g a ap′ old new fx =
     let E0 : List Rec = entries rs in
     let nm : Bool = every (name-ok e) (entries rs) in
-    let h0 : Bool = entry-at (e .header) rs in
-    let h1 : Bool = entry-at (e .header + 16) rs in
+    let h0 : Bool = entry-stands (e .header) rs in
+    let h1 : Bool = entry-stands (e .header + 16) rs in
     let ns : (name-ok e x && every (name-ok e) (xs ++ ys)) ≡ true =
     sym (every-mid (name-ok e) xs x ys) ∙ subst (λ (es : List Rec). every (name-ok e) es ≡ true) old (and-left nm h0 (and-left (nm && h0) h1 (g .names))) in
     let nx : name-ok e x ≡ true = and-left (name-ok e x) (every (name-ok e) (xs ++ ys)) ns in

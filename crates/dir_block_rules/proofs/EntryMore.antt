@@ -19,7 +19,7 @@ use Rattle.dir.specs.Target.{target, kept-of, legal-type}
 use Rattle.dir.proofs.FileTypes.{kept-read}
 use Rattle.dir_block_rules.specs.Record.{target-of, kind-of, pad, Rec, rec, apart, entries, is-entry, name, number, entry-bytes}
 use Rattle.dir_block_rules.specs.Block.{Slot, slot}
-use Rattle.dir_block_rules.specs.Verdict.{names-ok, numbers-ok, own-in, number-ok, name-ok, entry-at}
+use Rattle.dir_block_rules.specs.Verdict.{names-ok, numbers-ok, own-in, number-ok, name-ok, entry-stands}
 use Rattle.dir_block_rules.specs.Change.{insert-slot}
 use Rattle.be.proofs.Bools.{and-left, and-right, and-both, or-right, neither}
 use Rattle.be.proofs.Numbers.{be-to-be, length-to-be}
@@ -101,8 +101,8 @@ good-insert e rs rs′ xs x ys ss ts st m sane g k l ap′ old new lg ln fx ab =
     let a : Apart (addr-of x ∷ map addr-of (xs ++ ys)) =
     apart-front xs x ys (subst (λ (es : List Rec). Apart (map addr-of es)) new (apart-keep e is-entry (e .header) rs′ (omega (arith, sane .magic-before, sane .best-inside)) l)) in
     let nm : Bool = every (name-ok e) (entries rs) in
-    let h0 : Bool = entry-at (e .header) rs in
-    let h1 : Bool = entry-at (e .header + 16) rs in
+    let h0 : Bool = entry-stands (e .header) rs in
+    let h1 : Bool = entry-stands (e .header + 16) rs in
     let d0 : some-of (λ r. eqb (r .off) (e .header)) (xs ++ ys) ≡ true =
     subst (λ (es : List Rec). some-of (λ r. eqb (r .off) (e .header)) es ≡ true) old (and-right nm h0 (and-left (nm && h0) h1 (g .names))) in
     let d1 : some-of (λ r. eqb (r .off) (e .header + 16)) (xs ++ ys) ≡ true =

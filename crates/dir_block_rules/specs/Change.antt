@@ -115,7 +115,7 @@ module _ (e : Edition) (b n : List ℕ) (i : Target) where
       let in-d = writes-d m in
       cond (case-a m) in-a (cond (case-b m) in-b (cond (case-c m) in-c in-d))
 
-  -- the block's refusal; 11 ASKED: name or number not legal; 12 FIXED; 14 EXISTS; 15 NOROOM
+  -- the block's refusal; 11 ASKED: name, number or type not legal; 12 FIXED; 14 EXISTS; 15 NOROOM
   unfoldable pub insert-code : ℕ
   insert-code =
       verdict e b and-then

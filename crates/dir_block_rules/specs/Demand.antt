@@ -20,7 +20,7 @@ use Rattle.dir_block_rules.specs.Calls.{reply, after, book-of}
 use Rattle.dir.specs.Book.{Book, holds, book-reply, book-after, SameBook}
 use Rattle.dir.specs.Along.{call-bytes, Along}
 
--- right after a removal that is done, any legal absent name that is no longer than the removed one goes in with any legal number
+-- right after a removal that is done, any legal absent name that is no longer than the removed one goes in with any legal number and type
 unfoldable pub Reuse : Edition → List ℕ → Call → Reply → Type 0
 Reuse e b (look-up n) r = Unit {0}
 Reuse e b (insert n i) r = Unit {0}

@@ -31,13 +31,13 @@ fresh e n i =
     ++ index-writes n (slot (hash-of e dot) (e .header / 8) ∷ slot (hash-of e dotdot) ((e .header + 16) / 8) ∷ []) 0))
 
 -- offset and length of each record in turn
-unfoldable pub places : List Rec → List ℕ
-places [] = []
-places (r ∷ rs) = r .off ∷ size r ∷ places rs
+unfoldable pub spans : List Rec → List ℕ
+spans [] = []
+spans (r ∷ rs) = r .off ∷ size r ∷ spans rs
 
 -- what a case states of a block: the verdict, count, stale, and the gaps
 unfoldable pub shape : List ℕ → List ℕ
-shape b = verdict v4 b ∷ count-of b ∷ stale-of b ∷ places (gaps (records v4 b))
+shape b = verdict v4 b ∷ count-of b ∷ stale-of b ∷ spans (gaps (records v4 b))
 
 -- what a lookup answers: number, inode number, names compared; and where the entry stands
 unfoldable pub answer : List ℕ → List ℕ → List ℕ
@@ -113,5 +113,5 @@ unfoldable pub rows : List Row
 rows = hash-rows ++ block-rows
 
 pub starred : every right rows ≡ true
-unfolding rows hash-rows block-rows block-size rol hash-byte hash-from places shape answer inserted c1 c2 c3 c4 c5 full by-case fresh best-pairs be be-from to-be slots-in slot-bytes pairs-in pair-bytes put written entry-size legal-name legal-number hash-of same-name fixed-name says cut whole apart entry-bytes pad gap-writes records slots count-of stale-of data-end verdict size-ok magic-ok span-ok tile-ok names-ok numbers-ok number-fits own-in legal-target legal-type index-ok rising best-ok once-ok seek sought names-compared up-to lookup lookup-refusal longest last-of touching room-of has-room best-of with-best sealed changed insert-slot writes-a writes-b writes-c writes-d insert-writes insert-code insert-bytes gap-start-before gap-end-after remove-writes remove-code remove-bytes
+unfolding rows hash-rows block-rows block-size rol hash-byte hash-from spans shape answer inserted c1 c2 c3 c4 c5 full by-case fresh best-pairs be be-from to-be slots-in slot-bytes pairs-in pair-bytes put written entry-size legal-name legal-number hash-of same-name fixed-name says cut whole apart entry-bytes pad gap-writes records slots count-of stale-of data-end verdict size-ok magic-ok span-ok tile-ok names-ok numbers-ok number-fits own-in legal-target legal-type index-ok rising best-ok once-ok seek sought names-compared up-to lookup lookup-refusal longest last-of touching room-of has-room best-of with-best sealed changed insert-slot writes-a writes-b writes-c writes-d insert-writes insert-code insert-bytes gap-start-before gap-end-after remove-writes remove-code remove-bytes
 starred = refl

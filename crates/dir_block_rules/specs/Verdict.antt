@@ -33,8 +33,8 @@ unfoldable pub tile-ok : Edition → List Rec → Bool
 tile-ok e rs = every (whole e) rs && apart rs
 
 -- 6 NAME: the names are legal; "." sits at 16 (the header's end) and ".." at 32 (16 further), nowhere else
-abbrev pub entry-at : ℕ → List Rec → Bool
-entry-at o rs = some-of (λ r. eqb (r .off) o) (entries rs)
+abbrev pub entry-stands : ℕ → List Rec → Bool
+entry-stands o rs = some-of (λ r. eqb (r .off) o) (entries rs)
 
 abbrev pub name-ok : Edition → Rec → Bool
 name-ok e r =
@@ -43,7 +43,7 @@ name-ok e r =
     && Bool·beq (same (name r) dotdot) (eqb (r .off) (e .header + 16))
 
 unfoldable pub names-ok : Edition → List Rec → Bool
-names-ok e rs = every (name-ok e) (entries rs) && entry-at (e .header) rs && entry-at (e .header + 16) rs
+names-ok e rs = every (name-ok e) (entries rs) && entry-stands (e .header) rs && entry-stands (e .header + 16) rs
 
 -- the number of ".": of the entry at the header's end
 unfoldable pub own-in : Edition → List Rec → ℕ
@@ -57,7 +57,7 @@ number-fits e own o i = legal-number i
 abbrev pub number-ok : Edition → ℕ → Rec → Bool
 number-ok e own r = number-fits e own (r .off) (number r)
 
--- 7 NUMBER: every inode number is
+-- 7 NUMBER: every entry's number is legal
 unfoldable pub numbers-ok : Edition → List Rec → Bool
 numbers-ok e rs = every (number-ok e (own-in e (entries rs))) (entries rs)
 

@@ -15,12 +15,12 @@ use Rattle.edition.specs.Edition.{Sane, block-size, largest-block}
 use Rattle.dir_block_rules.specs.Record.{Rec, entries}
 use Rattle.dir_block_rules.specs.Block.{Slot, records, slots, slots-in, count-of, stale-of, data-end}
 use Rattle.dir_block_rules.specs.Verdict.{verdict, size-ok, magic-ok, span-ok, tile-ok}
-use Rattle.dir_block_test.specs.Passes.{rest, slots-from, Parts, Data-tiled, after-span, after-tile, after-index, tiled}
+use Rattle.dir_block_test.specs.Passes.{rest, slots-from, Parts, Data-tiled, after-span, after-tile, after-index, tile-count}
 use Rattle.dir_block_test.proofs.FaultsAnswer.{tiled-not, tiled-done}
 -- TILE
 use Rattle.edition.proofs.Sizes.{block-size-bounds}
 
-module _ (e : Edition) (b : List ℕ) (t n m k : ℕ) (ks : k ≡ tiled e false 1 (rest e b t (length b) (e .header))) where
+module _ (e : Edition) (b : List ℕ) (t n m k : ℕ) (ks : k ≡ tile-count e false 1 (rest e b t (length b) (e .header))) where
   pub end-5 : k ≡ 0 → 5 ≡ after-span e b (rest e b t (length b) (e .header)) (slots-from b t n 0) m
   unfolding after-span
   end-5 z = sym (rw (tiled-not e (rest e b t (length b) (e .header)) k ks z))

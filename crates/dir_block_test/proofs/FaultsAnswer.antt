@@ -14,7 +14,7 @@ use Rattle.name.specs.Name.{hash-of}
 use Rattle.dir_block_rules.specs.Record.{Rec, whole, apart, is-gap, entries, name}
 use Rattle.dir_block_rules.specs.Verdict.{tile-ok, name-ok, number-ok}
 use Rattle.be.proofs.Bools.{by-cases}
-use Rattle.dir_block_test.specs.Passes.{no-fault, tile-from, tiled, fault, worst}
+use Rattle.dir_block_test.specs.Passes.{no-fault, tile-from, tile-count, fault, worst}
 
 -- TILE
 apart-from : Bool → List Rec → Bool
@@ -44,7 +44,7 @@ pub tile-is : (e : Edition) (rs : List Rec) → tile-from e false rs ≡ tile-ok
 unfolding tile-ok
 tile-is e rs = tile-split e false rs ∙ ap (λ (t : Bool). every (whole e) rs && t) (sym (apart-is rs))
 
-module _ (e : Edition) (rs : List Rec) (t : ℕ) (is : t ≡ tiled e false 1 rs) where
+module _ (e : Edition) (rs : List Rec) (t : ℕ) (is : t ≡ tile-count e false 1 rs) where
   pub tiled-not : t ≡ 0 → tile-ok e rs ≡ false
   unfolding tiled
   tiled-not z =

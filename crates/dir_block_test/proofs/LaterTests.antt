@@ -14,11 +14,11 @@ use Rattle.dir_block_rules.proofs.BlockParts.{length-slots-in}
 use Rattle.be.specs.Lists.{every, tally, same}
 use Rattle.be.specs.Bytes.{part, field}
 use Rattle.edition.specs.declared.Edition.{Edition}
-use Rattle.edition.specs.Edition.{Sane, entry-size, largest-block, record-places}
+use Rattle.edition.specs.Edition.{Sane, entry-size, largest-block, record-starts}
 use Rattle.name.specs.Name.{dot, legal-name}
 use Rattle.dir_block_rules.specs.Record.{Rec, rec, whole, is-gap, is-entry, entries, gaps, name}
 use Rattle.dir_block_rules.specs.Block.{Slot, is-live, is-stale}
-use Rattle.dir_block_rules.specs.Verdict.{tile-ok, entry-at, name-ok, names-ok, numbers-ok, number-ok, own-in, index-ok, rising, best-ok, best-pairs, pairs-in, pair, Pair, zero-pair, once-ok}
+use Rattle.dir_block_rules.specs.Verdict.{tile-ok, entry-stands, name-ok, names-ok, numbers-ok, number-ok, own-in, index-ok, rising, best-ok, best-pairs, pairs-in, pair, Pair, zero-pair, once-ok}
 use Rattle.be.proofs.Bools.{by-cases, and-left, and-right, every-head, every-tail, every-cons}
 use Rattle.dir_block_rules.proofs.CutJoin.{Laid, join, join-cut}
 use Rattle.dir_block_rules.proofs.SlotCounts.{Apart}
@@ -28,7 +28,7 @@ use Rattle.dir_block_rules.proofs.RecordPlaces.{apart-keep, laid-eights}
 use Rattle.dir_block_rules.proofs.SearchFinds.{Reads, Owner, owner}
 use Rattle.name.proofs.Same.{same-eq}
 use Rattle.dir_block_rules.proofs.GoodParts.{laid-small}
-use Rattle.dir_block_test.specs.Passes.{filled, hint, rest, name-of, Data-tiled, slots-from, Reach, addr-at, once-in, best-left, in-order, own-at, worst, after-tile, after-index}
+use Rattle.dir_block_test.specs.Passes.{cells-of, hint, rest, name-of, Data-tiled, slots-from, Reach, addr-at, once-in, best-left, in-order, own-at, worst, after-tile, after-index}
 use Rattle.be.proofs.Parts.{part-length}
 use Rattle.dir_block_test.proofs.TileWalk.{Head, rest-head, head-gap}
 use Rattle.dir_block_test.proofs.WholeRecord.{says-entry}
@@ -176,14 +176,14 @@ module _ (e : Edition) (sane : Sane e) (b : List ℕ) (t n : ℕ) where
     abbrev there : ℕ → Bool
     there o = ltb o t && not (eqb (field o 2 b) 0xffff)
 
-    at-dot : entry-at (e .header) RS ≡ there (e .header)
+    at-dot : entry-stands (e .header) RS ≡ there (e .header)
     at-dot = at-head e b t hi (T .parts .eights) (length b) (e .header) (T .parts .least) (sane .header-eights) enough wholes
 
     one-size : entry-size e 1 ≡ 16
     unfolding entry-size
     one-size = omega (arith, sane .ftype-most)
 
-    at-dotdot : every (name-ok e) (entries RS) ≡ true → there (e .header) ≡ true → entry-at (e .header + 16) RS ≡ there (e .header + 16)
+    at-dotdot : every (name-ok e) (entries RS) ≡ true → there (e .header) ≡ true → entry-stands (e .header + 16) RS ≡ there (e .header + 16)
     unfolding entry-size
     at-dotdot h w =
         let te : t % 8 ≡ 0 = T .parts .eights in
@@ -211,7 +211,7 @@ module _ (e : Edition) (sane : Sane e) (b : List ℕ) (t n : ℕ) where
         let w′ : every (whole e) (rest e b t (length b - 1) (e .header + 16)) ≡ true =
         every-tail (whole e) (rec (e .header) (part (e .header) (x .0) b)) (rest e b t (length b - 1) (e .header + 16)) (subst (λ (l : List Rec). every (whole e) l ≡ true) nx′ wholes) in
         let within : (e .header + 16) ≤ t = omega (arith, x .1 .fits) in
-        ap (entry-at (e .header + 16)) nx′ ∙ rw (i, ne-eqb (e .header) (e .header + 16) (λ (q : e .header ≡ e .header + 16). omega arith)) (at-head e b t hi te (length b - 1) (e .header + 16) within (omega (arith, sane .header-eights)) (omega (arith, hi)) w′)
+        ap (entry-stands (e .header + 16)) nx′ ∙ rw (i, ne-eqb (e .header) (e .header + 16) (λ (q : e .header ≡ e .header + 16). omega arith)) (at-head e b t hi te (length b - 1) (e .header + 16) within (omega (arith, sane .header-eights)) (omega (arith, hi)) w′)
       where
         beq-true : (x y : Bool) → y ≡ true → Bool·beq x y ≡ true → x ≡ true
         beq-true true y q h = refl
@@ -240,7 +240,7 @@ module _ (e : Edition) (sane : Sane e) (b : List ℕ) (t n : ℕ) where
         (λ w. rw (h, at-dot, w))
 
     -- INDEX
-    module _ (m live : ℕ) (M : List ℕ) (Ms : length M ≡ record-places) (ml : m ≤ n) (lv : live ≡ length (entries RS)) (fit : Bool) (fs : fit ≡ (in-order 0 0 m SS && eqb (n - m) live)) where
+    module _ (m live : ℕ) (M : List ℕ) (Ms : length M ≡ record-starts) (ml : m ≤ n) (lv : live ≡ length (entries RS)) (fit : Bool) (fs : fit ≡ (in-order 0 0 m SS && eqb (n - m) live)) where
       reachable : every (λ r. ltb (addr-of r) (length M)) (entries RS) ≡ true
       reachable = go (entries RS) all-placed
         where
@@ -270,18 +270,18 @@ module _ (e : Edition) (sane : Sane e) (b : List ℕ) (t n : ℕ) where
             (λ q. let z : k ≡ n = ks ∙ rw q in omega (arith, T .parts .slots-fit))
             (λ q. let z : k ≡ 0 = ks ∙ rw q in omega (arith, hi))
 
-        pub table-is : (P : List ℕ) → P ≡ filled b t M n → (w : ℕ) → w ≡ worst e (own-at e b) (hint P b t k) RS → w ≡ worst e (own-at e b) (hint (filled b t M n) b t k) RS
+        pub table-is : (P : List ℕ) → P ≡ cells-of b t M n → (w : ℕ) → w ≡ worst e (own-at e b) (hint P b t k) RS → w ≡ worst e (own-at e b) (hint (cells-of b t M n) b t k) RS
         table-is P ps w ws = ws ∙ ap (λ (Q : List ℕ). worst e (own-at e b) (hint Q b t k) RS) ps
 
-        module _ (P : List ℕ) (ps : P ≡ filled b t M n) (w : ℕ) (wp : w ≡ worst e (own-at e b) (hint P b t k) RS) where
-          ws : w ≡ worst e (own-at e b) (hint (filled b t M n) b t k) RS
+        module _ (P : List ℕ) (ps : P ≡ cells-of b t M n) (w : ℕ) (wp : w ≡ worst e (own-at e b) (hint P b t k) RS) where
+          ws : w ≡ worst e (own-at e b) (hint (cells-of b t M n) b t k) RS
           ws = table-is P ps w wp
 
           names-7 : leb 7 w ≡ every (name-ok e) (entries RS)
-          names-7 = ap (leb 7) ws ∙ worst-7 e (own-at e b) (hint (filled b t M n) b t k) RS
+          names-7 = ap (leb 7) ws ∙ worst-7 e (own-at e b) (hint (cells-of b t M n) b t k) RS
 
           names-8 : leb 8 w ≡ (every (name-ok e) (entries RS) && every (number-ok e (own-at e b)) (entries RS))
-          names-8 = ap (leb 8) ws ∙ worst-8 e (own-at e b) (hint (filled b t M n) b t k) RS
+          names-8 = ap (leb 8) ws ∙ worst-8 e (own-at e b) (hint (cells-of b t M n) b t k) RS
 
           pub end-6 : w < 7 → 6 ≡ after-tile e b RS SS m
           unfolding after-tile names-ok
@@ -323,7 +323,7 @@ module _ (e : Edition) (sane : Sane e) (b : List ℕ) (t n : ℕ) where
                   slots-9 : leb 9 w ≡ every (hinted b t n M e) (entries RS)
                   slots-9 =
                       let kn : k ≡ n = ks ∙ rw ft in
-                      ap (leb 9) (ws ∙ ap (λ (j : ℕ). worst e (own-at e b) (hint (filled b t M n) b t j) RS) kn) ∙ worst-9 e (own-at e b) (hint (filled b t M n) b t n) RS ∙ rw (named, own-numbers ∙ numbers)
+                      ap (leb 9) (ws ∙ ap (λ (j : ℕ). worst e (own-at e b) (hint (cells-of b t M n) b t j) RS) kn) ∙ worst-9 e (own-at e b) (hint (cells-of b t M n) b t n) RS ∙ rw (named, own-numbers ∙ numbers)
 
                   pub end-8′ : w < 9 → 8 ≡ after-tile e b RS SS m
                   unfolding after-tile

@@ -21,34 +21,34 @@ use Rattle.be.proofs.Bools.{by-cases, and-left, and-right, every-head, every-ta
 use Rattle.dir_block_rules.proofs.SlotCounts.{Apart, at-addr}
 use Rattle.dir_block_rules.proofs.IndexedEntries.{addr-of, at-both, tally-le, Slotted, slotted}
 use Rattle.be.proofs.Splits.{some-at}
-use Rattle.dir_block_test.specs.Passes.{slots-from, hash-at, addr-at, filled, hint, slot-is}
+use Rattle.dir_block_test.specs.Passes.{slots-from, hash-at, addr-at, cells-of, hint, slot-is}
 use Rattle.dir_block_test.proofs.SlotWalk.{slot-at, slots-next, slots-end}
 use Rattle.dir_block_test.proofs.OneSlotEach.{index-law}
 
-pub length-filled : (b : List ℕ) (t : ℕ) (M : List ℕ) (n : ℕ) → length (filled b t M n) ≡ length M
-unfolding filled
+pub length-filled : (b : List ℕ) (t : ℕ) (M : List ℕ) (n : ℕ) → length (cells-of b t M n) ≡ length M
+unfolding cells-of
 length-filled b t M zero = refl
-length-filled b t M (suc n) = length-set (filled b t M n) (addr-at b t n) (suc n) ∙ length-filled b t M n
+length-filled b t M (suc n) = length-set (cells-of b t M n) (addr-at b t n) (suc n) ∙ length-filled b t M n
 
 -- the table after one slot more
-pub filled-on : (b : List ℕ) (t : ℕ) (M P Q : List ℕ) (i j a v : ℕ) → P ≡ filled b t M i → j ≡ i + 1 → a ≡ addr-at b t i → v ≡ j → Q ≡ set P a v → Q ≡ filled b t M j
-unfolding filled
+pub filled-on : (b : List ℕ) (t : ℕ) (M P Q : List ℕ) (i j a v : ℕ) → P ≡ cells-of b t M i → j ≡ i + 1 → a ≡ addr-at b t i → v ≡ j → Q ≡ set P a v → Q ≡ cells-of b t M j
+unfolding cells-of
 filled-on b t M P Q i j a v p q r s h =
     let w : j ≡ suc i = q ∙ add-one i in
     let sw : v ≡ suc i = s ∙ w in rw (w, h, p, r, sw)
 
 module _ (b : List ℕ) (t : ℕ) (M : List ℕ) (a : ℕ) (small : a < length M) where
-  filled-at : (n i : ℕ) → i < n → addr-at b t i ≡ a → ((j : ℕ) → i < j → j < n → addr-at b t j ≡ a → ⊥) → getD (filled b t M n) a 0 ≡ suc i
-  unfolding filled
+  filled-at : (n i : ℕ) → i < n → addr-at b t i ≡ a → ((j : ℕ) → i < j → j < n → addr-at b t j ≡ a → ⊥) → getD (cells-of b t M n) a 0 ≡ suc i
+  unfolding cells-of
   filled-at zero i l e f = absurd (omega arith)
   filled-at (suc n) i l e f =
       by-cases (eqb i n)
       (λ q. let i-is : i ≡ n = eqb-true i n q in
       let e′ : addr-at b t n ≡ a = ap (addr-at b t) (sym i-is) ∙ e in
-      ap (λ (k : ℕ). getD (set (filled b t M n) k (suc n)) a 0) e′
-      ∙ getD-set-same (filled b t M n) a (suc n) 0 (omega (arith, length-filled b t M n)) ∙ ap suc (sym i-is))
+      ap (λ (k : ℕ). getD (set (cells-of b t M n) k (suc n)) a 0) e′
+      ∙ getD-set-same (cells-of b t M n) a (suc n) 0 (omega (arith, length-filled b t M n)) ∙ ap suc (sym i-is))
       (λ q. let less : i < n = lt-of (omega arith) (eqb-false i n q) in
-      getD-set-other (filled b t M n) (addr-at b t n) a (suc n) 0 (λ (z : a ≡ addr-at b t n). f n less (omega arith) (sym z))
+      getD-set-other (cells-of b t M n) (addr-at b t n) a (suc n) 0 (λ (z : a ≡ addr-at b t n). f n less (omega arith) (sym z))
       ∙ filled-at n i less e (λ j u v. f j u (omega arith)))
     where
       lt-of : {x y : ℕ} → x ≤ y → (x ≡ y → ⊥) → x < y
@@ -117,7 +117,7 @@ module _ (b : List ℕ) (t n : ℕ) where
 
   module _ (M : List ℕ) (e : Edition) where
     abbrev pub M′ : List ℕ
-    M′ = filled b t M n
+    M′ = cells-of b t M n
 
     abbrev pub hinted : Rec → Bool
     hinted r = hint M′ b t n (r .off / 8) (hash-of e (name r))
@@ -130,7 +130,7 @@ module _ (b : List ℕ) (t n : ℕ) where
     unfolding hint
     slotted-hint r small s =
         let o : Only (addr-of r) (hash-of e (name r)) 0 = only (addr-of r) (hash-of e (name r)) n 0 (zero-add n) (s .by-addr) (s .by-both) in
-        let g : getD (filled b t M n) (addr-of r) 0 ≡ suc (o .i) = filled-at b t M (addr-of r) small n (o .i) (o .within) (o .addr-is) (o .last) in
+        let g : getD (cells-of b t M n) (addr-of r) 0 ≡ suc (o .i) = filled-at b t M (addr-of r) small n (o .i) (o .within) (o .addr-is) (o .last) in
         let back : suc (o .i) - 1 ≡ o .i = omega arith in
         let i1 : leb 1 (suc (o .i)) ≡ true = le-leb 1 (suc (o .i)) (omega arith) in
         let i2 : leb (suc (o .i)) n ≡ true = le-leb (suc (o .i)) n (o .within) in
@@ -169,9 +169,9 @@ module _ (b : List ℕ) (t n : ℕ) where
         (λ q. index-law e SS es ap′ l ∙ hints-found es q ∙ sym q)
         (λ q. by-cases (every (has-slot e SS) es) (λ p. absurd (clash (has-hints es w p) q)) (λ p. p ∙ sym q))
 
-pub filled-none : (b : List ℕ) (t : ℕ) (M : List ℕ) → M ≡ filled b t M 0
-unfolding filled
+pub filled-none : (b : List ℕ) (t : ℕ) (M : List ℕ) → M ≡ cells-of b t M 0
+unfolding cells-of
 filled-none b t M = refl
 
-pub filled-end : (b : List ℕ) (t : ℕ) (M P : List ℕ) (i n : ℕ) → i ≤ n → n ≤ i → P ≡ filled b t M i → P ≡ filled b t M n
-filled-end b t M P i n l u h = let e : i ≡ n = omega arith in h ∙ ap (filled b t M) e
+pub filled-end : (b : List ℕ) (t : ℕ) (M P : List ℕ) (i n : ℕ) → i ≤ n → n ≤ i → P ≡ cells-of b t M i → P ≡ cells-of b t M n
+filled-end b t M P i n l u h = let e : i ≡ n = omega arith in h ∙ ap (cells-of b t M) e

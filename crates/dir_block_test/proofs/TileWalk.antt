@@ -14,7 +14,7 @@ use Rattle.edition.specs.declared.Edition.{Edition}
 use Rattle.dir_block_rules.specs.Record.{rec, cut, says, whole, is-gap, entries}
 use Rattle.be.proofs.Bools.{by-cases}
 use Rattle.dir_block_rules.proofs.CutJoin.{Whole, whole→, cut-step, head-size}
-use Rattle.dir_block_test.specs.Passes.{rest, tile-from, whole-len, tiled}
+use Rattle.dir_block_test.specs.Passes.{rest, tile-from, whole-len, tile-count}
 use Rattle.be.proofs.Parts.{part-length, drop-part, take-part}
 
 -- a record at the head that is whole, and its length
@@ -66,8 +66,8 @@ module _ (e : Edition) (b : List ℕ) (t o : ℕ) (lo : o < t) (hi : t ≤ lengt
   head-gap n h = ap (λ (l : List ℕ). eqb (be l) 0xffff) (take-take 2 n (drop o b) (omega (arith, h .least)))
 
   module _ (g : Bool) (n k : ℕ) where
-    pub tile-broken : 0 ≡ whole-len e here o → tiled e g n (rest e b t (suc k) o) ≡ 0
-    unfolding tiled tile-from whole-len whole
+    pub tile-broken : 0 ≡ whole-len e here o → tile-count e g n (rest e b t (suc k) o) ≡ 0
+    unfolding tile-count tile-from whole-len whole
     tile-broken h =
         by-cases (whole e (rec o (take (says e here) here)))
         (λ q. let w : Whole e (rec o (take (says e here) here)) = whole→ e (rec o (take (says e here) here)) q in
@@ -78,21 +78,21 @@ module _ (e : Edition) (b : List ℕ) (t o : ℕ) (lo : o < t) (hi : t ≤ lengt
         (λ q. rw (step k, q))
 
     module _ (m : ℕ) (h : Head e b t o m) where
-      pub tile-entry : eqb (field o 2 b) 0xffff ≡ false → tiled e g n (rest e b t (suc k) o) ≡ tiled e false (n + 1) (rest e b t k (o + m))
-      unfolding tiled tile-from
+      pub tile-entry : eqb (field o 2 b) 0xffff ≡ false → tile-count e g n (rest e b t (suc k) o) ≡ tile-count e false (n + 1) (rest e b t k (o + m))
+      unfolding tile-count tile-from
       tile-entry p =
           let i : is-gap (rec o (part o m b)) ≡ false = head-gap m h ∙ p in
           let sum : n + suc (length (entries (rest e b t k (o + m)))) ≡ n + 1 + length (entries (rest e b t k (o + m))) = omega arith in
           by-cases g (λ q. rw (rest-head k m h, h .whole-is, i, q, sum)) (λ q. rw (rest-head k m h, h .whole-is, i, q, sum))
 
-      pub tile-gap : eqb (field o 2 b) 0xffff ≡ true → g ≡ false → tiled e g n (rest e b t (suc k) o) ≡ tiled e true n (rest e b t k (o + m))
-      unfolding tiled tile-from
+      pub tile-gap : eqb (field o 2 b) 0xffff ≡ true → g ≡ false → tile-count e g n (rest e b t (suc k) o) ≡ tile-count e true n (rest e b t k (o + m))
+      unfolding tile-count tile-from
       tile-gap p q =
           let i : is-gap (rec o (part o m b)) ≡ true = head-gap m h ∙ p in
           rw (rest-head k m h, h .whole-is, i, q)
 
-      pub tile-touch : eqb (field o 2 b) 0xffff ≡ true → g ≡ true → tiled e g n (rest e b t (suc k) o) ≡ 0
-      unfolding tiled tile-from
+      pub tile-touch : eqb (field o 2 b) 0xffff ≡ true → g ≡ true → tile-count e g n (rest e b t (suc k) o) ≡ 0
+      unfolding tile-count tile-from
       tile-touch p q =
           let i : is-gap (rec o (part o m b)) ≡ true = head-gap m h ∙ p in
           rw (rest-head k m h, h .whole-is, i, q)
@@ -111,28 +111,28 @@ pub record Tiling (e : Edition) (b : List ℕ) (t a o : ℕ) (g : Bool) (n : ℕ
   pub few : n ≤ o
   pub fuel : ℕ
   pub enough : t - o ≤ fuel
-  pub so-far : tiled e false 1 (rest e b t (length b) a) ≡ tiled e g n (rest e b t fuel o)
+  pub so-far : tile-count e false 1 (rest e b t (length b) a) ≡ tile-count e g n (rest e b t fuel o)
 
 module _ (e : Edition) (b : List ℕ) (t a : ℕ) (hi : t ≤ length b) (te : t % 8 ≡ 0) where
   pub tiling-start : a ≤ t → a % 8 ≡ 0 → 1 ≤ a → Tiling e b t a a false 1
   tiling-start h q p = record { within = h; eights = q; few = p; fuel = length b; enough = omega arith; so-far = refl }
 
   module _ (o : ℕ) (g : Bool) (n : ℕ) (i : Tiling e b t a o g n) where
-    pub tiling-end : t ≤ o → n ≡ tiled e false 1 (rest e b t (length b) a)
-    unfolding tiled tile-from
+    pub tiling-end : t ≤ o → n ≡ tile-count e false 1 (rest e b t (length b) a)
+    unfolding tile-count tile-from
     tiling-end h = sym (i .so-far ∙ rw (rest-end e b t (i .fuel) o h) (add-zero n))
 
     module _ (lo : o < t) where
       more : i .fuel ≡ suc (i .fuel - 1)
       more = omega (arith, i .enough)
 
-      now-is : tiled e false 1 (rest e b t (length b) a) ≡ tiled e g n (rest e b t (suc (i .fuel - 1)) o)
-      now-is = i .so-far ∙ ap (λ (k : ℕ). tiled e g n (rest e b t k o)) more
+      now-is : tile-count e false 1 (rest e b t (length b) a) ≡ tile-count e g n (rest e b t (suc (i .fuel - 1)) o)
+      now-is = i .so-far ∙ ap (λ (k : ℕ). tile-count e g n (rest e b t k o)) more
 
       pub eight-left : o + 8 ≤ t
       eight-left = omega (arith, i .eights)
 
-      pub tiling-broken : (m : ℕ) → m ≡ whole-len e (part o (t - o) b) o → m ≡ 0 → 0 ≡ tiled e false 1 (rest e b t (length b) a)
+      pub tiling-broken : (m : ℕ) → m ≡ whole-len e (part o (t - o) b) o → m ≡ 0 → 0 ≡ tile-count e false 1 (rest e b t (length b) a)
       tiling-broken m h z = sym (now-is ∙ tile-broken e b t o lo hi g n (i .fuel - 1) (sym z ∙ h))
 
       module _ (m : ℕ) (h : m ≡ whole-len e (part o (t - o) b) o) (z : m ≡ 0 → ⊥) (w : Bool) (wg : w ≡ eqb (field o 2 b) 0xffff) where
@@ -145,7 +145,7 @@ module _ (e : Edition) (b : List ℕ) (t a : ℕ) (hi : t ≤ length b) (te : t 
         pub least-here : 8 ≤ m
         least-here = hd .least
 
-        pub tiling-touch : w ≡ true → g ≡ true → 0 ≡ tiled e false 1 (rest e b t (length b) a)
+        pub tiling-touch : w ≡ true → g ≡ true → 0 ≡ tile-count e false 1 (rest e b t (length b) a)
         tiling-touch p q = sym (now-is ∙ tile-touch e b t o lo hi g n (i .fuel - 1) m hd (sym wg ∙ p) q)
 
         pub tiling-gap : w ≡ true → g ≡ false → Tiling e b t a (o + m) true n

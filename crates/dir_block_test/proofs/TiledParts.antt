@@ -1,4 +1,4 @@
--- The parts of a tiled block: what the tests that come later rely on.
+-- The parts of a tile-count block: what the tests that come later rely on.
 -- Assumes nothing.
 use Prim.Native.Nat.{ℕ, zero, suc, _+_, _-_, _%_, _^_, _≤_, _<_}
 use native.Mathlib.Omega.{arith}
@@ -12,7 +12,7 @@ use Rattle.be.specs.Lists.{every, some-of, keep, same}
 use Rattle.be.specs.Bytes.{part, field}
 use Rattle.edition.specs.declared.Edition.{Edition}
 use Rattle.dir_block_rules.specs.Record.{Rec, rec, whole, size, is-gap, is-entry, entries, name}
-use Rattle.dir_block_rules.specs.Verdict.{entry-at}
+use Rattle.dir_block_rules.specs.Verdict.{entry-stands}
 use Rattle.be.proofs.Bools.{by-cases, and-right, and-both, every-head, every-tail, every-cons}
 use Rattle.dir_block_rules.proofs.CutJoin.{Laid, laid-cut}
 use Rattle.name.proofs.Same.{same-refl}
@@ -75,7 +75,7 @@ module _ (e : Edition) (b : List ℕ) (t : ℕ) (hi : t ≤ length b) (te : t % 
 
   -- an entry at the head
   pub at-head : (k o : ℕ) → o ≤ t → o % 8 ≡ 0 → t - o ≤ k → every (whole e) (rest e b t k o) ≡ true
-      → entry-at o (rest e b t k o) ≡ (ltb o t && not (eqb (field o 2 b) 0xffff))
+      → entry-stands o (rest e b t k o) ≡ (ltb o t && not (eqb (field o 2 b) 0xffff))
   at-head zero o l oe en w = rw (rest-end e b t zero o (omega arith), le-ltb o t (omega arith))
   at-head (suc k) o l oe en w =
       by-cases (ltb o t)

@@ -21,7 +21,7 @@ use Rattle.dir_block_rules.specs.Verdict.{name-ok, number-fits, number-ok, Pair
 unfoldable pub rest : Edition → List ℕ → ℕ → ℕ → ℕ → List Rec
 rest e b t k o = cut e k o (part o (t - o) b)
 
--- the slots from place i of the n that stand at t
+-- the slots from index i on, of the n that stand at t
 unfoldable pub slots-from : List ℕ → ℕ → ℕ → ℕ → List Slot
 slots-from b t n i = slots-in (n - i) (drop (t + 8 * i) b)
 
@@ -35,8 +35,8 @@ unfoldable pub whole-len : Edition → List ℕ → ℕ → ℕ
 whole-len e d o = cond (whole e (rec o (take (says e d) d))) (says e d) 0
 
 -- what TILE's pass answers: 0, or n more than there are entries
-unfoldable pub tiled : Edition → Bool → ℕ → List Rec → ℕ
-tiled e g n rs = cond (tile-from e g rs) (n + length (entries rs)) 0
+unfoldable pub tile-count : Edition → Bool → ℕ → List Rec → ℕ
+tile-count e g n rs = cond (tile-from e g rs) (n + length (entries rs)) 0
 
 -- a slot with this hash at this address
 abbrev pub slot-is : ℕ → ℕ → Slot → Bool
@@ -164,10 +164,10 @@ pub record Data-tiled (e : Edition) (b : List ℕ) (t n : ℕ) : Type 0 where
   pub parts : Parts e b t n
   pub tiles : tile-ok e (rest e b t (length b) (e .header)) ≡ true
 
--- the places of the first i slots at t, by their addresses, in a table; the last slot at an address counts
-unfoldable pub filled : List ℕ → ℕ → List ℕ → ℕ → List ℕ
-filled b t M zero = M
-filled b t M (suc i) = set (filled b t M i) (addr-at b t i) (suc i)
+-- one more than the index of each of the first i slots at t, by its address, in a table; the last slot at an address counts
+unfoldable pub cells-of : List ℕ → ℕ → List ℕ → ℕ → List ℕ
+cells-of b t M zero = M
+cells-of b t M (suc i) = set (cells-of b t M i) (addr-at b t i) (suc i)
 
 -- the slot that the table has for address a is one of the n, at that address, and has the hash h
 unfoldable pub hint : List ℕ → List ℕ → ℕ → ℕ → ℕ → ℕ → Bool

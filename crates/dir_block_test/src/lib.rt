@@ -6,16 +6,16 @@ ghost use lib.Dec.{eqb, ltb};
 ghost use lib.ListN.{length, set};
 ghost use Rattle.be.specs.Lists.{every};
 ghost use Rattle.be.specs.Bytes.{byte, field, part};
-ghost use Rattle.edition.specs.Edition.{v4, Sane, largest-block, record-places};
+ghost use Rattle.edition.specs.Edition.{v4, Sane, largest-block, record-starts};
 ghost use Rattle.name.specs.Name.{legal-name, same-name};
 ghost use Rattle.dir_block_rules.specs.Record.{says, whole, gaps, entries};
 ghost use Rattle.dir_block_rules.specs.Verdict.{pair, best-pairs, best-ok, index-ok, verdict};
-ghost use Rattle.dir_block_test.specs.Passes.{no-fault, rest, whole-len, tiled, slots-from, in-order, hash-at, addr-at, filled, hint, name-fits, name-of, fault-at, own-at, worst, best-left, which, clash-from, runs-on, once-in, Reach, after-index, after-tile, after-span, Parts, Data-tiled};
+ghost use Rattle.dir_block_test.specs.Passes.{no-fault, rest, whole-len, tile-count, slots-from, in-order, hash-at, addr-at, cells-of, hint, name-fits, name-of, fault-at, own-at, worst, best-left, which, clash-from, runs-on, once-in, Reach, after-index, after-tile, after-span, Parts, Data-tiled};
 use edition::Edition;
 use edition::V4;
 
-// A place in the table of slots for every 8 bytes of the largest block.
-const PLACES: usize = edition::LARGEST_BLOCK / 8;
+// A cell in the table of slots for every 8 bytes of the largest block.
+const CELLS: usize = edition::LARGEST_BLOCK / 8;
 
 // Whether the record at o is a gap.
 fn is_gap(b: &[u8], o: usize) -> bool
@@ -62,11 +62,11 @@ fn whole_len(e: Edition, b: &[u8], o: usize, t: usize) -> usize
     n
 }
 
-// 0 if the data up to t is not tiled, else one more than it has entries.
+// 0 if the data up to t is not tile-count, else one more than it has entries.
 fn tiles(e: Edition, b: &[u8], t: usize) -> usize
     requires { ⌜ Sane e ⌝ }
     requires { ⌜ (t ≤ length (now b)) × (t % 8 ≡ 0) × (e .header ≤ t) ⌝ }
-    ensures { λ r. ⌜ r ≡ tiled e false 1 (rest e (now (b .entry)) t (length (now (b .entry))) (e .header)) ⌝ }
+    ensures { λ r. ⌜ r ≡ tile-count e false 1 (rest e (now (b .entry)) t (length (now (b .entry))) (e .header)) ⌝ }
 {
     let mut o = e.header;
     let mut after = false;
@@ -128,26 +128,26 @@ fn ordered(b: &[u8], t: usize, n: usize, m: usize) -> bool
     stale == m
 }
 
-// Stores v at place a, if the table has it.
-fn place(pos: &mut [u16; PLACES], a: usize, v: u16)
-    requires { ⌜ length (now pos) ≡ record-places ⌝ }
+// Stores v in cell a, if the table has it.
+fn mark(pos: &mut [u16; CELLS], a: usize, v: u16)
+    requires { ⌜ length (now pos) ≡ record-starts ⌝ }
     ensures { λ _. ⌜ now (pos .exit) ≡ set (now (pos .entry)) a v ⌝ }
 {
-    if a < PLACES {
+    if a < CELLS {
         pos[a] = v;
     }
 }
 
-// Fills the table: at each address one more than the place of the last of the n slots at t that has it.
-fn places(b: &[u8], t: usize, n: usize, pos: &mut [u16; PLACES])
-    requires { ⌜ (t + 8 * n ≤ length (now b)) × (n < 65536) × (length (now pos) ≡ record-places) ⌝ }
-    ensures { λ _. ⌜ now (pos .exit) ≡ filled (now (b .entry)) t (now (pos .entry)) n ⌝ }
+// Fills the table: at each address one more than the index of the last of the n slots at t that has it.
+fn mark_all(b: &[u8], t: usize, n: usize, pos: &mut [u16; CELLS])
+    requires { ⌜ (t + 8 * n ≤ length (now b)) × (n < 65536) × (length (now pos) ≡ record-starts) ⌝ }
+    ensures { λ _. ⌜ now (pos .exit) ≡ cells-of (now (b .entry)) t (now (pos .entry)) n ⌝ }
 {
     let mut i: usize = 0;
     while i < n {
         let a = slot_addr(b, t, i);
         i += 1;
-        place(pos, a, i as u16);
+        mark(pos, a, i as u16);
     }
 }
 
@@ -158,8 +158,8 @@ fn wide16(x: u16) -> usize
 }
 
 // Whether the slot that the table has for address a is there and has hash h.
-fn has_slot(b: &[u8], t: usize, n: usize, pos: &[u16; PLACES], h: usize, a: usize) -> bool
-    requires { ⌜ (t + 8 * n ≤ length (now b)) × (a < record-places) ⌝ }
+fn has_slot(b: &[u8], t: usize, n: usize, pos: &[u16; CELLS], h: usize, a: usize) -> bool
+    requires { ⌜ (t + 8 * n ≤ length (now b)) × (a < record-starts) ⌝ }
     ensures { λ r. ⌜ r ≡ hint (now (pos .entry)) (now (b .entry)) t n a h ⌝ }
 {
     let p = wide16(pos[a]);
@@ -203,7 +203,7 @@ fn name_fits(e: Edition, legal: bool, s: &[u8], o: usize) -> bool
 const NO_FAULT: usize = refusal::HIGHEST + 1;
 
 // The first test that the entry at o fails: NAME, NUMBER or INDEX.
-fn entry_fault(e: Edition, b: &[u8], o: usize, t: usize, n: usize, pos: &[u16; PLACES]) -> usize
+fn entry_fault(e: Edition, b: &[u8], o: usize, t: usize, n: usize, pos: &[u16; CELLS]) -> usize
     requires { ⌜ Sane e ⌝ }
     requires { ⌜ (t + 8 * n ≤ length (now b)) × (t ≤ largest-block) × (o + 9 + byte (o + 8) (now b) ≤ t) ⌝ }
     ensures { λ r. ⌜ r ≡ fault-at e (own-at e (now (b .entry))) (hint (now (pos .entry)) (now (b .entry)) t n) (now (b .entry)) o ⌝ }
@@ -224,7 +224,7 @@ fn entry_fault(e: Edition, b: &[u8], o: usize, t: usize, n: usize, pos: &[u16; P
 }
 
 // The lower of w and the record's first fault.
-fn worse(e: Edition, b: &[u8], o: usize, t: usize, n: usize, pos: &[u16; PLACES], w: usize) -> usize
+fn worse(e: Edition, b: &[u8], o: usize, t: usize, n: usize, pos: &[u16; CELLS], w: usize) -> usize
     requires { ⌜ Sane e ⌝ }
     requires { ⌜ (t + 8 * n ≤ length (now b)) × (t ≤ largest-block) × (o + 2 ≤ t) × (eqb (field o 2 (now b)) 0xffff ≡ false → o + 9 + byte (o + 8) (now b) ≤ t) ⌝ }
     ensures { λ r. ⌜ r ≡ min w (cond (eqb (field o 2 (now (b .entry))) 0xffff) no-fault (fault-at e (own-at e (now (b .entry))) (hint (now (pos .entry)) (now (b .entry)) t n) (now (b .entry)) o)) ⌝ }
@@ -243,7 +243,7 @@ fn worse(e: Edition, b: &[u8], o: usize, t: usize, n: usize, pos: &[u16; PLACES]
 }
 
 // The lowest fault of the entries' names, numbers and slots.
-fn faults(e: Edition, b: &[u8], t: usize, n: usize, pos: &[u16; PLACES]) -> usize
+fn faults(e: Edition, b: &[u8], t: usize, n: usize, pos: &[u16; CELLS]) -> usize
     requires { ⌜ Sane e ⌝ }
     requires { ⌜ (t + 8 * n ≤ length (now b)) × (t ≤ largest-block) × (t % 8 ≡ 0) × (e .header ≤ t) × (every (whole e) (rest e (now b) t (length (now b)) (e .header)) ≡ true) ⌝ }
     ensures { λ r. ⌜ r ≡ worst e (own-at e (now (b .entry))) (hint (now (pos .entry)) (now (b .entry)) t n) (rest e (now (b .entry)) t (length (now (b .entry))) (e .header)) ⌝ }
@@ -485,8 +485,8 @@ fn test_entries(e: Edition, b: &[u8], t: usize, n: usize, m: usize, live: usize)
     ensures { λ r. ⌜ r ≡ after-tile e (now (b .entry)) (rest e (now (b .entry)) t (length (now (b .entry))) (e .header)) (slots-from (now (b .entry)) t n 0) m ⌝ }
 {
     let fit = counts_fit(b, t, n, m, live);
-    let mut pos = [0u16; PLACES];
-    places(b, t, n, &mut pos);
+    let mut pos = [0u16; CELLS];
+    mark_all(b, t, n, &mut pos);
     let w = faults(e, b, t, searched(fit, n), &pos);
     if w <= refusal::NAME {
         return refusal::NAME;

@@ -176,12 +176,12 @@ fn cases(b: [u8; 4096]) {
     look(&with(b, 0x4f, 0x31), b"/");
 }
 
-fn room() -> [u8; 4096] {
+fn blank() -> [u8; 4096] {
     [0; 4096]
 }
 
 fn main() {
-    let mut b = room();
+    let mut b = blank();
     io::read_full(STDIN_FILENO, &mut b);
     cases(b);
 }

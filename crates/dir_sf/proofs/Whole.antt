@@ -9,7 +9,7 @@ use lib.Dec.{eqb}
 use lib.ListN.{length, length-append}
 use borrow.Author.Tests.{eq-eqb, ne-eqb}
 use Rattle.be.proofs.Bools.{by-cases}
-use Rattle.records.specs.Records.{start, places, records, stands}
+use Rattle.records.specs.Records.{start, places, read-records, stands}
 use Rattle.records.proofs.Starts.{start-above, length-records, stands-first, stands-later}
 use Rattle.edition.specs.declared.Edition.{Edition}
 use Rattle.edition.specs.Edition.{Sane, entry-size}
@@ -67,7 +67,7 @@ module _ (e : Edition) (told : ℕ) (b : List ℕ) (v : verdict e told b ≡ 0) 
 meets-long : (e : Edition) (w : ℕ) (u : List ℕ) (k p : ℕ) → length (meets e w u k p) ≡ k + 1
 unfolding meets
 meets-long e w u k p =
-    length-append (records (size-at e w u) (at-entry e w u) k p) _ ∙ ap (λ (n : ℕ). n + 1) (length-records (size-at e w u) (at-entry e w u) k p)
+    length-append (read-records (size-at e w u) (at-entry e w u) k p) _ ∙ ap (λ (n : ℕ). n + 1) (length-records (size-at e w u) (at-entry e w u) k p)
 
 rising : (e : Edition) (low : ℕ) (ys zs : List SfEntry) (x y : SfEntry) → tags-ok e low (ys ++ (x ∷ y ∷ zs)) ≡ true → x .tag < y .tag
 unfolding next-tag entry-size

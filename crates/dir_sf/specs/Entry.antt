@@ -7,7 +7,7 @@ use lib.Dec.{eqb, leb, ltb}
 use lib.ListN.{length}
 use Rattle.be.specs.Lists.{tally}
 use Rattle.be.specs.Bytes.{byte, field, part, to-be}
-use Rattle.records.specs.Records.{records, tiled, within, joined}
+use Rattle.records.specs.Records.{read-records, tiled, within, joined}
 use Rattle.edition.specs.declared.Edition.{Edition}
 use Rattle.edition.specs.Edition.{entry-size}
 use Rattle.dir.specs.declared.Target.{Target}
@@ -39,7 +39,7 @@ entry-at e w u p =
 
 -- k entries of u from a place on
 unfoldable pub entries-in : Edition → ℕ → List ℕ → ℕ → ℕ → List SfEntry
-entries-in e w u k at = records (size-at e w u) (entry-at e w u) k at
+entries-in e w u k at = read-records (size-at e w u) (entry-at e w u) k at
 
 -- TILE: they use exactly the bytes up to the end of u
 unfoldable pub filled : Edition → ℕ → List ℕ → ℕ → ℕ → Bool

@@ -380,10 +380,10 @@ fn agrees(b: &[u8], book: &[u64], id: usize) -> bool
 // What an insert must answer.
 fn insert_answer(held: u64, case: usize) -> usize {
     if held != 0 {
-        return 14;
+        return refusal::EXISTS;
     }
     if case == 0 {
-        return 15;
+        return refusal::NOROOM;
     }
     0
 }
@@ -409,7 +409,7 @@ fn try_insert(b: &mut [u8], book: &mut [u64], id: usize, inode: u64, t: Tally) -
 // What a removal must answer.
 fn remove_answer(held: u64) -> usize {
     if held == 0 {
-        return 13;
+        return refusal::ABSENT;
     }
     0
 }

@@ -18,8 +18,8 @@ abbrev pub largest-block : ℕ
 largest-block = 16384
 
 -- the places in it where a record can start: one for every 8 bytes
-abbrev pub record-places : ℕ
-record-places = largest-block / 8
+abbrev pub record-starts : ℕ
+record-starts = largest-block / 8
 
 -- Directory block: a power of two, 512 to 16,384
 abbrev pub block-sizes : List ℕ

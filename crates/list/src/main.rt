@@ -114,14 +114,14 @@ fn answer(e: Edition, b: &[u8])
 }
 
 // One byte more than the largest block, so that what is longer is refused by its length.
-fn room() -> [u8; 16385]
+fn blank() -> [u8; 16385]
     ensures { λ r. ⌜ 16385 ≡ length r ⌝ }
 {
     [0; 16385]
 }
 
 fn main() {
-    let mut buffer = room();
+    let mut buffer = blank();
     let n = io::read_full(STDIN_FILENO, &mut buffer);
     answer(V4::edition(), &buffer[..n]);
 }

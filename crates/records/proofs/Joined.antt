@@ -8,7 +8,7 @@ use lib.ListN.{length, drop, length-append}
 use lib.Seq.{drop-at, drop-drop, getD-append-add}
 use Rattle.be.specs.Bytes.{byte, part}
 use Rattle.be.proofs.Parts.{part-add}
-use Rattle.records.specs.Records.{start, places, records, joined}
+use Rattle.records.specs.Records.{start, places, read-records, joined}
 use Rattle.records.proofs.Starts.{start-above}
 
 -- each element
@@ -49,7 +49,7 @@ module _ {A : Type 0} (bytes-of : A → List ℕ) where
     -- and that are what was written
     module _ (read : List ℕ → ℕ → A) (P : A → Type 0) (reads : (p : List ℕ) (x : A) (r : List ℕ) → P x → read (p ++ (bytes-of x ++ r)) (length p) ≡ x) where
       pub joined-read : (xs : List A) (p r : List ℕ) → All P xs
-          → records (size (p ++ (joined bytes-of xs ++ r))) (read (p ++ (joined bytes-of xs ++ r))) (length xs) (length p) ≡ xs
+          → read-records (size (p ++ (joined bytes-of xs ++ r))) (read (p ++ (joined bytes-of xs ++ r))) (length xs) (length p) ≡ xs
       unfolding places
       joined-read [] p r h = refl
       joined-read (x ∷ xs) p r h =
@@ -57,15 +57,15 @@ module _ {A : Type 0} (bytes-of : A → List ℕ) where
           let f : List ℕ = p ++ (joined bytes-of (x ∷ xs) ++ r) in
           ap₂ (λ (y : A) (ys : List A). y ∷ ys)
           (ap (λ (l : List ℕ). read l (length p)) g ∙ reads p x (joined bytes-of xs ++ r) (h .0))
-          (ap (λ (at : ℕ). records (size f) (read f) (length xs) at) (after p x xs r)
-          ∙ ap (λ (l : List ℕ). records (size l) (read l) (length xs) (length (p ++ bytes-of x))) (regroup p x xs r)
+          (ap (λ (at : ℕ). read-records (size f) (read f) (length xs) at) (after p x xs r)
+          ∙ ap (λ (l : List ℕ). read-records (size l) (read l) (length xs) (length (p ++ bytes-of x))) (regroup p x xs r)
           ∙ joined-read xs (p ++ bytes-of x) r (h .1))
 
 -- stored records, each of which is written as it is read, written out again are the bytes that were read
 module _ {A : Type 0} (bytes-of : A → List ℕ) (f : List ℕ) (size : ℕ → ℕ) (read : ℕ → A)
     (exact : (at : ℕ) → at + size at ≤ length f → part at (size at) f ≡ bytes-of (read at)) where
   pub joined-stored : (n at : ℕ) → start size n at ≤ length f
-      → part at (start size n at - at) f ≡ joined bytes-of (records size read n at)
+      → part at (start size n at - at) f ≡ joined bytes-of (read-records size read n at)
   unfolding start places
   joined-stored zero at h = let q : at - at ≡ 0 = omega arith in rw q
   joined-stored (suc n) at h =
@@ -77,12 +77,12 @@ module _ {A : Type 0} (bytes-of : A → List ℕ) (f : List ℕ) (size : ℕ →
 -- records that are as long as they say, written out, are as long as the bytes that they were read from
 module _ {A : Type 0} (bytes-of : A → List ℕ) (end : ℕ) (size : ℕ → ℕ) (read : ℕ → A)
     (sized : (at : ℕ) → at + size at ≤ end → length (bytes-of (read at)) ≡ size at) where
-  pub joined-long : (n at : ℕ) → start size n at ≤ end → at + length (joined bytes-of (records size read n at)) ≡ start size n at
+  pub joined-long : (n at : ℕ) → start size n at ≤ end → at + length (joined bytes-of (read-records size read n at)) ≡ start size n at
   unfolding start places
   joined-long zero at h = omega arith
   joined-long (suc n) at h =
       let up : at + size at ≤ start size n (at + size at) = start-above size n (at + size at) in
-      rw (length-append (bytes-of (read at)) (joined bytes-of (records size read n (at + size at))), sized at (omega arith))
+      rw (length-append (bytes-of (read at)) (joined bytes-of (read-records size read n (at + size at))), sized at (omega arith))
       (omega (arith, joined-long n (at + size at) h))
 
 -- what stands behind the bytes p, read from there on

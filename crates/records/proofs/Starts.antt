@@ -10,7 +10,7 @@ use lib.ListN.{length, take, drop, length-map}
 use lib.Seq.{take-at, drop-at}
 use borrow.Author.Tests.{eq-eqb, ne-eqb, eqb-true, eqb-false}
 use Rattle.be.proofs.Bools.{by-cases}
-use Rattle.records.specs.Records.{start, places, records, tiled, stands}
+use Rattle.records.specs.Records.{start, places, read-records, tiled, stands}
 
 module _ (size : ℕ → ℕ) where
   -- the first record, and those behind it
@@ -87,18 +87,18 @@ module _ (size : ℕ → ℕ) where
   -- ---- the records themselves
 
   module _ {A : Type 0} (read : ℕ → A) where
-    pub length-records : (n at : ℕ) → length (records size read n at) ≡ n
+    pub length-records : (n at : ℕ) → length (read-records size read n at) ≡ n
     length-records n at = length-map (places size n at) read ∙ length-places n at
 
     module _ (j k at : ℕ) (h : j ≤ k) where
-      pub records-split : records size read k at ≡ records size read j at ++ records size read (k - j) (start size j at)
+      pub records-split : read-records size read k at ≡ read-records size read j at ++ read-records size read (k - j) (start size j at)
       records-split = ap (map read) (places-split j k at h) ∙ map-append read (places size j at) (places size (k - j) (start size j at))
 
-      pub records-take : take j (records size read k at) ≡ records size read j at
-      records-take = ap (take j) records-split ∙ take-at (records size read j at) (records size read (k - j) (start size j at)) j (length-records j at)
+      pub records-take : take j (read-records size read k at) ≡ read-records size read j at
+      records-take = ap (take j) records-split ∙ take-at (read-records size read j at) (read-records size read (k - j) (start size j at)) j (length-records j at)
 
-      pub records-drop : drop j (records size read k at) ≡ records size read (k - j) (start size j at)
-      records-drop = ap (drop j) records-split ∙ drop-at (records size read j at) (records size read (k - j) (start size j at)) j (length-records j at)
+      pub records-drop : drop j (read-records size read k at) ≡ read-records size read (k - j) (start size j at)
+      records-drop = ap (drop j) records-split ∙ drop-at (read-records size read j at) (read-records size read (k - j) (start size j at)) j (length-records j at)
 
   -- ---- TILE
 

@@ -6,7 +6,7 @@ use mathlib.Core.Bool.{Bool, true, false, _&&_}
 use mathlib.Core.Path.{_≡_, refl, sym, _∙_, ap}
 use mathlib.Core.List.{[], _∷_, _++_}
 use Rattle.be.specs.Lists.{every}
-use Rattle.records.specs.Records.{start, places, records}
+use Rattle.records.specs.Records.{start, places, read-records}
 use Rattle.records.proofs.Starts.{start-on, places-on, places-done, start-above, start-fits, start-split, start-more, places-more, start-fewer}
 
 -- ---- a loop that counts the records that are left
@@ -36,23 +36,23 @@ module _ {A : Type 0} {g : ℕ → ℕ → A} {size : ℕ → ℕ} {n from left 
 -- ---- a test of each record, one record at a time
 
 module _ {A : Type 0} (size : ℕ → ℕ) (read : ℕ → A) (p : A → Bool) where
-  pub every-fails : (n at : ℕ) → 0 < n → p (read at) ≡ false → every p (records size read n at) ≡ false
+  pub every-fails : (n at : ℕ) → 0 < n → p (read at) ≡ false → every p (read-records size read n at) ≡ false
   every-fails n at h q = rw (places-on size n at h, q)
 
-  pub every-on : (n at : ℕ) → 0 < n → p (read at) ≡ true → every p (records size read n at) ≡ every p (records size read (n - 1) (at + size at))
+  pub every-on : (n at : ℕ) → 0 < n → p (read at) ≡ true → every p (read-records size read n at) ≡ every p (read-records size read (n - 1) (at + size at))
   every-on n at h q = rw (places-on size n at h, q)
 
   -- the test so far, and that of one record more
   pub every-and : (a : Bool) (n at : ℕ) → 0 < n
-      → (a && every p (records size read n at)) ≡ ((a && p (read at)) && every p (records size read (n - 1) (at + size at)))
+      → (a && every p (read-records size read n at)) ≡ ((a && p (read at)) && every p (read-records size read (n - 1) (at + size at)))
   every-and true n at h = rw (places-on size n at h)
   every-and false n at h = refl
 
-  pub every-done : (n at : ℕ) → n ≤ 0 → every p (records size read n at) ≡ true
+  pub every-done : (n at : ℕ) → n ≤ 0 → every p (read-records size read n at) ≡ true
   every-done n at h = rw (places-done size n at h)
 
   -- a test that each record before the end passes
-  pub every-all : (end : ℕ) → ((at : ℕ) → at + size at ≤ end → p (read at) ≡ true) → (n at : ℕ) → start size n at ≤ end → every p (records size read n at) ≡ true
+  pub every-all : (end : ℕ) → ((at : ℕ) → at + size at ≤ end → p (read at) ≡ true) → (n at : ℕ) → start size n at ≤ end → every p (read-records size read n at) ≡ true
   unfolding start places
   every-all end t zero at h = refl
   every-all end t (suc n) at h = rw (t at (omega (arith, start-above size n (at + size at)))) (every-all end t n (at + size at) h)

@@ -17,8 +17,8 @@ places size zero at = []
 places size (suc n) at = at ∷ places size n (at + size at)
 
 -- these records, as they are read
-abbrev pub records : {A : Type 0} → (ℕ → ℕ) → (ℕ → A) → ℕ → ℕ → List A
-records size read n at = map read (places size n at)
+abbrev pub read-records : {A : Type 0} → (ℕ → ℕ) → (ℕ → A) → ℕ → ℕ → List A
+read-records size read n at = map read (places size n at)
 
 -- TILE: n records from a place on use exactly the bytes up to end. Lengths only add up, so none of them reaches past it
 abbrev pub tiled : (ℕ → ℕ) → ℕ → ℕ → ℕ → Bool

@@ -5,7 +5,7 @@ use mathlib.Core.Bool.{true}
 use lib.ListN.{drop, take}
 use denote.Ref.{now}
 use Rattle.dir_block_rules.specs.Block.{slots}
-use Rattle.dir_block_laws.specs.SlotPlaces.{all-below, all-from}
+use Rattle.dir_block_laws.specs.SlotIndex.{all-below, all-from}
 use Rattle.dir_block_laws.proofs.SlotSearch.{slots-room, search-start, turn-left, turn-right}
 use Rattle.dir_block_lookup.proofs.first_slot.Statement.{statement}
 use Rattle.dir_block_lookup.proofs.first_slot.Tie as tie

@@ -3,14 +3,14 @@ use borrow.Author.Needs.{needs}
 use lib.ListN.{length}
 use Prim.Native.Nat.{_-_, _≤_}
 use mathlib.Core.Path.{_≡_, refl, _∙_, ap}
-use Rattle.dir_block_test.specs.Passes.{filled}
+use Rattle.dir_block_test.specs.Passes.{cells-of}
 use Rattle.dir_block_test.proofs.SlotTable.{filled-on, filled-none, filled-end, length-filled}
-use Rattle.dir_block_test.proofs.places.Statement.{statement}
-use Rattle.dir_block_test.proofs.places.Tie as tie
+use Rattle.dir_block_test.proofs.mark_all.Statement.{statement}
+use Rattle.dir_block_test.proofs.mark_all.Tie as tie
 
 abbrev Inv-loop : tie.InvT-loop
 Inv-loop b t n pos₀ i₀ pos i =
-    (i ≤ n) × (pos ≡ filled b t pos₀ i)
+    (i ≤ n) × (pos ≡ cells-of b t pos₀ i)
 
 abbrev μ-loop : tie.MeasureT-loop
 μ-loop b t n pos₀ i₀ pos i =
@@ -24,20 +24,20 @@ cast-place : tie.Need-cast-place Inv-loop μ-loop
 cast-place c =
     omega arith
 
-place-requires : tie.Need-place-requires Inv-loop μ-loop
-place-requires c κs =
+mark-requires : tie.Need-mark-requires Inv-loop μ-loop
+mark-requires c κs =
     ap length (c .before .before .before .loop .inv .1) ∙ length-filled _ _ _ _ ∙ c .before .before .before .before .before .pre .2
 
 loop-again : tie.Need-loop-again Inv-loop μ-loop
 loop-again c =
-    (omega arith, filled-on _ _ _ _ _ _ _ _ _ (c .before .before .before .before .loop .inv .1) refl (c .before .before .slot-addr .ensures .0) refl (c .place .ensures))
+    (omega arith, filled-on _ _ _ _ _ _ _ _ _ (c .before .before .before .before .loop .inv .1) refl (c .before .before .slot-addr .ensures .0) refl (c .mark .ensures))
 
 returns : tie.Need-returns Inv-loop μ-loop
 returns c =
     filled-end _ _ _ _ _ _ (c .before .loop .inv .0) (c .loop-test .left) (c .before .loop .inv .1)
 
-pub places-spec : {M : Type 1} → statement M
-places-spec =
+pub mark-all-spec : {M : Type 1} → statement M
+mark-all-spec =
     tie.close
     (tie.spec
     Inv-loop
@@ -46,7 +46,7 @@ places-spec =
     (λ c κs. search needs)
     (λ c. search needs)
     cast-place
-    place-requires
+    mark-requires
     (λ c. search needs)
     loop-again
     returns)
