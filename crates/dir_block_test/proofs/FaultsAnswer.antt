@@ -46,14 +46,14 @@ tile-is e rs = tile-split e false rs ∙ ap (λ (t : Bool). every (whole e) rs &
 
 module _ (e : Edition) (rs : List Rec) (t : ℕ) (is : t ≡ tile-count e false 1 rs) where
   pub tiled-not : t ≡ 0 → tile-ok e rs ≡ false
-  unfolding tiled
+  unfolding tile-count
   tiled-not z =
       by-cases (tile-ok e rs)
       (λ q. absurd (let f : t ≡ 1 + length (entries rs) = is ∙ rw (tile-is e rs ∙ q) in omega arith))
       (λ q. q)
 
   pub tiled-done : (t ≡ 0 → ⊥) → (tile-ok e rs ≡ true) × (t ≡ 1 + length (entries rs))
-  unfolding tiled
+  unfolding tile-count
   tiled-done z =
       by-cases (tile-ok e rs)
       (λ q. (q, is ∙ rw (tile-is e rs ∙ q)))

@@ -20,8 +20,8 @@ loop-holds : tie.Need-loop-holds Inv-loop μ-loop
 loop-holds c =
     (omega arith, filled-none _ _ _)
 
-cast-place : tie.Need-cast-place Inv-loop μ-loop
-cast-place c =
+cast-mark : tie.Need-cast-mark Inv-loop μ-loop
+cast-mark c =
     omega arith
 
 mark-requires : tie.Need-mark-requires Inv-loop μ-loop
@@ -45,7 +45,7 @@ mark-all-spec =
     loop-holds
     (λ c κs. search needs)
     (λ c. search needs)
-    cast-place
+    cast-mark
     mark-requires
     (λ c. search needs)
     loop-again
