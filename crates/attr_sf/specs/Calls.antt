@@ -99,7 +99,7 @@ room-request f name flags value = NOROOM unless has-room f name flags value then
 unfoldable pub set-code : Edition → List ℕ → List ℕ → ℕ → List ℕ → ℕ
 set-code e b name flags value = asked-code e b name flags and-then room-request (attr-fork e b) name flags value
 
--- the fork after a change with this number and these entries
+-- the fork after a change with this number and these entries (inner: no public promise cites it)
 unfoldable pub fork-changed : List ℕ → ℕ → List Entry → List ℕ
 fork-changed f n xs = cond (eqb n 0) (fork-with f xs) f
 

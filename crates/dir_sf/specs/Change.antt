@@ -25,12 +25,13 @@ unfoldable pub target-in : Edition → List ℕ → List SfEntry → Target
 target-in e n [] = no-target
 target-in e n (x ∷ xs) = cond (same-name e n (x .name)) (x .target) (target-in e n xs)
 
--- how many entries stand before the first of the name
+-- how many entries stand before the first of the name (inner: no public promise cites it)
 unfoldable pub seek : Edition → List ℕ → List SfEntry → ℕ
 seek e n [] = 0
 seek e n (x ∷ xs) = let r = seek e n xs in cond (same-name e n (x .name)) 0 (suc r)
 
 -- what the search for a name in the used bytes finds: whether an entry bears it, how many stand before that entry, where it starts, and what it stands for
+-- (inner)
 pub record Hits (e : Edition) (n u : List ℕ) (r : Hit) : Type 0 where
   pub held-is : r .held ≡ holds e n (entries e u)
   pub index-is : r .index ≡ seek e n (entries e u)
@@ -71,12 +72,12 @@ unfoldable pub placed : SfEntry → List SfEntry → List SfEntry
 placed y [] = y ∷ []
 placed y (x ∷ xs) = let r = placed y xs in cond (ltb (y .tag) (x .tag)) (y ∷ x ∷ xs) (x ∷ r)
 
--- how many entries stand before a new one with tag t
+-- how many entries stand before a new one with tag t (inner)
 unfoldable pub rank : ℕ → List SfEntry → ℕ
 rank t [] = 0
 rank t (x ∷ xs) = let r = rank t xs in cond (ltb t (x .tag)) 0 (suc r)
 
--- the list with an entry put in, j before it
+-- the list with an entry put in, j before it (inner)
 unfoldable pub with-nth : ℕ → SfEntry → List SfEntry → List SfEntry
 with-nth j y xs = take j xs ++ (y ∷ drop j xs)
 
@@ -102,7 +103,7 @@ insert-request e told fork n t p xs =
 unfoldable pub removed : Edition → List ℕ → List SfEntry → List SfEntry
 removed e n xs = without-first (λ x. same-name e n (x .name)) xs
 
--- the list without the entry that has j before it
+-- the list without the entry that has j before it (inner)
 unfoldable pub without-nth : ℕ → List SfEntry → List SfEntry
 without-nth j xs = take j xs ++ drop (suc j) xs
 

@@ -45,7 +45,7 @@ entries-in e w u k at = read-records (size-at e w u) (entry-at e w u) k at
 unfoldable pub filled : Edition → ℕ → List ℕ → ℕ → ℕ → Bool
 filled e w u k at = tiled (size-at e w u) (length u) k at
 
--- they lie in u
+-- they lie in u (inner)
 unfoldable pub enough : Edition → ℕ → List ℕ → ℕ → ℕ → Bool
 enough e w u k at = within (size-at e w u) (length u) k at
 

@@ -44,7 +44,7 @@ lay e p xs = laid e (length xs) (wides-of p xs) p xs
 unfoldable pub lay-fork : Edition → ℕ → ℕ → List SfEntry → List ℕ
 lay-fork e n p xs = let u = lay e p xs in u ++ replicate (n - length u) 0
 
--- what is known of used bytes that pass the tests: header and entries lie in them, and i8count is right
+-- what is known of used bytes that pass the tests: header and entries lie in them, and i8count is right (inner: no public promise cites it)
 pub record Readable (e : Edition) (u : List ℕ) : Type 0 where
   pub header : 2 + used-width u ≤ length u
   pub listed : enough e (used-width u) u (count-of u) (2 + used-width u) ≡ true
@@ -66,6 +66,7 @@ tile-ok e told u =
     && in-block told (end-tag e (e .first) (entries e u)) (count-of u)
 
 -- the same of k entries of u from a place on, of all in the list, whose tags start at low: what a walk over them has still to test
+-- (inner)
 unfoldable pub tiles : Edition → ℕ → ℕ → ℕ → ℕ → List ℕ → ℕ → ℕ → Bool
 tiles e w told all low u k at =
     filled e w u k at
