@@ -12,12 +12,57 @@ use edition::V4;
 use libc::STDIN_FILENO;
 use libc::STDOUT_FILENO;
 
-fn text(s: &[u8]) {
-    io::write_all(STDOUT_FILENO, s);
+// Lines wait in a piece of this many bytes until it is full.
+const PIECE: usize = 8192;
+
+// Room for k bytes behind the first n of the piece, which is written and started anew where it has none: how many it then has.
+fn room(out: &[u8], n: usize, k: usize) -> usize
+    requires { ⌜ (n ≤ 8192) × (k ≤ 8192) × (length (now out) ≡ 8192) ⌝ }
+    ensures { λ r. ⌜ r + k ≤ 8192 ⌝ }
+{
+    if n + k <= PIECE {
+        return n;
+    }
+    io::write_all(STDOUT_FILENO, &out[..n]);
+    0
 }
 
-fn number(n: u64) {
-    io::print_decimal(STDOUT_FILENO, n);
+// Puts s behind the first n bytes of the piece: how many it then has. What is longer than a piece is written by itself.
+fn text<'a, 'b>(out: &'a mut [u8], n: usize, s: &'b [u8]) -> usize
+    requires { ⌜ (n ≤ 8192) × (length (now out) ≡ 8192) ⌝ }
+    ensures { λ r. ⌜ r ≤ 8192 ⌝ }
+{
+    let k = s.len();
+    if PIECE < k {
+        room(&out[..], n, PIECE);
+        io::write_all(STDOUT_FILENO, s);
+        return 0;
+    }
+    let at = room(&out[..], n, k);
+    be::copy_into(out, at, s);
+    at + k
+}
+
+// A label and a number.
+fn number<'a, 'b>(out: &'a mut [u8], n: usize, label: &'b [u8], v: u64) -> usize
+    requires { ⌜ (n ≤ 8192) × (length (now out) ≡ 8192) ⌝ }
+    ensures { λ r. ⌜ r ≤ 8192 ⌝ }
+{
+    let mut digits = [0u8; 20];
+    let k = io::decimal(v, &mut digits);
+    let at = text(out, n, label);
+    text(out, at, &digits[..k])
+}
+
+// A space and 8 hexadecimal digits.
+fn hash(out: &mut [u8], n: usize, v: u64) -> usize
+    requires { ⌜ (n ≤ 8192) × (length (now out) ≡ 8192) ⌝ }
+    ensures { λ r. ⌜ r ≤ 8192 ⌝ }
+{
+    let mut digits = [0u8; 16];
+    let k = io::hex(v, 8, &mut digits);
+    let at = text(out, n, b" ");
+    text(out, at, &digits[..k])
 }
 
 // A hexadecimal digit.
@@ -41,63 +86,77 @@ fn hex_of(s: &[u8], out: &mut [u8; 512]) -> usize
     2 * i
 }
 
-// A name's bytes in hexadecimal.
-fn name_bytes(s: &[u8])
-    requires { ⌜ length (now s) < 256 ⌝ }
+// A space and a name's bytes in hexadecimal.
+fn name_bytes<'a, 'b>(out: &'a mut [u8], n: usize, s: &'b [u8]) -> usize
+    requires { ⌜ (n ≤ 8192) × (length (now s) < 256) × (length (now out) ≡ 8192) ⌝ }
+    ensures { λ r. ⌜ r ≤ 8192 ⌝ }
 {
-    let mut out = [0u8; 512];
-    let n = hex_of(s, &mut out);
-    text(&out[..n]);
+    let mut digits = [0u8; 512];
+    let k = hex_of(s, &mut digits);
+    let at = text(out, n, b" ");
+    text(out, at, &digits[..k])
 }
 
 // A live entry's line: tag, inode number, hash, name.
-fn line(e: Edition, b: &[u8], tag: usize, n: Entry)
-    requires { ⌜ (n .start + n .len ≤ length (now b)) × (n .len < 256) ⌝ }
+fn line<'a, 'b>(
+    e: Edition,
+    out: &'a mut [u8],
+    n: usize,
+    b: &'b [u8],
+    tag: usize,
+    entry: Entry,
+) -> usize
+    requires { ⌜ (n ≤ 8192) × (entry .start + entry .len ≤ length (now b)) × (entry .len < 256) × (length (now out) ≡ 8192) ⌝ }
+    ensures { λ r. ⌜ r ≤ 8192 ⌝ }
 {
-    let from = n.start;
-    let end = from + n.len;
+    let from = entry.start;
+    let end = from + entry.len;
     let name = &b[from..end];
-    number(tag as u64);
-    text(b" ");
-    number(n.target.inode);
-    text(b" ");
-    io::print_hex(STDOUT_FILENO, name::hash(e, name) as u64, 8);
-    text(b" ");
-    name_bytes(name);
-    text(b"\n");
+    let n = number(out, n, b"", tag as u64);
+    let n = number(out, n, b" ", entry.target.inode);
+    let n = hash(out, n, name::hash(e, name) as u64);
+    let n = name_bytes(out, n, name);
+    text(out, n, b"\n")
 }
 
 // The first line: the block's length, its live entries and its stale slots.
-fn head(e: Edition, b: &[u8])
-    requires { ⌜ Sane e × Ready e (now b) ⌝ }
+fn head<'a, 'b>(e: Edition, out: &'a mut [u8], b: &'b [u8]) -> usize
+    requires { ⌜ Sane e × Ready e (now b) × (length (now out) ≡ 8192) ⌝ }
+    ensures { λ r. ⌜ r ≤ 8192 ⌝ }
 {
-    let n = b.len();
-    let count = be::be32(b, n - 8);
-    let stale = be::be32(b, n - 4);
-    text(b"block ");
-    number(n as u64);
-    text(b" live ");
-    number((count - stale) as u64);
-    text(b" stale ");
-    number(stale as u64);
-    text(b"\n");
+    let len = b.len();
+    let count = be::be32(b, len - 8);
+    let stale = be::be32(b, len - 4);
+    let n = number(out, 0, b"block ", len as u64);
+    let n = number(out, n, b" live ", (count - stale) as u64);
+    let n = number(out, n, b" stale ", stale as u64);
+    text(out, n, b"\n")
 }
 
 // The lines of a tested block.
 fn listing(e: Edition, b: &[u8])
     requires { ⌜ Sane e × Ready e (now b) ⌝ }
 {
-    head(e, b);
+    let mut out = [0u8; PIECE];
+    let mut n = head(e, &mut out, b);
     let end = dir_block_lookup::end_of_data(e, b);
     let mut p = e.header;
     while p < end {
         let s = dir_block_lookup::step_ready(e, b, end, p);
         let seen = s.seen;
-        if let Seen::Live(n) = seen {
-            line(e, b, p, n);
+        if let Seen::Live(entry) = seen {
+            n = line(e, &mut out, n, b, p, entry);
         }
         p = s.next;
     }
+    io::write_all(STDOUT_FILENO, &out[..n]);
+}
+
+fn refused(code: usize) {
+    let mut out = [0u8; PIECE];
+    let n = number(&mut out, 0, b"refused ", code as u64);
+    let n = text(&mut out, n, b"\n");
+    io::write_all(STDOUT_FILENO, &out[..n]);
 }
 
 fn answer(e: Edition, b: &[u8])
@@ -108,9 +167,7 @@ fn answer(e: Edition, b: &[u8])
         listing(e, b);
         return;
     }
-    text(b"refused ");
-    number(n as u64);
-    text(b"\n");
+    refused(n);
 }
 
 // One byte more than the largest block, so that what is longer is refused by its length.
