@@ -101,7 +101,7 @@ fn remove_found(e: Edition, b: &mut [u8], end: usize, slot: usize, at: usize, na
 }
 
 // The removal of a legal name other than "." and "..": 0, or 13 if it is absent.
-pub fn remove_ready(e: Edition, b: &mut [u8], name: &[u8]) -> usize
+fn remove_ready(e: Edition, b: &mut [u8], name: &[u8]) -> usize
     requires { ⌜ Sane e × Ready e (now b) ⌝ }
     requires { ⌜ (legal-name e (now name) ≡ true) × (fixed-name (now name) ≡ false) ⌝ }
     ensures { λ r. ⌜ (r ≡ remove-code e (now (b .entry)) (now (name .entry))) × (now (b .exit) ≡ remove-bytes e (now (b .entry)) (now (name .entry))) ⌝ }
@@ -357,7 +357,7 @@ fn choose(
 }
 
 // The insert of a legal name other than "." and "..", with a legal number and type: 0, or 14 if it is there, or 15 if there is no room.
-pub fn insert_ready(e: Edition, b: &mut [u8], to: Target, name: &[u8]) -> usize
+fn insert_ready(e: Edition, b: &mut [u8], to: Target, name: &[u8]) -> usize
     requires { ⌜ Sane e × Ready e (now b) ⌝ }
     requires { ⌜ (legal-name e (now name) ≡ true) × ((legal-target e to ≡ true) × ((fixed-name (now name) ≡ false) × (bytes (now name) ≡ true))) ⌝ }
     ensures { λ r. ⌜ (r ≡ insert-code e (now (b .entry)) (now (name .entry)) to) × (now (b .exit) ≡ insert-bytes e (now (b .entry)) (now (name .entry)) to) ⌝ }
@@ -397,7 +397,7 @@ fn request(e: Edition, name: &[u8], number: bool) -> usize
 }
 
 // Insert in a block of an edition: 0, or the number of the refusal. The block is tested first, then the request is judged.
-pub fn insert_in(e: Edition, b: &mut [u8], name: &[u8], to: Target) -> usize
+fn insert_in(e: Edition, b: &mut [u8], name: &[u8], to: Target) -> usize
     requires { ⌜ Sane e ⌝ }
     ensures { λ r. ⌜ (r ≡ insert-code e (now (b .entry)) (now (name .entry)) to) × (now (b .exit) ≡ insert-bytes e (now (b .entry)) (now (name .entry)) to) ⌝ }
 {
@@ -414,7 +414,7 @@ pub fn insert_in(e: Edition, b: &mut [u8], name: &[u8], to: Target) -> usize
 }
 
 // Removal in a block of an edition.
-pub fn remove_in(e: Edition, b: &mut [u8], name: &[u8]) -> usize
+fn remove_in(e: Edition, b: &mut [u8], name: &[u8]) -> usize
     requires { ⌜ Sane e ⌝ }
     ensures { λ r. ⌜ (r ≡ remove-code e (now (b .entry)) (now (name .entry))) × (now (b .exit) ≡ remove-bytes e (now (b .entry)) (now (name .entry))) ⌝ }
 {

@@ -20,7 +20,7 @@ choose-ab-requires c κs =
     let c₆ = c₅ .before in
     let c₉ = c₆ .before .before .before in
     let p = c₉ .before in
-    (p .pre .0, ((p .pre .1 .0 .0, (p .pre .1 .0 .1 .0, (p .pre .1 .0 .1 .1, c .before .if1 .taken))), (c₂ .spot .ensures, (c₆ .pass .ensures, (c₄ .hash .ensures .0, (c₅ .entry-size .ensures .0, p .pre .1 .1))))))
+    (p .pre .0, ((p .pre .1 .0 .0, (p .pre .1 .0 .1 .0, (p .pre .1 .0 .1 .1, omega (arith, c .before .if1 .taken)))), (c₂ .spot .ensures, (c₆ .pass .ensures, (c₄ .hash .ensures .0, (c₅ .entry-size .ensures .0, p .pre .1 .1))))))
 
 choose-cd-requires : tie.Need-choose-cd-requires
 choose-cd-requires c κs =
