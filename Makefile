@@ -5,16 +5,33 @@
 #   make check              the Rust tests alone, against the library; ROUNDS=10 for a longer run
 #   make bench              time the library, the yardstick and the model
 .PHONY: run lib test check bench
+SHELL := /bin/bash
+.SHELLFLAGS := -o pipefail -c
 
 BLOCK ?= crates/list/stdin
 ROUNDS ?= 1
+LIST := target/bin/list
+LIBRARY := target/staticlib/libpelunziwa.a
+SOURCES := crates.txt $(shell find crates -name '*.rt' -o -name '*.antt')
 
-run:
-	@rt check list
-	@target/bin/list < $(BLOCK)
+# The toolchain, with a line for each crate; what the prover says goes to a log, whose end is shown where something fails.
+define proved
+@mkdir -p target
+@rt $(1) 2>&1 | tee target/$(2).log | grep --line-buffered '^rt: ' || { tail -n 20 target/$(2).log; exit 1; }
+endef
 
-lib:
-	@rt staticlib pelunziwa
+run: $(LIST)
+	@$(LIST) < $(BLOCK)
+
+$(LIST): $(SOURCES)
+	$(call proved,check list,run)
+	@touch $@
+
+lib: $(LIBRARY)
+
+$(LIBRARY): $(SOURCES)
+	$(call proved,staticlib pelunziwa,lib)
+	@touch $@
 
 test:
 	@tests/gate

@@ -39,6 +39,37 @@
 extern "C" {
 #endif
 
+/* The refusals by name: the first test that fails. */
+enum {
+    PZW_SIZE = 1, PZW_MAGIC, PZW_KIND, PZW_SPAN, PZW_TILE, PZW_NAME, PZW_NUMBER, PZW_INDEX, PZW_BEST, PZW_TWICE,
+    PZW_ASKED, PZW_FIXED, PZW_ABSENT, PZW_EXISTS, PZW_NOROOM, PZW_NARROW
+};
+
+/* What is wrong, in a sentence. */
+static inline const char *pzw_sentence(uint32_t refusal)
+{
+    switch (refusal) {
+    case 0: return "done";
+    case PZW_SIZE: return "the length of an inode or a block, or the block length told, is not one allowed";
+    case PZW_MAGIC: return "the magic is not that of an inode or a directory block";
+    case PZW_KIND: return "the inode is not of the wanted version, type or format";
+    case PZW_SPAN: return "a stored total does not fit";
+    case PZW_TILE: return "the records do not fill their span";
+    case PZW_NAME: return "a stored name breaks the rules";
+    case PZW_NUMBER: return "a stored inode number is out of range, or an attribute's flags are wrong";
+    case PZW_INDEX: return "stored counts or the index disagree with the entries";
+    case PZW_BEST: return "the best-gap table is wrong";
+    case PZW_TWICE: return "a name is stored twice";
+    case PZW_ASKED: return "the name, number, flags or walk place asked for is not legal";
+    case PZW_FIXED: return "'.' and '..' are never inserted or removed, and a short form does not look '.' up";
+    case PZW_ABSENT: return "there is no such live entry";
+    case PZW_EXISTS: return "the name is there already";
+    case PZW_NOROOM: return "there is no room for the entry";
+    case PZW_NARROW: return "the last wide entry may not leave a short form under a wide parent";
+    default: return "no such refusal";
+    }
+}
+
 /* `seen` of a step. */
 enum { PZW_END = 0, PZW_GAP = 1, PZW_LIVE = 2 };
 

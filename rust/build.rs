@@ -7,7 +7,10 @@ fn main() {
     println!("cargo:rerun-if-changed=build.rs");
     println!("cargo:rerun-if-env-changed=PELUNZIWA_LIB_DIR");
     let dir = lib_dir();
-    println!("cargo:rerun-if-changed={}", dir.join("libpelunziwa.a").display());
+    println!(
+        "cargo:rerun-if-changed={}",
+        dir.join("libpelunziwa.a").display()
+    );
     println!("cargo:rustc-link-search=native={}", dir.display());
     println!("cargo:rustc-link-lib=static=pelunziwa");
 }

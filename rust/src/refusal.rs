@@ -41,29 +41,62 @@ pub enum Refusal {
 }
 
 impl Refusal {
-    const ALL: [(Refusal, &'static str); 16] = [
-        (Refusal::Size, "SIZE"),
-        (Refusal::Magic, "MAGIC"),
-        (Refusal::Kind, "KIND"),
-        (Refusal::Span, "SPAN"),
-        (Refusal::Tile, "TILE"),
-        (Refusal::Name, "NAME"),
-        (Refusal::Number, "NUMBER"),
-        (Refusal::Index, "INDEX"),
-        (Refusal::Best, "BEST"),
-        (Refusal::Twice, "TWICE"),
-        (Refusal::Asked, "ASKED"),
-        (Refusal::Fixed, "FIXED"),
-        (Refusal::Absent, "ABSENT"),
-        (Refusal::Exists, "EXISTS"),
-        (Refusal::NoRoom, "NOROOM"),
-        (Refusal::Narrow, "NARROW"),
+    /// By number: the paper's name, and a sentence. include/pelunziwa.h has the same words for C.
+    const ALL: [(Refusal, &'static str, &'static str); 16] = [
+        (
+            Refusal::Size,
+            "SIZE",
+            "the length of an inode or a block, or the block length told, is not one allowed",
+        ),
+        (
+            Refusal::Magic,
+            "MAGIC",
+            "the magic is not that of an inode or a directory block",
+        ),
+        (
+            Refusal::Kind,
+            "KIND",
+            "the inode is not of the wanted version, type or format",
+        ),
+        (Refusal::Span, "SPAN", "a stored total does not fit"),
+        (Refusal::Tile, "TILE", "the records do not fill their span"),
+        (Refusal::Name, "NAME", "a stored name breaks the rules"),
+        (
+            Refusal::Number,
+            "NUMBER",
+            "a stored inode number is out of range, or an attribute's flags are wrong",
+        ),
+        (
+            Refusal::Index,
+            "INDEX",
+            "stored counts or the index disagree with the entries",
+        ),
+        (Refusal::Best, "BEST", "the best-gap table is wrong"),
+        (Refusal::Twice, "TWICE", "a name is stored twice"),
+        (
+            Refusal::Asked,
+            "ASKED",
+            "the name, number, flags or walk place asked for is not legal",
+        ),
+        (
+            Refusal::Fixed,
+            "FIXED",
+            "'.' and '..' are never inserted or removed, and a short form does not look '.' up",
+        ),
+        (Refusal::Absent, "ABSENT", "there is no such live entry"),
+        (Refusal::Exists, "EXISTS", "the name is there already"),
+        (Refusal::NoRoom, "NOROOM", "there is no room for the entry"),
+        (
+            Refusal::Narrow,
+            "NARROW",
+            "the last wide entry may not leave a short form under a wide parent",
+        ),
     ];
 
     /// The refusal with this number, 1 to 16.
     pub fn from_number(number: u32) -> Option<Refusal> {
         let place = usize::try_from(number).ok()?.checked_sub(1)?;
-        Refusal::ALL.get(place).map(|(refusal, _)| *refusal)
+        Refusal::ALL.get(place).map(|row| row.0)
     }
 
     /// The paper's number.
@@ -74,6 +107,11 @@ impl Refusal {
     /// The paper's name.
     pub fn name(self) -> &'static str {
         Refusal::ALL[self as usize - 1].1
+    }
+
+    /// What is wrong, in a sentence.
+    pub fn sentence(self) -> &'static str {
+        Refusal::ALL[self as usize - 1].2
     }
 
     /// The library's number, 0 for done, as a result.
@@ -87,7 +125,8 @@ impl Refusal {
 
 impl fmt::Display for Refusal {
     fn fmt(&self, out: &mut fmt::Formatter<'_>) -> fmt::Result {
-        write!(out, "refused {} ({})", self.number(), self.name())
+        let (number, name) = (self.number(), self.name());
+        write!(out, "refused {number} ({name}): {}", self.sentence())
     }
 }
 

@@ -17,13 +17,18 @@ fn code<T>(result: &Result<T, Refusal>) -> u32 {
 fn refusals() {
     assert_eq!(Refusal::from_number(0), None);
     assert_eq!(Refusal::from_number(17), None);
+    let header = include_str!("../../include/pelunziwa.h");
     for number in 1..=16 {
         let refusal = Refusal::from_number(number).expect("1 to 16");
         assert_eq!(refusal.number(), number);
-        assert!(refusal.to_string().contains(refusal.name()));
+        let (name, sentence) = (refusal.name(), refusal.sentence());
+        let said = format!("refused {number} ({name}): {sentence}");
+        assert_eq!(refusal.to_string(), said);
+        let in_c = format!("case PZW_{name}: return \"{sentence}\";");
+        assert!(header.contains(&in_c), "the header says otherwise: {said}");
+        let in_table = format!("{number:5} {name} ");
+        assert!(header.contains(&in_table), "not in its table: {said}");
     }
-    assert_eq!(Refusal::Size.to_string(), "refused 1 (SIZE)");
-    assert_eq!(Refusal::Narrow.to_string(), "refused 16 (NARROW)");
 }
 
 #[test]

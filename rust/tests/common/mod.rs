@@ -6,6 +6,7 @@
 pub mod build;
 pub mod calls;
 pub mod damage;
+pub mod frame;
 pub mod images;
 pub mod names;
 
