@@ -21,7 +21,8 @@ use Rattle.dir_block_rules.specs.Change.{insert-slot, in-front}
 use Rattle.be.proofs.Bools.{by-cases}
 use Rattle.dir_block_rules.proofs.CutJoin.{join, Laid, join-append, laid-back}
 use Rattle.dir_block_rules.proofs.BlockParts.{build, build-end, Fit, SlotsFit, tail-bytes, refit, rebuild}
-use Rattle.dir_block_rules.proofs.Acceptance.{Passed, passed, tile-whole, tile-apart}
+use Rattle.dir_block_rules.proofs.Acceptance.{Passed, passed}
+use Rattle.dir_block_rules.proofs.WholeRecords.{tile-whole, tile-apart}
 use Rattle.dir_block_rules.proofs.SlotCounts.{Apart}
 use Rattle.dir_block_rules.proofs.IndexedEntries.{indexed, addr-of}
 use Rattle.be.proofs.Splits.{Split}
@@ -84,7 +85,7 @@ module _ (e : Edition) (sane : Sane e) (b : List ℕ) (h : bytes b ≡ true) (a 
   tests = passed e b a
 
   wholes : every (whole e) (records e b) ≡ true
-  wholes = tile-whole e (records e b) (tests .tile)
+  wholes = tile-whole e b (tests .tile)
 
   pub fit-of : Fit e (take (e .header) b) (records e b) (slots b) (stale-of b)
   fit-of = refit e b h (tests .span) wholes
@@ -95,7 +96,7 @@ module _ (e : Edition) (sane : Sane e) (b : List ℕ) (h : bytes b ≡ true) (a 
   pub good-of : Good e (records e b) (slots b) (stale-of b)
   good-of =
       record {
-        gaps-apart = tile-apart e (records e b) (tests .tile);
+        gaps-apart = tile-apart e b (tests .tile);
         names = tests .names;
         numbers = tests .numbers;
         index = indexed e (records e b) (slots b) (stale-of b) (tests .index);

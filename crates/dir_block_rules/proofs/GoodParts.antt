@@ -26,7 +26,8 @@ use Rattle.be.proofs.Numbers.{length-to-be}
 use Rattle.be.proofs.Writes.{put-inside, length-put, part-before, part-inside}
 use Rattle.dir_block_rules.proofs.CutJoin.{join, Laid, →whole}
 use Rattle.dir_block_rules.proofs.BlockParts.{build, Fit, tail-bytes, build-records, build-slots, build-stale, build-count, length-build}
-use Rattle.dir_block_rules.proofs.Acceptance.{accepted, tile-both}
+use Rattle.dir_block_rules.proofs.Acceptance.{accepted}
+use Rattle.dir_block_rules.proofs.WholeRecords.{tile-both}
 use Rattle.dir_block_rules.proofs.BestTable.{best-of-right, PairsFit, pairs-in-bytes}
 use Rattle.dir_block_rules.proofs.IndexedEntries.{Indexed, →indexed}
 use Rattle.dir_block_rules.proofs.Sealing.{Seals, seals}
@@ -142,7 +143,7 @@ module _ (e : Edition) (sane : Sane e) (hd : List ℕ) (rs : List Rec) (ss : Lis
         size = sz;
         magic = good-magic;
         span = good-span;
-        tile = rw (build-records e hd rs ss st f) (tile-both e rs (laid-every e (e .header) rs (f .laid)) (g .gaps-apart));
+        tile = tile-both e (build hd rs ss st) (rw (build-records e hd rs ss st f) (laid-every e (e .header) rs (f .laid))) (rw (build-records e hd rs ss st f) (g .gaps-apart));
         names = rw (build-records e hd rs ss st f) (g .names);
         numbers = rw (build-records e hd rs ss st f) (g .numbers);
         index = rw (build-records e hd rs ss st f, build-slots e hd rs ss st f, build-stale e hd rs ss st f) (→indexed e rs ss st (g .index));

@@ -1,6 +1,7 @@
 pub mod OneMore
 pub mod GapsApart
 pub mod CutJoin
+pub mod WholeRecords
 pub mod SlotOrder
 pub mod SlotCounts
 pub mod IndexedEntries

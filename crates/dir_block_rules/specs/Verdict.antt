@@ -1,6 +1,6 @@
 -- The tests of a block, in number order; the first that fails is the answer, 0 if none does.
 -- Assumes nothing.
-use Prim.Native.Nat.{ℕ, zero, suc, _+_, _*_, _/_}
+use Prim.Native.Nat.{ℕ, zero, suc, _+_, _-_, _*_, _/_}
 use mathlib.Core.Bool.{Bool, true, not, cond, _&&_, Bool·beq}
 use mathlib.Core.Path.{_≡_}
 use mathlib.Core.List.{List, [], _∷_}
@@ -8,13 +8,13 @@ use lib.Dec.{eqb, leb}
 use lib.ListN.{length, drop}
 use Rattle.refusal.specs.Refusal.{SIZE, MAGIC, SPAN, TILE, NAME, NUMBER, INDEX, BEST, TWICE}
 use Rattle.be.specs.Codes.{_unless_then_}
-use Rattle.be.specs.Lists.{every, some-of, tally, same}
+use Rattle.be.specs.Lists.{every, some-of, tally, total, same}
 use Rattle.be.specs.Bytes.{field}
 use Rattle.edition.specs.declared.Edition.{Edition}
 use Rattle.edition.specs.Edition.{block-size}
 use Rattle.name.specs.Name.{legal-name, legal-number, hash-of, same-name, dot, dotdot}
-use Rattle.dir_block_rules.specs.Record.{Rec, besides, whole, apart, entries, gaps, size, name, number}
-use Rattle.dir_block_rules.specs.Block.{records, slots, Slot, is-stale, is-live, count-of, stale-of}
+use Rattle.dir_block_rules.specs.Record.{Rec, says, besides, record-ok, apart, entries, gaps, size, name, number}
+use Rattle.dir_block_rules.specs.Block.{records, slots, Slot, is-stale, is-live, count-of, stale-of, data-end}
 
 -- 1 SIZE: a block's length is one allowed
 unfoldable pub size-ok : List ℕ → Bool
@@ -28,9 +28,13 @@ magic-ok e b = eqb (field 0 4 b) (e .magic)
 unfoldable pub span-ok : Edition → List ℕ → Bool
 span-ok e b = leb (e .header + 8 * count-of b + 8) (length b) && leb (stale-of b) (count-of b)
 
--- 5 TILE: records fill the data exactly (each is whole, the last too), and no two gaps touch
-unfoldable pub tile-ok : Edition → List Rec → Bool
-tile-ok e rs = every (whole e) rs && apart rs
+-- 5 TILE: records fill the data exactly: the lengths that they say add up to the data's
+unfoldable pub fills : Edition → List ℕ → Bool
+fills e b = eqb (total (λ r. says e (r .raw)) (records e b)) (data-end b - e .header)
+
+-- 5 TILE: they fill it, lengths and tags are right, and no two gaps touch
+unfoldable pub tile-ok : Edition → List ℕ → Bool
+tile-ok e b = fills e b && every record-ok (records e b) && apart (records e b)
 
 -- 6 NAME: the names are legal; "." sits at 16 (the header's end) and ".." at 32 (16 further), nowhere else
 abbrev pub entry-stands : ℕ → List Rec → Bool
@@ -121,7 +125,7 @@ verdict e b =
     SIZE unless size-ok b then
     MAGIC unless magic-ok e b then
     SPAN unless span-ok e b then
-    TILE unless tile-ok e (records e b) then
+    TILE unless tile-ok e b then
     NAME unless names-ok e (records e b) then
     NUMBER unless numbers-ok e (records e b) then
     INDEX unless index-ok e (records e b) (slots b) (stale-of b) then

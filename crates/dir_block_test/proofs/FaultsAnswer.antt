@@ -12,7 +12,7 @@ use Rattle.be.specs.Lists.{every, keep}
 use Rattle.edition.specs.declared.Edition.{Edition}
 use Rattle.name.specs.Name.{hash-of}
 use Rattle.dir_block_rules.specs.Record.{Rec, whole, apart, is-gap, entries, name}
-use Rattle.dir_block_rules.specs.Verdict.{tile-ok, name-ok, number-ok}
+use Rattle.dir_block_rules.specs.Verdict.{name-ok, number-ok}
 use Rattle.be.proofs.Bools.{by-cases}
 use Rattle.dir_block_test.specs.Passes.{no-fault, tile-from, tile-count, fault, worst}
 
@@ -40,24 +40,23 @@ tile-split e g (r ∷ rs) =
     ap (λ (t : Bool). (whole e r && not (g && is-gap r)) && t) (tile-split e (is-gap r) rs)
     ∙ four (whole e r) (not (g && is-gap r)) (every (whole e) rs) (apart-from (is-gap r) rs)
 
-pub tile-is : (e : Edition) (rs : List Rec) → tile-from e false rs ≡ tile-ok e rs
-unfolding tile-ok
+pub tile-is : (e : Edition) (rs : List Rec) → tile-from e false rs ≡ (every (whole e) rs && apart rs)
 tile-is e rs = tile-split e false rs ∙ ap (λ (t : Bool). every (whole e) rs && t) (sym (apart-is rs))
 
 module _ (e : Edition) (rs : List Rec) (t : ℕ) (is : t ≡ tile-count e false 1 rs) where
-  pub tiled-not : t ≡ 0 → tile-ok e rs ≡ false
+  pub tiled-not : t ≡ 0 → tile-from e false rs ≡ false
   unfolding tile-count
   tiled-not z =
-      by-cases (tile-ok e rs)
-      (λ q. absurd (let f : t ≡ 1 + length (entries rs) = is ∙ rw (tile-is e rs ∙ q) in omega arith))
+      by-cases (tile-from e false rs)
+      (λ q. absurd (let f : t ≡ 1 + length (entries rs) = is ∙ rw q in omega arith))
       (λ q. q)
 
-  pub tiled-done : (t ≡ 0 → ⊥) → (tile-ok e rs ≡ true) × (t ≡ 1 + length (entries rs))
+  pub tiled-done : (t ≡ 0 → ⊥) → (tile-from e false rs ≡ true) × (t ≡ 1 + length (entries rs))
   unfolding tile-count
   tiled-done z =
-      by-cases (tile-ok e rs)
-      (λ q. (q, is ∙ rw (tile-is e rs ∙ q)))
-      (λ q. absurd (z (is ∙ rw (tile-is e rs ∙ q))))
+      by-cases (tile-from e false rs)
+      (λ q. (q, is ∙ rw q))
+      (λ q. absurd (z (is ∙ rw q)))
 
 -- names, numbers, slots
 min-leb : (m a b : ℕ) → leb m (min a b) ≡ (leb m a && leb m b)

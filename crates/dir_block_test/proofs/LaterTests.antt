@@ -16,9 +16,9 @@ use Rattle.be.specs.Bytes.{part, field}
 use Rattle.edition.specs.declared.Edition.{Edition}
 use Rattle.edition.specs.Edition.{Sane, entry-size, largest-block, record-starts}
 use Rattle.name.specs.Name.{dot, legal-name}
-use Rattle.dir_block_rules.specs.Record.{Rec, rec, whole, is-gap, is-entry, entries, gaps, name}
+use Rattle.dir_block_rules.specs.Record.{Rec, rec, whole, apart, is-gap, is-entry, entries, gaps, name}
 use Rattle.dir_block_rules.specs.Block.{Slot, is-live, is-stale}
-use Rattle.dir_block_rules.specs.Verdict.{tile-ok, entry-stands, name-ok, names-ok, numbers-ok, number-ok, own-in, index-ok, rising, best-ok, best-pairs, pairs-in, pair, Pair, zero-pair, once-ok}
+use Rattle.dir_block_rules.specs.Verdict.{entry-stands, name-ok, names-ok, numbers-ok, number-ok, own-in, index-ok, rising, best-ok, best-pairs, pairs-in, pair, Pair, zero-pair, once-ok}
 use Rattle.be.proofs.Bools.{by-cases, and-left, and-right, every-head, every-tail, every-cons}
 use Rattle.dir_block_rules.proofs.CutJoin.{Laid, join, join-cut}
 use Rattle.dir_block_rules.proofs.SlotCounts.{Apart}
@@ -35,7 +35,7 @@ use Rattle.dir_block_test.proofs.WholeRecord.{says-entry}
 use Rattle.dir_block_test.proofs.EntryWalk.{entry-fits, name-here, number-here}
 use Rattle.dir_block_test.proofs.SlotWalk.{slot-at}
 use Rattle.dir_block_test.proofs.SlotTable.{slots-split, table-law, hinted}
-use Rattle.dir_block_test.proofs.FaultsAnswer.{worst-7, worst-8, worst-9}
+use Rattle.dir_block_test.proofs.FaultsAnswer.{tile-is, worst-7, worst-8, worst-9}
 use Rattle.dir_block_test.proofs.OneSlotEach.{in-order-is}
 use Rattle.dir_block_test.proofs.BestNamed.{at-most, best-law}
 use Rattle.dir_block_test.proofs.TwinSlots.{twice-law, once-free}
@@ -69,8 +69,7 @@ module _ (e : Edition) (sane : Sane e) (b : List ℕ) (t n : ℕ) where
     enough = omega (arith, hi)
 
     pub wholes : every (whole e) RS ≡ true
-    unfolding tile-ok
-    wholes = and-left (every (whole e) RS) _ (T .tiles)
+    wholes = and-left (every (whole e) RS) (apart RS) (sym (tile-is e RS) ∙ T .tiles)
 
     laid : Laid e (e .header) RS
     laid = laid-rest e b t hi (T .parts .eights) (length b) (e .header) wholes
