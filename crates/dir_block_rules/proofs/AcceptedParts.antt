@@ -93,13 +93,16 @@ module _ (e : Edition) (sane : Sane e) (b : List ℕ) (h : bytes b ≡ true) (a 
   pub build-of : build (take (e .header) b) (records e b) (slots b) (stale-of b) ≡ b
   build-of = rebuild e b h (tests .span) wholes
 
+  pub apart-of : Apart (map addr-of (entries (records e b)))
+  apart-of = apart-keep e is-entry (e .header) (records e b) (omega (arith, sane .magic-before, sane .best-inside)) (fit-of .laid)
+
   pub good-of : Good e (records e b) (slots b) (stale-of b)
   good-of =
       record {
         gaps-apart = tile-apart e b (tests .tile);
         names = tests .names;
         numbers = tests .numbers;
-        index = indexed e (records e b) (slots b) (stale-of b) (tests .index);
+        index = indexed e (records e b) (slots b) (stale-of b) apart-of (tests .index);
         once = tests .once;
       }
 
@@ -110,9 +113,6 @@ module _ (e : Edition) (sane : Sane e) (b : List ℕ) (h : bytes b ≡ true) (a 
   pub magic-of : eqb (field 0 4 (take (e .header) b)) (e .magic) ≡ true
   unfolding magic-ok
   magic-of = ap (λ (l : List ℕ). eqb (be l) (e .magic)) (take-take 4 (e .header) b (omega (arith, sane .best-inside))) ∙ tests .magic
-
-  pub apart-of : Apart (map addr-of (entries (records e b)))
-  apart-of = apart-keep e is-entry (e .header) (records e b) (omega (arith, sane .magic-before, sane .best-inside)) (fit-of .laid)
 
   -- the bytes of the index
   unfoldable pub index-bytes : List ℕ

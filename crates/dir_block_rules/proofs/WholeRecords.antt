@@ -4,7 +4,7 @@ use Prim.Native.Nat.{ℕ, zero, suc, _+_, _-_, _≤_, _<_}
 use native.Mathlib.Nat.{not-suc-le-zero}
 use native.Mathlib.Omega.{arith}
 use mathlib.Core.Bool.{Bool, true, false, _&&_}
-use mathlib.Core.Path.{_≡_, refl, sym, _∙_, ap}
+use mathlib.Core.Path.{_≡_, refl, sym, _∙_, ap, ap₂}
 use mathlib.Core.List.{List, [], _∷_}
 use lib.Dec.{eqb, leb}
 use lib.ListN.{length, take, drop, getD, length-take, length-drop}
@@ -39,11 +39,11 @@ says-alone e d l h =
 abbrev said : Edition → List Rec → ℕ
 said e rs = total (λ r. says e (r .raw)) rs
 
-eqb-add : (n a b c : ℕ) → c ≡ n + b → eqb (n + a) c ≡ eqb a b
-eqb-add n a b c h =
+pub eqb-add : (n a b : ℕ) → eqb (n + a) (n + b) ≡ eqb a b
+eqb-add n a b =
     by-cases (eqb a b)
-    (λ q. let z : a ≡ b = eqb-true a b q in eq-eqb (n + a) c (omega arith) ∙ sym q)
-    (λ q. ne-eqb (n + a) c (λ (z : n + a ≡ c). clash (eq-eqb a b (omega arith)) q) ∙ sym q)
+    (λ q. let z : a ≡ b = eqb-true a b q in eq-eqb (n + a) (n + b) (omega arith) ∙ sym q)
+    (λ q. ne-eqb (n + a) (n + b) (λ (z : n + a ≡ n + b). clash (eq-eqb a b (omega arith)) q) ∙ sym q)
 
 right-least : (r : Rec) → record-ok r ≡ true → 8 ≤ size r
 unfolding record-ok
@@ -72,7 +72,7 @@ filled e (suc k) o (x ∷ xs) l h =
     let ih : eqb (said e rs) (length (drop n d)) ≡ every (whole e) rs =
     filled e k (o + n) (drop n d) (omega arith) (every-tail record-ok r rs h) in
     let w : eqb (length (take n d)) (says e (take n d)) ≡ true = eq-eqb (length (take n d)) (says e (take n d)) (long ∙ sym alone) in
-    ap (λ (m : ℕ). eqb (m + said e rs) (length d)) alone ∙ eqb-add n (said e rs) (length (drop n d)) (length d) rest ∙ ih ∙ sym (rw (w, ok)))
+    ap₂ (λ (m l : ℕ). eqb (m + said e rs) l) alone rest ∙ eqb-add n (said e rs) (length (drop n d)) ∙ ih ∙ sym (rw (w, ok)))
     (λ q.
     let over : length d < n = leb-false n (length d) q in
     let all : take n d ≡ d = take-all n d (omega arith) in

@@ -1,7 +1,7 @@
 -- The tests of a block, in number order; the first that fails is the answer, 0 if none does.
 -- Assumes nothing.
 use Prim.Native.Nat.{ℕ, zero, suc, _+_, _-_, _*_, _/_}
-use mathlib.Core.Bool.{Bool, true, not, cond, _&&_, Bool·beq}
+use mathlib.Core.Bool.{Bool, true, not, cond, _&&_, _||_, Bool·beq}
 use mathlib.Core.Path.{_≡_}
 use mathlib.Core.List.{List, [], _∷_}
 use lib.Dec.{eqb, leb}
@@ -14,7 +14,7 @@ use Rattle.edition.specs.declared.Edition.{Edition}
 use Rattle.edition.specs.Edition.{block-size}
 use Rattle.name.specs.Name.{legal-name, legal-number, hash-of, same-name, dot, dotdot}
 use Rattle.dir_block_rules.specs.Record.{Rec, says, besides, record-ok, apart, entries, gaps, size, name, number}
-use Rattle.dir_block_rules.specs.Block.{records, slots, Slot, is-stale, is-live, count-of, stale-of, data-end}
+use Rattle.dir_block_rules.specs.Block.{records, slots, Slot, is-stale, count-of, stale-of, data-end}
 
 -- 1 SIZE: a block's length is one allowed
 unfoldable pub size-ok : List ℕ → Bool
@@ -71,17 +71,21 @@ rising [] = true
 rising (s ∷ []) = true
 rising (s ∷ t ∷ ts) = leb (s .hash) (t .hash) && rising (t ∷ ts)
 
--- 8 INDEX: a live entry has exactly one slot, with its hash and its offset / 8
+-- 8 INDEX: each live entry has exactly one slot, with its hash and its offset / 8
 abbrev pub has-slot : Edition → List Slot → Rec → Bool
 has-slot e ss r =
     eqb (tally (λ s. eqb (s .addr) (r .off / 8)) ss) 1
     && eqb (tally (λ s. eqb (s .addr) (r .off / 8) && eqb (s .hash) (hash-of e (name r))) ss) 1
 
--- 8 INDEX: stale slots number the tail's stale; no other slots than the entries' own
+-- 8 INDEX: no other slots: each is stale, or some live entry's
+abbrev pub stale-or-owned : List Rec → Slot → Bool
+stale-or-owned es s = is-stale s || some-of (λ r. eqb (s .addr) (r .off / 8)) es
+
+-- 8 INDEX: and stale slots number the tail's stale
 unfoldable pub index-ok : Edition → List Rec → List Slot → ℕ → Bool
 index-ok e rs ss n =
     rising ss && eqb (tally is-stale ss) n
-    && eqb (tally is-live ss) (length (entries rs)) && every (has-slot e ss) (entries rs)
+    && every (has-slot e ss) (entries rs) && every (stale-or-owned (entries rs)) ss
 
 -- a pair of the best-gap table: offset, length (2 bytes each)
 pub record Pair : Type 0 where

@@ -22,7 +22,7 @@ use Rattle.dir_block_rules.specs.Verdict.{entry-stands, name-ok, names-ok, numb
 use Rattle.be.proofs.Bools.{by-cases, and-left, and-right, every-head, every-tail, every-cons}
 use Rattle.dir_block_rules.proofs.CutJoin.{Laid, join, join-cut}
 use Rattle.dir_block_rules.proofs.SlotCounts.{Apart}
-use Rattle.dir_block_rules.proofs.IndexedEntries.{addr-of, Indexed, indexed}
+use Rattle.dir_block_rules.proofs.IndexedEntries.{addr-of, Indexed, indexed, index-counts}
 use Rattle.be.proofs.Splits.{Split, every-at}
 use Rattle.dir_block_rules.proofs.RecordPlaces.{apart-keep, laid-eights}
 use Rattle.dir_block_rules.proofs.SearchFinds.{Reads, Owner, owner}
@@ -91,7 +91,7 @@ module _ (e : Edition) (sane : Sane e) (b : List ℕ) (t n : ℕ) where
     -- TWICE
     module _ (m : ℕ) (x : index-ok e RS SS m ≡ true) where
       ix : Indexed e (entries RS) SS m
-      ix = indexed e RS SS m x
+      ix = indexed e RS SS m addrs x
 
       pub once-is : once-ok e (entries RS) ≡ once-in e b SS
       once-is = twice-law e b (entries RS) SS m ix addrs reads ∙ sym (once-free e b 0 SS (ix .order))
@@ -251,9 +251,9 @@ module _ (e : Edition) (sane : Sane e) (b : List ℕ) (t n : ℕ) where
               (go es (every-tail (placed e b t hi (T .parts .eights)) r es h))
 
       pub index-is : index-ok e RS SS m ≡ (fit && every (hinted b t n M e) (entries RS))
-      unfolding index-ok
       index-is =
-          rw (fs, in-order-is m SS, lv)
+          index-counts e RS SS m addrs
+          ∙ rw (fs, in-order-is m SS, lv)
           (by-cases (rising SS && eqb (tally is-stale SS) m)
           (λ q. let st : tally is-stale SS ≡ m = eqb-true (tally is-stale SS) m (and-right (rising SS) _ q) in
           let lvs : tally is-live SS ≡ n - m = omega (arith, count-is) in
