@@ -18,8 +18,7 @@ use Rattle.edition.specs.declared.Edition.{Edition}
 use Rattle.dir_block_rules.specs.Record.{Rec, size, whole, apart, entries, gaps, is-gap, is-entry, besides}
 use Rattle.dir_block_rules.specs.Block.{Slot, slot-bytes, is-stale}
 use Rattle.dir_block_rules.specs.Verdict.{Accepted, Pair, size-ok, magic-ok, span-ok, names-ok, numbers-ok, best-pairs, pairs-in, once-ok}
-use Rattle.dir_block_rules.specs.Room.{longest}
-use Rattle.dir_block_rules.specs.Change.{best-of, best-table, pair-bytes, with-best, sealed}
+use Rattle.dir_block_rules.specs.Change.{longest, best-of, best-table, pair-bytes, with-best, sealed}
 use Rattle.be.proofs.Bools.{and-left, and-right, and-both, by-cases, every-head, every-tail, every-cons, every-keep}
 use Rattle.be.proofs.Parts.{piece, part-part}
 use Rattle.be.proofs.Numbers.{length-to-be}

@@ -18,8 +18,8 @@ use Rattle.dir_block_rules.specs.Block.{records, slots, slots-in, slot, 
 use Rattle.dir_block_rules.specs.Verdict.{best-pairs, pairs-in, verdict, size-ok, magic-ok, span-ok, fills, tile-ok, names-ok, numbers-ok, number-fits, own-in, index-ok, rising, best-ok, once-ok}
 use Rattle.dir.specs.Answers.{looked-code, looked-target, looked-compared}
 use Rattle.dir_block_rules.specs.Lookup.{seek, sought, up-to, names-compared, lookup, lookup-refusal}
-use Rattle.dir_block_rules.specs.Room.{longest, last-of, touching, room-of, has-room, case-a, case-b}
-use Rattle.dir_block_rules.specs.Change.{pair-bytes, best-of, with-best, sealed, changed, index-writes, insert-slot, writes-a, writes-b, writes-c, writes-d, insert-writes, insert-code, insert-bytes, gap-start-before, gap-end-after, remove-writes, remove-code, remove-bytes}
+use Rattle.dir_block_rules.specs.Room.{last-of, touching, room-of, has-room, case-a, case-b}
+use Rattle.dir_block_rules.specs.Change.{longest, pair-bytes, best-of, with-best, sealed, changed, index-writes, insert-slot, writes-a, writes-b, writes-c, writes-d, insert-writes, insert-code, insert-bytes, gap-start-before, gap-end-after, remove-writes, remove-code, remove-bytes}
 
 -- a block of n bytes that holds only "." and "..", both with target i
 unfoldable pub fresh : Edition → ℕ → Target → List ℕ
