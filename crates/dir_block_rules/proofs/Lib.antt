@@ -33,6 +33,7 @@ pub mod EachCall
 pub mod Demand3
 pub mod LookupRight
 pub mod WholeWalk
+pub mod BestRanked
 pub mod BestAnew
 pub mod Capacity
 pub mod SmallCodes
