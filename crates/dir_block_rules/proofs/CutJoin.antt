@@ -12,9 +12,9 @@ use lib.Seq.{take-append-le, drop-append-le, take-append-seam, drop-append-seam}
 use borrow.Author.Tests.{eqb-true, leb-true, eq-eqb, le-leb}
 use Rattle.edition.proofs.Sizes.{entry-size-least}
 use Rattle.be.specs.Lists.{every}
-use Rattle.records.specs.Records.{joined}
 use Rattle.records.proofs.Joined.{joined-append}
 use Rattle.edition.specs.declared.Edition.{Edition}
+pub use Rattle.dir_block_rules.specs.Record.{join}
 use Rattle.dir_block_rules.specs.Record.{Rec, rec, cut, says, record-ok, whole, size, tag, gap-start}
 use Rattle.be.proofs.Bools.{and-left, and-right, and-both, by-cases}
 
@@ -52,10 +52,6 @@ says-append e c d h l =
     (λ g.
     let long : 8 < length c = omega (arith, rw g at h, entry-size-least e (getD c 8 0)) in
     rw (gap-start-append c d (omega arith), g) (rw (List·getD-append c d 0 8 long)))
-
--- the records' bytes end to end
-abbrev pub join : List Rec → List ℕ
-join rs = joined (λ (r : Rec). r .raw) rs
 
 -- whole records, laid end to end from offset o on
 abbrev pub Laid : Edition → ℕ → List Rec → Type 0

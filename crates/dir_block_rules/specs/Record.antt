@@ -7,6 +7,7 @@ use lib.Dec.{eqb, leb}
 use lib.ListN.{length, take, drop, replicate}
 use Rattle.be.specs.Lists.{keep}
 use Rattle.be.specs.Bytes.{be, to-be, byte, field, part, Write, write}
+use Rattle.records.specs.Records.{joined}
 use Rattle.edition.specs.declared.Edition.{Edition}
 use Rattle.dir.specs.declared.Target.{Target}
 use Rattle.edition.specs.Edition.{entry-size}
@@ -100,7 +101,11 @@ unfoldable pub gap-writes : ℕ → ℕ → List Write
 gap-writes o zero = []
 gap-writes o (suc n) = write o (0xff ∷ 0xff ∷ to-be 2 (suc n)) ∷ write (o + suc n - 2) (to-be 2 o) ∷ []
 
--- ---- for code and proofs alone: no promise cites it
+-- ---- for code and proofs alone: no promise cites these
+
+-- the records' bytes end to end
+abbrev pub join : List Rec → List ℕ
+join rs = joined (λ (r : Rec). r .raw) rs
 
 -- a record that is as long as it says, and right. Records that are all so fill the data: proofs/WholeRecords.antt
 unfoldable pub whole : Edition → Rec → Bool
