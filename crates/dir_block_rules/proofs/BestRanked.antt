@@ -109,7 +109,7 @@ first-ahead g h o l =
     (by-cases (ltb (size h) (size g))
     (λ q. rw q)
     (λ q. let e : size g ≡ size h = omega (arith, leb-true (size h) (size g) l, ltb-false (size h) (size g) q) in
-    rw (q, eq-eqb (size g) (size h) e, o)))
+    rw (q, eq-eqb (size g) (size h) e) (omega (arith, lt-ltb, ltb-true (g .off) (h .off) o))))
 
 later-ahead : (m g : Rec) → ltb (g .off) (m .off) ≡ true → size g < size m → own-or-behind m g ≡ true
 later-ahead m g o l =
