@@ -15,38 +15,11 @@ use Rattle.edition.specs.declared.Edition.{Edition}
 use Rattle.dir_block_rules.specs.Record.{Rec, size, besides}
 use Rattle.dir_block_rules.specs.Verdict.{Pair, pair, zero-pair, is-gap-of}
 use Rattle.dir_block_rules.specs.Change.{longest, best-of, best-table}
-use Rattle.dir_block_rules.specs.Claims.{ahead, ranked, needed, in-or-behind, Best-written}
+use Rattle.dir_block_rules.specs.Claims.{ahead, ranked, needed-pairs, in-or-behind, Best-written}
+use Rattle.dir_block_rules.proofs.PlainTests.{every-from, every-two, every-true, some-kept, every-besides}
 use Rattle.dir_block_rules.proofs.CutJoin.{Laid}
 use Rattle.dir_block_rules.proofs.BestTable.{longest-every, longest-some}
 use Rattle.dir_block_rules.proofs.GoodParts.{every-longest}
-
--- ---- tests over lists
-
-module _ {A : Type 0} where
-  every-from : (p q : A → Bool) → ((x : A) → p x ≡ true → q x ≡ true) → (xs : List A) → every p xs ≡ true → every q xs ≡ true
-  every-from p q f [] h = refl
-  every-from p q f (x ∷ xs) h = every-cons q x xs (f x (every-head p x xs h)) (every-from p q f xs (every-tail p x xs h))
-
-  every-two : (p q r : A → Bool) → ((x : A) → p x ≡ true → q x ≡ true → r x ≡ true) → (xs : List A) → every p xs ≡ true → every q xs ≡ true → every r xs ≡ true
-  every-two p q r f [] h k = refl
-  every-two p q r f (x ∷ xs) h k =
-      every-cons r x xs (f x (every-head p x xs h) (every-head q x xs k)) (every-two p q r f xs (every-tail p x xs h) (every-tail q x xs k))
-
-  every-true : (xs : List A) → every (λ x. true) xs ≡ true
-  every-true [] = refl
-  every-true (x ∷ xs) = every-true xs
-
-  some-kept : (p q : A → Bool) (xs : List A) → some-of p (keep q xs) ≡ true → some-of p xs ≡ true
-  some-kept p q [] h = h
-  some-kept p q (x ∷ xs) h =
-      by-cases (q x)
-      (λ k. or-cases (p x) (some-of p (keep q xs)) (rw k at h) (λ z. or-left (p x) (some-of p xs) z) (λ z. or-right (p x) (some-of p xs) (some-kept p q xs z)))
-      (λ k. or-right (p x) (some-of p xs) (some-kept p q xs (rw k at h)))
-
-  -- a test of those that are left out, or of all the others
-  pub every-besides : (g p : A → Bool) (xs : List A) → every (λ x. g x || p x) xs ≡ every p (keep (λ x. not (g x)) xs)
-  every-besides g p [] = refl
-  every-besides g p (x ∷ xs) = by-cases (g x) (λ q. rw q (every-besides g p xs)) (λ q. rw (q, every-besides g p xs))
 
 -- ---- records in offset order
 
@@ -162,7 +135,7 @@ module _ (m : Rec) (gs : List Rec) (ps : List Pair) (own : every (own-or-behind 
   others = besides (m .off) gs
 
   abbrev rest : List Pair
-  rest = needed (besides (m .off) gs) ps
+  rest = needed-pairs (besides (m .off) gs) ps
 
   behind-own : (h : Rec) → own-or-behind m h ≡ true → (at (m .off) h || ahead p (pair-of h)) ≡ true
   behind-own h k = by-cases (at (m .off) h) (λ q. or-left (at (m .off) h) (ahead p (pair-of h)) q) (λ q. rw q (rw q at k))
@@ -189,10 +162,10 @@ module _ (m : Rec) (gs : List Rec) (ps : List Pair) (own : every (own-or-behind 
       record {
         are-gaps = rw less (every-cons (λ q. some-of (is-gap-of q) gs) p rest among
             (every-from (λ q. some-of (is-gap-of q) others) (λ q. some-of (is-gap-of q) gs) (λ q z. some-kept (is-gap-of q) (λ h. not (at (m .off) h)) gs z) rest (r .are-gaps)));
-        in-order = rw less (ranked-cons p rest (every-from (λ q. some-of (is-gap-of q) others) (ahead p) (gaps-ahead p others others-after) rest (r .are-gaps)) (r .in-order));
+        longest-first = rw less (ranked-cons p rest (every-from (λ q. some-of (is-gap-of q) others) (ahead p) (gaps-ahead p others others-after) rest (r .are-gaps)) (r .longest-first));
         others-behind = rw less (every-two (own-or-behind m) (λ h. at (m .off) h || in-or-behind rest h) (in-or-behind (p ∷ rest)) placed gs own
             (every-besides (at (m .off)) (in-or-behind rest) gs ∙ r .others-behind));
-        zeros = rw less (r .zeros);
+        others-zero = rw less (r .others-zero);
       }
 
 best-ranks : (k : ℕ) (gs : List Rec) → Rises gs → Best-written (best-of k gs) gs
@@ -200,11 +173,11 @@ unfolding best-of ranked
 best-ranks zero gs s =
     record {
       are-gaps = rw (take-nil (length gs));
-      in-order = rw (take-nil (length gs));
+      longest-first = rw (take-nil (length gs));
       others-behind = rw (take-nil (length gs)) (every-true gs);
-      zeros = rw (drop-nil (length gs));
+      others-zero = rw (drop-nil (length gs));
     }
-best-ranks (suc k) [] s = record { are-gaps = refl; in-order = refl; others-behind = refl; zeros = none-needed k }
+best-ranks (suc k) [] s = record { are-gaps = refl; longest-first = refl; others-behind = refl; others-zero = none-needed k }
 best-ranks (suc k) (g ∷ gs) s =
     let m : Rec = longest (g ∷ gs) in
     let same : is-gap-of (pair-of m) m ≡ true = and-both (eqb (m .off) (m .off)) (eqb (size m) (size m)) (eq-eqb (m .off) (m .off) refl) (eq-eqb (size m) (size m) refl) in

@@ -1,3 +1,4 @@
+pub mod PlainTests
 pub mod OneMore
 pub mod GapsApart
 pub mod CutJoin

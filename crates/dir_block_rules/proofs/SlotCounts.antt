@@ -11,7 +11,7 @@ use borrow.Author.Tests.{not-true, eqb-true, ne-eqb}
 use Rattle.be.specs.Lists.{every, some-of, tally, total}
 use Rattle.dir_block_rules.specs.Block.{Slot, is-stale, is-live}
 use Rattle.be.proofs.Bools.{by-cases, clash, or-cases, every-head, every-tail}
-use Rattle.dir_block_rules.proofs.WholeRecords.{eqb-add}
+use Rattle.dir_block_rules.proofs.PlainTests.{eqb-add}
 
 -- 1 if the test passes, else 0
 abbrev pub one-if : Bool → ℕ

@@ -9,11 +9,12 @@ use mathlib.Core.List.{List, [], _∷_}
 use lib.Dec.{eqb, leb}
 use lib.ListN.{length, take, drop, getD, length-take, length-drop}
 use lib.Seq.{length-take-le, take-all, take-take, getD-take}
-use borrow.Author.Tests.{eqb-true, eq-eqb, ne-eqb, leb-true, leb-false}
+use borrow.Author.Tests.{eq-eqb, ne-eqb, leb-true, leb-false}
 use Rattle.be.specs.Lists.{every, total}
 use Rattle.be.specs.Bytes.{be, part, field}
 use Rattle.be.proofs.Bools.{and-left, and-right, and-both, and-true, not-right, by-cases, clash, every-head, every-tail, every-cons}
 use Rattle.be.proofs.Parts.{field-part}
+use Rattle.dir_block_rules.proofs.PlainTests.{eqb-add}
 use Rattle.edition.proofs.Sizes.{entry-size-least}
 use Rattle.edition.specs.declared.Edition.{Edition}
 use Rattle.edition.specs.Edition.{entry-size}
@@ -38,12 +39,6 @@ says-alone e d l h =
 -- what all of some records say
 abbrev said : Edition → List Rec → ℕ
 said e rs = total (λ r. says e (r .raw)) rs
-
-pub eqb-add : (n a b : ℕ) → eqb (n + a) (n + b) ≡ eqb a b
-eqb-add n a b =
-    by-cases (eqb a b)
-    (λ q. let z : a ≡ b = eqb-true a b q in eq-eqb (n + a) (n + b) (omega arith) ∙ sym q)
-    (λ q. ne-eqb (n + a) (n + b) (λ (z : n + a ≡ n + b). clash (eq-eqb a b (omega arith)) q) ∙ sym q)
 
 right-least : (r : Rec) → record-ok r ≡ true → 8 ≤ size r
 unfolding record-ok

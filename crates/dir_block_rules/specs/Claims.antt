@@ -69,23 +69,23 @@ ranked [] = true
 ranked (p ∷ []) = true
 ranked (p ∷ q ∷ ps) = ahead p q && ranked (q ∷ ps)
 
--- the pairs that are needed: as many as there are gaps
-abbrev pub needed : List Rec → List Pair → List Pair
-needed gs ps = take (length gs) ps
+-- the pairs that are needed: as many as there are gaps, or all
+abbrev pub needed-pairs : List Rec → List Pair → List Pair
+needed-pairs gs ps = take (length gs) ps
 
 -- a gap is in the table, or comes after each pair of it
 abbrev pub in-or-behind : List Pair → Rec → Bool
 in-or-behind ps g = some-of (λ p. is-gap-of p g) ps || every (λ p. ahead p (pair (g .off) (size g))) ps
 
--- the pairs ps that a change leaves in a block with gaps gs
+-- the header's pairs ps, as a change leaves them in a block with gaps gs
 pub record Best-written (ps : List Pair) (gs : List Rec) : Type 0 where
   -- the needed pairs are gaps, longest first, lower offset first among equals
-  pub are-gaps : every (λ p. some-of (is-gap-of p) gs) (needed gs ps) ≡ true
-  pub in-order : ranked (needed gs ps) ≡ true
+  pub are-gaps : every (λ p. some-of (is-gap-of p) gs) (needed-pairs gs ps) ≡ true
+  pub longest-first : ranked (needed-pairs gs ps) ≡ true
   -- they are the longest: any other gap comes after them
-  pub others-behind : every (in-or-behind (needed gs ps)) gs ≡ true
+  pub others-behind : every (in-or-behind (needed-pairs gs ps)) gs ≡ true
   -- unneeded pairs are zero
-  pub zeros : every zero-pair (drop (length gs) ps) ≡ true
+  pub others-zero : every zero-pair (drop (length gs) ps) ≡ true
 
 -- every change writes the pairs anew
 unfoldable pub Best-right : Edition → Type 0

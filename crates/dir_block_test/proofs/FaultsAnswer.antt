@@ -14,7 +14,7 @@ use Rattle.name.specs.Name.{hash-of}
 use Rattle.dir_block_rules.specs.Record.{Rec, whole, apart, is-gap, entries, name}
 use Rattle.dir_block_rules.specs.Verdict.{name-ok, number-ok}
 use Rattle.be.proofs.Bools.{by-cases}
-use Rattle.dir_block_rules.proofs.BestRanked.{every-besides}
+use Rattle.dir_block_rules.proofs.PlainTests.{every-besides}
 use Rattle.dir_block_test.specs.Passes.{no-fault, tile-from, tile-count, fault, worst}
 
 -- TILE
