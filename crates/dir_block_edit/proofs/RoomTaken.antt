@@ -18,8 +18,8 @@ use Rattle.dir.specs.declared.Target.{Target}
 use Rattle.dir_block_rules.specs.Lookup.{sought}
 use Rattle.dir.specs.Target.{legal-target}
 use Rattle.dir_block_rules.specs.Verdict.{pair}
-use Rattle.dir_block_rules.specs.Room.{has-room, room-of, other-gaps, longest}
-use Rattle.dir_block_rules.specs.Change.{index-writes, insert-slot, entry-writes, insert-writes, changed, insert-code, insert-bytes}
+use Rattle.dir_block_rules.specs.Room.{has-room, room-of, other-gaps}
+use Rattle.dir_block_rules.specs.Change.{longest, index-writes, insert-slot, entry-writes, insert-writes, changed, insert-code, insert-bytes}
 use Rattle.dir_block_rules.proofs.EachCall.{insert-code-is}
 use Rattle.dir_block_laws.specs.Tiled.{Ready, Tiled}
 use Rattle.dir_block_laws.specs.Pass.{Scanned, Inside}

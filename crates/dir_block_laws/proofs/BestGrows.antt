@@ -11,9 +11,8 @@ use native.Mathlib.Nat.{not-suc-le-zero}
 use borrow.Author.Tests.{ltb-true, ltb-false, leb-true, leb-false, lt-ltb, le-ltb, le-leb, lt-leb, eq-eqb, ne-eqb, not-true, eqb-false}
 use Rattle.be.specs.Lists.{every, keep}
 use Rattle.dir_block_rules.specs.Record.{Rec, size, besides}
-use Rattle.dir_block_rules.specs.Room.{longest}
 use Rattle.dir_block_rules.specs.Verdict.{Pair, pair}
-use Rattle.dir_block_rules.specs.Change.{best-of}
+use Rattle.dir_block_rules.specs.Change.{longest, best-of}
 use Rattle.be.proofs.Bools.{by-cases, every-head, every-tail, keep-append, every-keep}
 use Rattle.dir_block_rules.proofs.GoodParts.{every-longest, length-best}
 use Rattle.dir_block_laws.specs.BestSoFar.{ins}

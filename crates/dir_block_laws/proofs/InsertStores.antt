@@ -8,7 +8,7 @@ use mathlib.Core.List.{List, [], _∷_, _++_, append-assoc}
 use lib.Dec.{eqb, leb}
 use lib.ListN.{length}
 use borrow.Author.Tests.{eqb-false, eq-eqb, ne-eqb, leb-true, leb-false, le-leb, lt-leb, not-true}
-use Rattle.be.specs.Lists.{keep, without-first}
+use Rattle.be.specs.Lists.{some-of, keep, without-first}
 use Rattle.be.specs.Bytes.{bytes, put, to-be, Write, written}
 use Rattle.edition.specs.declared.Edition.{Edition}
 use Rattle.edition.specs.Edition.{entry-size, Sane}
@@ -17,14 +17,16 @@ use Rattle.dir_block_rules.specs.Block.{Slot, slot, slots, records, data-end, s
 use Rattle.name.specs.Name.{hash-of, legal-name, fixed-name}
 use Rattle.dir.specs.Target.{legal-target}
 use Rattle.dir_block_rules.specs.Verdict.{Pair, pair}
-use Rattle.dir_block_rules.specs.Room.{room-of, longest, touching, other-gaps, has-room, case-a, case-b, case-c, case-d, last-of}
-use Rattle.dir_block_rules.specs.Change.{best-of, index-writes, insert-slot, entry-writes, insert-writes, writes-a, writes-b, writes-c, writes-d}
+use Rattle.dir_block_rules.specs.Room.{room-of, touching, other-gaps, has-room, case-a, case-b, case-c, case-d, last-of}
+use Rattle.dir_block_rules.specs.Change.{longest, best-of, index-writes, insert-slot, entry-writes, insert-writes, writes-a, writes-b, writes-c, writes-d}
 use Rattle.be.proofs.Bools.{by-cases}
 use Rattle.be.proofs.Numbers.{length-to-be}
 use Rattle.dir.specs.declared.Target.{Target}
 use Rattle.dir_block_rules.specs.Lookup.{sought}
 use Rattle.be.proofs.Splits.{Split}
 use Rattle.dir_block_rules.proofs.AcceptedParts.{keep-find, Found-in}
+use Rattle.edition.proofs.Sizes.{entry-size-least}
+use Rattle.dir_block_rules.proofs.BestTable.{longest-holds}
 use Rattle.dir_block_rules.proofs.ChangeAccepted.{longest-in, length-insert, length-without}
 use Rattle.edition.proofs.Sizes.{entry-size-eights}
 use Rattle.dir_block_laws.proofs.SlotSearch.{tiled, length-slots}
@@ -179,9 +181,12 @@ module _ (e : Edition) (b n : List ℕ) (i : Target) (o₁ l₁ o₂ l₂ o₃ l
       let z : touching (data-end b) (records e b) .off ≡ longest (gaps (records e b)) .off = sc .touch-off ∙ sym h ∙ sym (one .0) in
       (ap (λ (x : ℕ). longest (besides x (gaps (records e b))) .off) z ∙ two .0, ap (λ (x : ℕ). size (longest (besides x (gaps (records e b))))) z ∙ two .1)
 
+  holds-longest : (hs : List Rec) → some-of (λ g. leb (entry-size e (length n)) (size g)) hs ≡ leb (entry-size e (length n)) (size (longest hs))
+  holds-longest hs = longest-holds (entry-size e (length n)) hs (omega (arith, entry-size-least e (length n)))
+
   need-a : case-a (room-of e b n) ≡ (leb 1 s && leb E l₁)
   unfolding room-of
-  need-a = ap₂ (λ (x y : ℕ). leb 1 x && leb y (size (longest (gaps (records e b))))) (sym se) (sym ee) ∙ ap (λ (y : ℕ). leb 1 s && leb E y) (one .1)
+  need-a = ap (λ (t : Bool). leb 1 (stale-of b) && t) (holds-longest (gaps (records e b))) ∙ ap₂ (λ (x y : ℕ). leb 1 x && leb y (size (longest (gaps (records e b))))) (sym se) (sym ee) ∙ ap (λ (y : ℕ). leb 1 s && leb E y) (one .1)
 
   need-b : case-b (room-of e b n) ≡ (leb 1 s && leb E (k + 8 * (s - 1)))
   unfolding room-of
@@ -189,7 +194,7 @@ module _ (e : Edition) (b n : List ℕ) (i : Target) (o₁ l₁ o₂ l₂ o₃ l
 
   need-c : (l : ℕ) → size (longest (other-gaps (room-of e b n))) ≡ l → case-c (room-of e b n) ≡ (eqb s 0 && leb 8 k && leb E l)
   unfolding room-of
-  need-c l q = ap₂ (λ (x y : ℕ). eqb x 0 && leb 8 (size (touching (data-end b) (records e b))) && leb y (size (longest (other-gaps (room-of e b n))))) (sym se) (sym ee) ∙ ap₂ (λ (x y : ℕ). eqb s 0 && leb 8 x && leb E y) (sc .touch-size) q
+  need-c l q = ap (λ (t : Bool). eqb (stale-of b) 0 && leb 8 (size (touching (data-end b) (records e b))) && t) (holds-longest (other-gaps (room-of e b n))) ∙ ap₂ (λ (x y : ℕ). eqb x 0 && leb 8 (size (touching (data-end b) (records e b))) && leb y (size (longest (other-gaps (room-of e b n))))) (sym se) (sym ee) ∙ ap₂ (λ (x y : ℕ). eqb s 0 && leb 8 x && leb E y) (sc .touch-size) q
 
   need-d : case-d (room-of e b n) ≡ (eqb s 0 && leb (E + 8) k)
   unfolding room-of

@@ -29,7 +29,8 @@ use Rattle.dir_block_rules.proofs.BlockParts.{slots-count}
 use Rattle.dir_block_rules.proofs.IndexedEntries.{Indexed, addr-of}
 use Rattle.be.proofs.Splits.{Split, every-at}
 use Rattle.dir_block_rules.proofs.SearchFinds.{Owner, owner}
-use Rattle.dir_block_rules.proofs.Acceptance.{Passed, passed, tile-whole}
+use Rattle.dir_block_rules.proofs.Acceptance.{Passed, passed}
+use Rattle.dir_block_rules.proofs.WholeRecords.{tile-whole}
 use Rattle.dir_block_rules.proofs.GoodParts.{block-bound}
 use Rattle.dir_block_rules.proofs.AcceptedParts.{good-of, apart-of, reads-of, keep-find, Found-in}
 use Rattle.dir_block_laws.specs.Tiled.{Tiled, Ready}
@@ -147,7 +148,7 @@ pub tiled : (e : Edition) (b : List ℕ) → Ready e b → Tiled e b
 unfolding size-ok
 tiled e b r =
     let p : Passed e b = passed e b (r .ok) in
-    record { are-bytes = r .are-bytes; short = block-bound (length b) (p .size); span = p .span; wholes = tile-whole e (records e b) (p .tile) }
+    record { are-bytes = r .are-bytes; short = block-bound (length b) (p .size); span = p .span; wholes = tile-whole e b (p .tile) }
 
 pub stale-within : (e : Edition) (b : List ℕ) → Ready e b → stale-of b ≤ count-of b
 stale-within e b r = stale-most e b (tiled e b r)

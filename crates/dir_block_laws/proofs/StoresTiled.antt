@@ -24,7 +24,8 @@ use Rattle.be.proofs.Writes.{length-put, put-next, drop-put}
 use Rattle.be.proofs.Numbers.{length-to-be}
 use Rattle.dir_block_rules.proofs.WritesLeave.{written-append}
 use Rattle.dir_block_rules.proofs.GoodParts.{block-bound, length-pair-bytes, length-best}
-use Rattle.dir_block_rules.proofs.Acceptance.{Passed, passed, tile-whole}
+use Rattle.dir_block_rules.proofs.Acceptance.{Passed, passed}
+use Rattle.dir_block_rules.proofs.WholeRecords.{tile-whole}
 use Rattle.dir_block_rules.proofs.StaysBytes.{bytes-written, all-remove}
 use Rattle.dir_block_rules.proofs.LookupFinds.{removed-of}
 use Rattle.dir_block_rules.proofs.Sealing.{seals, unsealed}
@@ -38,7 +39,7 @@ module _ (e : Edition) (w v : List ℕ) (long-same : length v ≡ length w) (sam
       ap (λ (n : ℕ). drop n v) (sym m) ∙ sym (drop-drop (k - e .header) (e .header) v) ∙ ap (drop (k - e .header)) same-behind
       ∙ drop-drop (k - e .header) (e .header) w ∙ ap (λ (n : ℕ). drop n w) m
 
-  module _ (by : bytes w ≡ true) (sz : size-ok v ≡ true) (sp : span-ok e v ≡ true) (tl : tile-ok e (records e v) ≡ true) where
+  module _ (by : bytes w ≡ true) (sz : size-ok v ≡ true) (sp : span-ok e v ≡ true) (tl : tile-ok e v ≡ true) where
     span-least : e .header + 8 * count-of v + 8 ≤ length w
     unfolding span-ok
     span-least = rw long-same at (leb-true (e .header + 8 * count-of v + 8) (length v) (and-left _ _ sp))
@@ -74,7 +75,7 @@ module _ (e : Edition) (w v : List ℕ) (long-same : length v ≡ length w) (sam
           short = subst (λ (n : ℕ). n ≤ 65536) long-same (block-bound (length v) sz);
           span = ap₂ (λ (c n : ℕ). leb (e .header + 8 * c + 8) n && leb (stale-of w) c) (sym count-same) (sym long-same)
               ∙ ap (λ (s : ℕ). leb (e .header + 8 * count-of v + 8) (length v) && leb s (count-of v)) (sym stale-same) ∙ sp;
-          wholes = ap (every (whole e)) (sym records-same) ∙ tile-whole e (records e v) tl;
+          wholes = ap (every (whole e)) (sym records-same) ∙ tile-whole e v tl;
         }
 
 -- the best-gap table and the seal stand in the header

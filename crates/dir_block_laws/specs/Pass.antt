@@ -6,7 +6,7 @@ use mathlib.Core.Bool.{false}
 use mathlib.Core.List.{List, _++_, _∷_}
 use lib.ListN.{length}
 use Rattle.edition.specs.declared.Edition.{Edition}
-use Rattle.dir_block_rules.specs.Record.{Rec, size, gaps, is-gap}
+use Rattle.dir_block_rules.specs.Record.{Rec, size, gaps, is-gap, join}
 use Rattle.dir_block_rules.specs.Block.{records, data-end}
 use Rattle.dir_block_rules.specs.Verdict.{Pair}
 use Rattle.dir.specs.declared.Step.{Step}
@@ -15,7 +15,6 @@ use Rattle.dir.specs.Answers.{seen-start, seen-len}
 use Rattle.dir_block_rules.specs.Walk.{is-place, walk-step}
 use Rattle.dir_block_rules.specs.Room.{touching}
 use Rattle.dir_block_rules.specs.Change.{best-of}
-use Rattle.dir_block_rules.proofs.CutJoin.{join}
 
 -- at offset o: the table of the gaps passed is ps, and the gap that ends at o starts at u and is k long (none: u is o, and k is 0)
 pub record Passing (e : Edition) (b : List ℕ) (o : ℕ) (ps : List Pair) (u k : ℕ) : Type 0 where

@@ -5,18 +5,16 @@ use mathlib.Core.Bool.{true}
 use mathlib.Core.Path.{_≡_}
 use mathlib.Core.List.{List}
 use Rattle.be.proofs.Codes.{passes}
-use Rattle.be.specs.Lists.{every}
 use Rattle.edition.specs.declared.Edition.{Edition}
-use Rattle.dir_block_rules.specs.Record.{Rec, whole, apart, entries, gaps}
+use Rattle.dir_block_rules.specs.Record.{entries, gaps}
 use Rattle.dir_block_rules.specs.Block.{records, slots, stale-of}
 use Rattle.dir_block_rules.specs.Verdict.{verdict, Accepted, size-ok, magic-ok, span-ok, tile-ok, names-ok, numbers-ok, index-ok, best-ok, best-pairs, once-ok}
-use Rattle.be.proofs.Bools.{and-left, and-right, and-both}
 
 pub record Passed (e : Edition) (b : List ℕ) : Type 0 where
   pub size : size-ok b ≡ true
   pub magic : magic-ok e b ≡ true
   pub span : span-ok e b ≡ true
-  pub tile : tile-ok e (records e b) ≡ true
+  pub tile : tile-ok e b ≡ true
   pub names : names-ok e (records e b) ≡ true
   pub numbers : numbers-ok e (records e b) ≡ true
   pub index : index-ok e (records e b) (slots b) (stale-of b) ≡ true
@@ -29,7 +27,7 @@ passed e b a =
     let p1 : _ = passes (size-ok b) 0 _ a in
     let p2 : _ = passes (magic-ok e b) 1 _ (p1 .1) in
     let p4 : _ = passes (span-ok e b) 3 _ (p2 .1) in
-    let p5 : _ = passes (tile-ok e (records e b)) 4 _ (p4 .1) in
+    let p5 : _ = passes (tile-ok e b) 4 _ (p4 .1) in
     let p6 : _ = passes (names-ok e (records e b)) 5 _ (p5 .1) in
     let p7 : _ = passes (numbers-ok e (records e b)) 6 _ (p6 .1) in
     let p8 : _ = passes (index-ok e (records e b) (slots b) (stale-of b)) 7 _ (p7 .1) in
@@ -40,15 +38,3 @@ passed e b a =
 pub accepted : (e : Edition) (b : List ℕ) → Passed e b → Accepted e b
 unfolding verdict
 accepted e b p = rw (p .size, p .magic, p .span, p .tile, p .names, p .numbers, p .index, p .best, p .once)
-
-pub tile-whole : (e : Edition) (rs : List Rec) → tile-ok e rs ≡ true → every (whole e) rs ≡ true
-unfolding tile-ok
-tile-whole e rs h = and-left (every (whole e) rs) (apart rs) h
-
-pub tile-apart : (e : Edition) (rs : List Rec) → tile-ok e rs ≡ true → apart rs ≡ true
-unfolding tile-ok
-tile-apart e rs h = and-right (every (whole e) rs) (apart rs) h
-
-pub tile-both : (e : Edition) (rs : List Rec) → every (whole e) rs ≡ true → apart rs ≡ true → tile-ok e rs ≡ true
-unfolding tile-ok
-tile-both e rs h k = and-both (every (whole e) rs) (apart rs) h k

@@ -21,7 +21,8 @@ use Rattle.dir_block_rules.specs.Change.{insert-slot, in-front}
 use Rattle.be.proofs.Bools.{by-cases}
 use Rattle.dir_block_rules.proofs.CutJoin.{join, Laid, join-append, laid-back}
 use Rattle.dir_block_rules.proofs.BlockParts.{build, build-end, Fit, SlotsFit, tail-bytes, refit, rebuild}
-use Rattle.dir_block_rules.proofs.Acceptance.{Passed, passed, tile-whole, tile-apart}
+use Rattle.dir_block_rules.proofs.Acceptance.{Passed, passed}
+use Rattle.dir_block_rules.proofs.WholeRecords.{tile-whole, tile-apart}
 use Rattle.dir_block_rules.proofs.SlotCounts.{Apart}
 use Rattle.dir_block_rules.proofs.IndexedEntries.{indexed, addr-of}
 use Rattle.be.proofs.Splits.{Split}
@@ -84,7 +85,7 @@ module _ (e : Edition) (sane : Sane e) (b : List ℕ) (h : bytes b ≡ true) (a 
   tests = passed e b a
 
   wholes : every (whole e) (records e b) ≡ true
-  wholes = tile-whole e (records e b) (tests .tile)
+  wholes = tile-whole e b (tests .tile)
 
   pub fit-of : Fit e (take (e .header) b) (records e b) (slots b) (stale-of b)
   fit-of = refit e b h (tests .span) wholes
@@ -92,13 +93,16 @@ module _ (e : Edition) (sane : Sane e) (b : List ℕ) (h : bytes b ≡ true) (a 
   pub build-of : build (take (e .header) b) (records e b) (slots b) (stale-of b) ≡ b
   build-of = rebuild e b h (tests .span) wholes
 
+  pub apart-of : Apart (map addr-of (entries (records e b)))
+  apart-of = apart-keep e is-entry (e .header) (records e b) (omega (arith, sane .magic-before, sane .best-inside)) (fit-of .laid)
+
   pub good-of : Good e (records e b) (slots b) (stale-of b)
   good-of =
       record {
-        gaps-apart = tile-apart e (records e b) (tests .tile);
+        gaps-apart = tile-apart e b (tests .tile);
         names = tests .names;
         numbers = tests .numbers;
-        index = indexed e (records e b) (slots b) (stale-of b) (tests .index);
+        index = indexed e (records e b) (slots b) (stale-of b) apart-of (tests .index);
         once = tests .once;
       }
 
@@ -109,9 +113,6 @@ module _ (e : Edition) (sane : Sane e) (b : List ℕ) (h : bytes b ≡ true) (a 
   pub magic-of : eqb (field 0 4 (take (e .header) b)) (e .magic) ≡ true
   unfolding magic-ok
   magic-of = ap (λ (l : List ℕ). eqb (be l) (e .magic)) (take-take 4 (e .header) b (omega (arith, sane .best-inside))) ∙ tests .magic
-
-  pub apart-of : Apart (map addr-of (entries (records e b)))
-  apart-of = apart-keep e is-entry (e .header) (records e b) (omega (arith, sane .magic-before, sane .best-inside)) (fit-of .laid)
 
   -- the bytes of the index
   unfoldable pub index-bytes : List ℕ

@@ -4,18 +4,17 @@ use Prim.Native.Nat.{ℕ, zero, suc, _^_, _≤_, _<_}
 use native.Mathlib.Nat.{le-refl}
 use native.Mathlib.Omega.{arith}
 use mathlib.Core.Bool.{Bool, true, false, _&&_}
-use mathlib.Core.Path.{_≡_, refl}
+use mathlib.Core.Path.{_≡_, refl, sym, _∙_}
 use mathlib.Core.List.{List, [], _∷_, _++_, append-assoc}
 use lib.Dec.{eqb, leb, leb·zero}
 use lib.ListN.{length, length-append}
 use lib.Seq.{take-at, drop-at}
-use borrow.Author.Tests.{leb-true, leb-false, eq-eqb, le-leb}
+use borrow.Author.Tests.{leb-true, leb-false, eq-eqb, le-leb, lt-leb}
 use Rattle.be.specs.Lists.{every, some-of}
 use Rattle.be.specs.Bytes.{to-be}
 use Rattle.dir_block_rules.specs.Record.{Rec, size, besides}
 use Rattle.dir_block_rules.specs.Verdict.{Pair, pair, pairs-in, best-ok, is-gap-of}
-use Rattle.dir_block_rules.specs.Room.{longest}
-use Rattle.dir_block_rules.specs.Change.{best-of, pair-bytes}
+use Rattle.dir_block_rules.specs.Change.{longest, best-of, pair-bytes}
 use Rattle.be.proofs.Bools.{and-both, by-cases, every-cons, or-left, or-right}
 use Rattle.be.proofs.Numbers.{length-to-be, be-to-be}
 
@@ -38,6 +37,21 @@ longest-some t g (g₂ ∷ gs) h =
     by-cases (leb (size (longest (g₂ ∷ gs))) (size g))
     (λ q. or-left (t g) (some-of t (g₂ ∷ gs)) (rw q at h))
     (λ q. or-right (t g) (some-of t (g₂ ∷ gs)) (longest-some t g₂ gs (rw q at h)))
+
+-- some record is at least n long exactly if the longest is
+pub longest-holds : (n : ℕ) (gs : List Rec) → 1 ≤ n → some-of (λ g. leb n (size g)) gs ≡ leb n (size (longest gs))
+unfolding longest
+longest-holds n [] h = sym (lt-leb n 0 h)
+longest-holds n (g ∷ gs) h =
+    let m : Rec = longest gs in
+    let ih : some-of (λ r. leb n (size r)) gs ≡ leb n (size m) = longest-holds n gs h in
+    by-cases (leb (size m) (size g))
+    (λ q. by-cases (leb n (size g))
+    (λ k. rw (q, k))
+    (λ k. rw (q, k) (ih ∙ lt-leb n (size m) (omega (arith, leb-true (size m) (size g) q, leb-false n (size g) k)))))
+    (λ q. by-cases (leb n (size g))
+    (λ k. rw (q, k) (sym (le-leb n (size m) (omega (arith, leb-false (size m) (size g) q, leb-true n (size g) k)))))
+    (λ k. rw (q, k) ih))
 
 pub best-of-right : (k : ℕ) (gs : List Rec) → best-ok (best-of k gs) gs ≡ true
 unfolding best-of best-ok

@@ -14,8 +14,7 @@ use Rattle.edition.specs.Edition.{block-size, Sane}
 use Rattle.dir_block_rules.specs.Record.{Rec, size, gaps}
 use Rattle.dir_block_rules.specs.Block.{Slot, records, slots, stale-of, is-stale, is-live}
 use Rattle.dir_block_rules.specs.Verdict.{Accepted, size-ok, best-pairs}
-use Rattle.dir_block_rules.specs.Room.{longest}
-use Rattle.dir_block_rules.specs.Change.{in-front, changed, sealed, with-best, insert-slot, best-table, pair-bytes}
+use Rattle.dir_block_rules.specs.Change.{longest, in-front, changed, sealed, with-best, insert-slot, best-table, pair-bytes}
 use Rattle.be.proofs.Bools.{by-cases}
 use Rattle.be.proofs.Writes.{length-written}
 use Rattle.be.proofs.Numbers.{length-to-be}

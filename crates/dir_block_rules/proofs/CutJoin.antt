@@ -12,10 +12,10 @@ use lib.Seq.{take-append-le, drop-append-le, take-append-seam, drop-append-seam}
 use borrow.Author.Tests.{eqb-true, leb-true, eq-eqb, le-leb}
 use Rattle.edition.proofs.Sizes.{entry-size-least}
 use Rattle.be.specs.Lists.{every}
-use Rattle.records.specs.Records.{joined}
 use Rattle.records.proofs.Joined.{joined-append}
 use Rattle.edition.specs.declared.Edition.{Edition}
-use Rattle.dir_block_rules.specs.Record.{Rec, rec, cut, says, whole, size, tag, gap-start}
+pub use Rattle.dir_block_rules.specs.Record.{join}
+use Rattle.dir_block_rules.specs.Record.{Rec, rec, cut, says, record-ok, whole, size, tag, gap-start}
 use Rattle.be.proofs.Bools.{and-left, and-right, and-both, by-cases}
 
 -- what whole says
@@ -26,18 +26,19 @@ pub record Whole (e : Edition) (r : Rec) : Type 0 where
   pub tagged : tag r ≡ r .off
 
 pub whole→ : (e : Edition) (r : Rec) → whole e r ≡ true → Whole e r
-unfolding whole
+unfolding whole record-ok
 whole→ e r h =
+    let ok : record-ok r ≡ true = and-right (eqb (size r) (says e (r .raw))) (record-ok r) h in
     record {
-      spans = eqb-true _ _ (and-left _ _ (and-left _ _ (and-left _ _ h)));
-      least = leb-true _ _ (and-right (eqb (size r) (says e (r .raw))) _ (and-left _ _ (and-left _ _ h)));
-      eights = eqb-true _ _ (and-right (eqb (size r) (says e (r .raw)) && leb 8 (size r)) _ (and-left _ _ h));
-      tagged = eqb-true _ _ (and-right (eqb (size r) (says e (r .raw)) && leb 8 (size r) && eqb (size r % 8) 0) _ h);
+      spans = eqb-true _ _ (and-left _ _ h);
+      least = leb-true _ _ (and-left _ _ (and-left _ _ ok));
+      eights = eqb-true _ _ (and-right (leb 8 (size r)) _ (and-left _ _ ok));
+      tagged = eqb-true _ _ (and-right (leb 8 (size r) && eqb (size r % 8) 0) _ ok);
     }
 
 pub →whole : (e : Edition) (r : Rec) → Whole e r → whole e r ≡ true
-unfolding whole
-→whole e r w = and-both _ _ (and-both _ _ (and-both _ _ (eq-eqb _ _ (w .spans)) (le-leb _ _ (w .least))) (eq-eqb _ _ (w .eights))) (eq-eqb _ _ (w .tagged))
+unfolding whole record-ok
+→whole e r w = and-both _ _ (eq-eqb _ _ (w .spans)) (and-both _ _ (and-both _ _ (le-leb _ _ (w .least)) (eq-eqb _ _ (w .eights))) (eq-eqb _ _ (w .tagged)))
 
 pub gap-start-append : (c d : List ℕ) → 2 ≤ length c → gap-start (c ++ d) ≡ gap-start c
 gap-start-append c d h = rw (take-append-le 2 c d h)
@@ -51,10 +52,6 @@ says-append e c d h l =
     (λ g.
     let long : 8 < length c = omega (arith, rw g at h, entry-size-least e (getD c 8 0)) in
     rw (gap-start-append c d (omega arith), g) (rw (List·getD-append c d 0 8 long)))
-
--- the records' bytes end to end
-abbrev pub join : List Rec → List ℕ
-join rs = joined (λ (r : Rec). r .raw) rs
 
 -- whole records, laid end to end from offset o on
 abbrev pub Laid : Edition → ℕ → List Rec → Type 0

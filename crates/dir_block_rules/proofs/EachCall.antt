@@ -2,13 +2,13 @@
 -- Assumes nothing.
 use Prim.Native.Nat.{ℕ, _+_, _^_, _≤_, _<_}
 use native.Mathlib.Omega.{arith}
-use native.Mathlib.Nat.{le-refl, le-trans}
+use native.Mathlib.Nat.{le-trans}
 use mathlib.Core.Bool.{Bool, true, false, not, _&&_, cond, false≢true, Bool·beq}
 use mathlib.Core.Path.{_≡_, refl, sym, _∙_, ap, ap₂, subst}
 use mathlib.Core.List.{List, _∷_}
 use lib.Dec.{eqb, leb}
 use lib.ListN.{length}
-use borrow.Author.Tests.{eqb-true, not-true, leb-true, le-leb, leb-false}
+use borrow.Author.Tests.{eqb-true, not-true, le-leb, leb-false}
 use Rattle.refusal.specs.Refusal.{ASKED, FIXED, ABSENT, EXISTS, NOROOM}
 use Rattle.be.specs.Codes.{_unless_then_}
 use Rattle.be.proofs.Codes.{passes}
@@ -25,7 +25,7 @@ use Rattle.dir_block_rules.specs.Record.{Rec, size, entries, gaps, name}
 use Rattle.dir_block_rules.specs.Block.{records, stale-of}
 use Rattle.dir_block_rules.specs.Verdict.{Accepted, names-ok, name-ok, entry-stands}
 use Rattle.dir_block_rules.specs.Lookup.{lookup, lookup-refusal, sought, target-at}
-use Rattle.dir_block_rules.specs.Room.{some-stale, room-of, longest, has-room}
+use Rattle.dir_block_rules.specs.Room.{some-stale, room-of, has-room}
 use Rattle.dir_block_rules.specs.Change.{insert-writes, insert-code, insert-bytes, remove-writes, remove-code, remove-bytes}
 use Rattle.dir.specs.Calls.{done-or, Call, look-up, insert, remove, found, done, refuse, call-name}
 use Rattle.dir_block_rules.specs.Calls.{reply, after, book-of}
@@ -35,7 +35,6 @@ use Rattle.dir_block_rules.specs.Demand.{Reuse, Call-right, book-next}
 use Rattle.be.proofs.Bools.{and-left, and-right, by-cases, clash}
 use Rattle.be.proofs.Splits.{Split, some-split, some-at, every-at}
 use Rattle.name.proofs.Same.{same-eq, same-name-refl}
-use Rattle.dir_block_rules.proofs.BestTable.{longest-every}
 use Rattle.dir_block_rules.proofs.AcceptedParts.{good-of}
 use Rattle.dir_block_rules.proofs.PartsAddUp.{adds-up}
 use Rattle.dir.proofs.Books.{holds-same, first-named, First-named}
@@ -73,16 +72,6 @@ keeps false x = refl
 
 pub refused-not-done : (k : ℕ) → eqb k 0 ≡ false → is-done (done-or k) ≡ false
 refused-not-done k h = rw h refl
-
--- the longest gap is at least as long as any
-pub longest-least : (gs : List Rec) (t : Split gs) (n : ℕ) → n ≤ size (t .here) → n ≤ size (longest gs)
-longest-least gs t n h =
-    by-cases (leb n (size (longest gs))) (λ q. leb-true n (size (longest gs)) q)
-    (λ q. let l : size (longest gs) < n = leb-false n (size (longest gs)) q in
-    let e : every (λ r. leb (size r) (size (longest gs))) gs ≡ true = longest-every gs (size (longest gs)) (le-refl (size (longest gs))) in
-    let m : leb (size (t .here)) (size (longest gs)) ≡ true =
-    every-at (λ r. leb (size r) (size (longest gs))) (t .before) (t .here) (t .behind) (subst (λ (z : List Rec). every (λ r. leb (size r) (size (longest gs))) z ≡ true) (t .is) e) in
-    absurd (omega (arith, leb-true (size (t .here)) (size (longest gs)) m)))
 
 module _ (e : Edition) (sane : Sane e) (b : List ℕ) (h : bytes b ≡ true) (a : Accepted e b) where
   -- what the search finds is what the book holds
@@ -208,11 +197,14 @@ module _ (e : Edition) (sane : Sane e) (b : List ℕ) (h : bytes b ≡ true) (a 
       (and-left nm h0 (and-left (nm && h0) h1 ns)) m (rw y at q))
 
   -- room by (a) is room
-  room-by-a : (m : List ℕ) → 1 ≤ stale-of b → entry-size e (length m) ≤ size (longest (gaps (records e b))) → has-room e b m ≡ true
+  room-by-a : (m : List ℕ) → 1 ≤ stale-of b → (t : Split (gaps (records e b))) → entry-size e (length m) ≤ size (t .here) → has-room e b m ≡ true
   unfolding has-room room-of
-  room-by-a m s l =
+  room-by-a m s g l =
+      let holds : Rec → Bool = λ r. leb (entry-size e (length m)) (size r) in
+      let f : some-of holds (gaps (records e b)) ≡ true =
+      ap (some-of holds) (g .is) ∙ some-at holds (g .before) (g .here) (g .behind) (le-leb (entry-size e (length m)) (size (g .here)) l) in
       let t : some-stale (room-of e b m) ≡ true = by-cases (some-stale (room-of e b m)) (λ q. q) (λ q. absurd (omega (arith, leb-false))) in
-      rw (t, le-leb (entry-size e (length m)) (size (longest (gaps (records e b)))) l) refl
+      rw (t, f) refl
 
   -- a legal absent name with a legal number goes in where (a) finds room
   goes-in : (m : List ℕ) (i : Target) → legal-name e m ≡ true → legal-target e i ≡ true → holds e m (book-of e b) ≡ false → has-room e b m ≡ true → reply e b (insert m i) ≡ done
@@ -276,7 +268,7 @@ module _ (e : Edition) (sane : Sane e) (b : List ℕ) (h : bytes b ≡ true) (a 
         reuse = λ dn x i xb lg ln hd len.
             goes-in e sane c cb (w .accepted) x i lg ln hd
             (room-by-a e sane c cb (w .accepted) x (omega (arith, w .one-more))
-            (longest-least (gaps (records e c)) (w .gap-split) (entry-size e (length x)) (le-trans (entry-size-mono e (length x) (length n) len) (w .gap-long))));
+            (w .gap-split) (le-trans (entry-size-mono e (length x) (length n) len) (w .gap-long)));
       })
       (λ z. unchanged e sane b h a k m (remove n) an (rw z refl) (refused-is (remove n) an (refused-not-done (remove-code e b n) z))
       (λ dn x i xb lg ln hd len. absurd (clash (ap is-done dn) (refused-not-done (remove-code e b n) z))))

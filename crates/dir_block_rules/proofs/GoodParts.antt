@@ -15,20 +15,21 @@ use Rattle.edition.specs.Edition.{Sane, block-size}
 use Rattle.be.specs.Lists.{every, tally, keep}
 use Rattle.be.specs.Bytes.{be, part, field, put, written}
 use Rattle.edition.specs.declared.Edition.{Edition}
-use Rattle.dir_block_rules.specs.Record.{Rec, size, whole, apart, entries, gaps, is-gap, besides}
+use Rattle.dir_block_rules.specs.Record.{Rec, size, whole, apart, entries, gaps, is-gap, is-entry, besides}
 use Rattle.dir_block_rules.specs.Block.{Slot, slot-bytes, is-stale}
 use Rattle.dir_block_rules.specs.Verdict.{Accepted, Pair, size-ok, magic-ok, span-ok, names-ok, numbers-ok, best-pairs, pairs-in, once-ok}
-use Rattle.dir_block_rules.specs.Room.{longest}
-use Rattle.dir_block_rules.specs.Change.{best-of, best-table, pair-bytes, with-best, sealed}
+use Rattle.dir_block_rules.specs.Change.{longest, best-of, best-table, pair-bytes, with-best, sealed}
 use Rattle.be.proofs.Bools.{and-left, and-right, and-both, by-cases, every-head, every-tail, every-cons, every-keep}
 use Rattle.be.proofs.Parts.{piece, part-part}
 use Rattle.be.proofs.Numbers.{length-to-be}
 use Rattle.be.proofs.Writes.{put-inside, length-put, part-before, part-inside}
 use Rattle.dir_block_rules.proofs.CutJoin.{join, Laid, →whole}
 use Rattle.dir_block_rules.proofs.BlockParts.{build, Fit, tail-bytes, build-records, build-slots, build-stale, build-count, length-build}
-use Rattle.dir_block_rules.proofs.Acceptance.{accepted, tile-both}
+use Rattle.dir_block_rules.proofs.Acceptance.{accepted}
+use Rattle.dir_block_rules.proofs.WholeRecords.{tile-both}
 use Rattle.dir_block_rules.proofs.BestTable.{best-of-right, PairsFit, pairs-in-bytes}
 use Rattle.dir_block_rules.proofs.IndexedEntries.{Indexed, →indexed}
+use Rattle.dir_block_rules.proofs.RecordPlaces.{apart-keep}
 use Rattle.dir_block_rules.proofs.Sealing.{Seals, seals}
 
 pub record Good (e : Edition) (rs : List Rec) (ss : List Slot) (st : ℕ) : Type 0 where
@@ -142,10 +143,10 @@ module _ (e : Edition) (sane : Sane e) (hd : List ℕ) (rs : List Rec) (ss : Lis
         size = sz;
         magic = good-magic;
         span = good-span;
-        tile = rw (build-records e hd rs ss st f) (tile-both e rs (laid-every e (e .header) rs (f .laid)) (g .gaps-apart));
+        tile = tile-both e (build hd rs ss st) (rw (build-records e hd rs ss st f) (laid-every e (e .header) rs (f .laid))) (rw (build-records e hd rs ss st f) (g .gaps-apart));
         names = rw (build-records e hd rs ss st f) (g .names);
         numbers = rw (build-records e hd rs ss st f) (g .numbers);
-        index = rw (build-records e hd rs ss st f, build-slots e hd rs ss st f, build-stale e hd rs ss st f) (→indexed e rs ss st (g .index));
+        index = rw (build-records e hd rs ss st f, build-slots e hd rs ss st f, build-stale e hd rs ss st f) (→indexed e rs ss st (apart-keep e is-entry (e .header) rs (omega (arith, sane .magic-before, sane .best-inside)) (f .laid)) (g .index));
         best = rw (build-records e hd rs ss st f, good-pairs) (best-of-right 3 (gaps rs));
         once = rw (build-records e hd rs ss st f) (g .once);
       })

@@ -1,24 +1,24 @@
--- The index stays right with one entry and its slot more, by whichever slots the room rule keeps.
+-- INDEX, by counts; and it stays right with one entry and its slot more, by whichever slots the room rule keeps.
 -- Assumes nothing.
-use Prim.Native.Nat.{ℕ, _+_, _-_, _/_, _≤_, _<_}
+use Prim.Native.Nat.{ℕ, _+_, _-_, _/_, _<_}
 use native.Mathlib.Omega.{arith}
 use mathlib.Core.Bool.{Bool, true, false, not, _&&_, cond}
-use mathlib.Core.Path.{_≡_, refl, _∙_, ap}
+use mathlib.Core.Path.{_≡_, refl, sym, _∙_, ap}
 use mathlib.Core.List.{List, [], _∷_, _++_, map}
 use lib.Dec.{eqb}
 use lib.ListN.{length}
 use borrow.Author.Tests.{eqb-true, eq-eqb, ne-eqb, not-true}
-use Rattle.be.specs.Lists.{every, tally, total, keep, without-first}
+use Rattle.be.specs.Lists.{every, some-of, tally, total, keep, without-first}
 use Rattle.edition.specs.declared.Edition.{Edition}
 use Rattle.name.specs.Name.{hash-of}
 use Rattle.dir_block_rules.specs.Record.{Rec, name, entries}
 use Rattle.dir_block_rules.specs.Block.{Slot, slot, is-stale, is-live}
-use Rattle.dir_block_rules.specs.Verdict.{index-ok, has-slot, rising}
+use Rattle.dir_block_rules.specs.Verdict.{index-ok, has-slot, stale-or-owned, rising}
 use Rattle.dir_block_rules.specs.Change.{insert-slot}
-use Rattle.be.proofs.Bools.{and-left, and-right, and-both, by-cases, clash, every-head, every-tail, every-cons}
+use Rattle.be.proofs.Bools.{and-left, and-right, and-both, and-true, and-false, by-cases, clash, every-head, every-tail, every-cons}
 use Rattle.dir_block_rules.proofs.SlotOrder.{From, rising-from, from-rising, insert-from, tally-insert, drop-first-from, keep-from}
-use Rattle.dir_block_rules.proofs.SlotCounts.{Apart, at-addr, pigeon}
-use Rattle.be.proofs.Splits.{every-mid, length-mid}
+use Rattle.dir_block_rules.proofs.SlotCounts.{Apart, at-addr, pigeon, counted, hit-live, live-all, tally-le}
+use Rattle.be.proofs.Splits.{every-mid, some-map, length-mid}
 
 -- what index-ok says of the entries as
 pub record Indexed (e : Edition) (es : List Rec) (ss : List Slot) (n : ℕ) : Type 0 where
@@ -26,31 +26,6 @@ pub record Indexed (e : Edition) (es : List Rec) (ss : List Slot) (n : ℕ) : Ty
   pub stales : tally is-stale ss ≡ n
   pub lives : tally is-live ss ≡ length es
   pub each : every (has-slot e ss) es ≡ true
-
-pub indexed : (e : Edition) (rs : List Rec) (ss : List Slot) (n : ℕ) → index-ok e rs ss n ≡ true → Indexed e (entries rs) ss n
-unfolding index-ok
-indexed e rs ss n h =
-    let a : Bool = rising ss in
-    let b : Bool = eqb (tally is-stale ss) n in
-    let c : Bool = eqb (tally is-live ss) (length (entries rs)) in
-    let d : Bool = every (has-slot e ss) (entries rs) in
-    record {
-      order = rising-from ss (and-left a b (and-left (a && b) c (and-left (a && b && c) d h)));
-      stales = eqb-true (tally is-stale ss) n (and-right a b (and-left (a && b) c (and-left (a && b && c) d h)));
-      lives = eqb-true (tally is-live ss) (length (entries rs)) (and-right (a && b) c (and-left (a && b && c) d h));
-      each = and-right (a && b && c) d h;
-    }
-
-pub →indexed : (e : Edition) (rs : List Rec) (ss : List Slot) (n : ℕ) → Indexed e (entries rs) ss n → index-ok e rs ss n ≡ true
-unfolding index-ok
-→indexed e rs ss n i =
-    let a : Bool = rising ss in
-    let b : Bool = eqb (tally is-stale ss) n in
-    let c : Bool = eqb (tally is-live ss) (length (entries rs)) in
-    let d : Bool = every (has-slot e ss) (entries rs) in
-    and-both (a && b && c) d
-    (and-both (a && b) c (and-both a b (from-rising 0 ss (i .order)) (eq-eqb (tally is-stale ss) n (i .stales))) (eq-eqb (tally is-live ss) (length (entries rs)) (i .lives)))
-    (i .each)
 
 -- addresses of entries
 abbrev pub addr-of : Rec → ℕ
@@ -66,6 +41,50 @@ each-one e (r ∷ es) ss h =
     eqb-true (tally (at-addr (addr-of r)) ss) 1
     (and-left (eqb (tally (at-addr (addr-of r)) ss) 1) (eqb (tally (λ s. eqb (s .addr) (r .off / 8) && eqb (s .hash) (hash-of e (name r))) ss) 1) q) in
     rw (one, each-one e es ss (every-tail (has-slot e ss) r es h)) (omega arith)
+
+pick : (a x y z : Bool) → (y ≡ true → x ≡ z) → ((a && y) && x) ≡ ((a && z) && y)
+pick false x y z h = refl
+pick true x true z h = h refl ∙ sym (and-true z)
+pick true x false z h = sym (and-false z)
+
+-- no other slots than the entries' own: the live slots are as many as the entries
+pub index-counts : (e : Edition) (rs : List Rec) (ss : List Slot) (n : ℕ) → Apart (map addr-of (entries rs))
+    → index-ok e rs ss n ≡ (rising ss && eqb (tally is-stale ss) n && eqb (tally is-live ss) (length (entries rs)) && every (has-slot e ss) (entries rs))
+unfolding index-ok
+index-counts e rs ss n a =
+    let es : List Rec = entries rs in
+    let own : Slot → Bool = λ s. some-of (λ r. eqb (s .addr) (r .off / 8)) es in
+    let same : (s : Slot) → some-of (λ c. eqb (s .addr) c) (map addr-of es) ≡ own s = λ s. some-map (λ c. eqb (s .addr) c) addr-of es in
+    pick (rising ss && eqb (tally is-stale ss) n) (every (stale-or-owned es) ss) (every (has-slot e ss) es) (eqb (tally is-live ss) (length es))
+    (λ h. live-all own (λ s q. hit-live (map addr-of es) a s (same s ∙ q)) ss
+    ∙ ap (eqb (tally is-live ss)) (sym (counted own (map addr-of es) a same ss) ∙ each-one e es ss h))
+
+pub indexed : (e : Edition) (rs : List Rec) (ss : List Slot) (n : ℕ) → Apart (map addr-of (entries rs)) → index-ok e rs ss n ≡ true
+    → Indexed e (entries rs) ss n
+indexed e rs ss n ap′ h′ =
+    let a : Bool = rising ss in
+    let b : Bool = eqb (tally is-stale ss) n in
+    let c : Bool = eqb (tally is-live ss) (length (entries rs)) in
+    let d : Bool = every (has-slot e ss) (entries rs) in
+    let h : (a && b && c && d) ≡ true = sym (index-counts e rs ss n ap′) ∙ h′ in
+    record {
+      order = rising-from ss (and-left a b (and-left (a && b) c (and-left (a && b && c) d h)));
+      stales = eqb-true (tally is-stale ss) n (and-right a b (and-left (a && b) c (and-left (a && b && c) d h)));
+      lives = eqb-true (tally is-live ss) (length (entries rs)) (and-right (a && b) c (and-left (a && b && c) d h));
+      each = and-right (a && b && c) d h;
+    }
+
+pub →indexed : (e : Edition) (rs : List Rec) (ss : List Slot) (n : ℕ) → Apart (map addr-of (entries rs)) → Indexed e (entries rs) ss n
+    → index-ok e rs ss n ≡ true
+→indexed e rs ss n ap′ i =
+    let a : Bool = rising ss in
+    let b : Bool = eqb (tally is-stale ss) n in
+    let c : Bool = eqb (tally is-live ss) (length (entries rs)) in
+    let d : Bool = every (has-slot e ss) (entries rs) in
+    index-counts e rs ss n ap′
+    ∙ and-both (a && b && c) d
+    (and-both (a && b) c (and-both a b (from-rising 0 ss (i .order)) (eq-eqb (tally is-stale ss) n (i .stales))) (eq-eqb (tally is-live ss) (length (entries rs)) (i .lives)))
+    (i .each)
 
 -- no slot stands at an address that is no entry's
 pub no-stray : (e : Edition) (es : List Rec) (ss : List Slot) (n c : ℕ) → Indexed e es ss n → Apart (c ∷ map addr-of es)
@@ -104,13 +123,6 @@ addr-live a h s q = rw (ne-eqb (s .addr) 0 (λ (z : s .addr ≡ 0). omega (arith
 
 both-live : (a g : ℕ) → 0 < a → (s : Slot) → at-both a g s ≡ true → is-live s ≡ true
 both-live a g h s q = addr-live a h s (and-left (eqb (s .addr) a) (eqb (s .hash) g) q)
-
-pub tally-le : (p q : Slot → Bool) → ((s : Slot) → p s ≡ true → q s ≡ true) → (ss : List Slot) → tally p ss ≤ tally q ss
-tally-le p q f [] = omega arith
-tally-le p q f (s ∷ ss) =
-    by-cases (p s)
-    (λ h. rw (h, f s h) (omega (arith, tally-le p q f ss)))
-    (λ h. rw h (omega (arith, tally-le p q f ss)))
 
 -- a new entry x with its new slot: the index is right again
 module _ (e : Edition) (x : Rec) (ss ts : List Slot) (m : ℕ) (k : Kept ss ts m) where

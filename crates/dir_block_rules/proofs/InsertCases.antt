@@ -8,7 +8,7 @@ use mathlib.Core.List.{List, [], _∷_, _++_, append-assoc, append-nil}
 use lib.Dec.{eqb, leb}
 use lib.ListN.{length, take, length-append, length-take}
 use borrow.Author.Tests.{leb-true, eqb-true, eqb-false, not-true}
-use Rattle.be.specs.Lists.{keep, without-first}
+use Rattle.be.specs.Lists.{some-of, keep, without-first}
 use Rattle.be.specs.Bytes.{bytes, Write}
 use Rattle.edition.specs.declared.Edition.{Edition}
 use Rattle.edition.specs.Edition.{entry-size, Sane}
@@ -18,13 +18,14 @@ use Rattle.dir.specs.Target.{kept-of}
 use Rattle.dir_block_rules.specs.Record.{target-of, gap-writes, Rec, rec, size, is-gap, entries, gaps, name, besides}
 use Rattle.dir_block_rules.specs.Block.{Slot, slot, slot-bytes, records, slots, stale-of, data-end, is-stale, is-live}
 use Rattle.dir_block_rules.specs.Verdict.{Accepted, best-pairs}
-use Rattle.dir_block_rules.specs.Room.{some-stale, Room, room-of, longest, last-of, touching, case-a, case-b, case-c, case-d, has-room}
-use Rattle.dir_block_rules.specs.Change.{changed, entry-writes, index-writes, insert-slot, writes-a, writes-b, writes-c, writes-d, insert-writes, best-table}
+use Rattle.dir_block_rules.specs.Room.{some-stale, Room, room-of, last-of, touching, case-a, case-b, case-c, case-d, has-room}
+use Rattle.dir_block_rules.specs.Change.{longest, changed, entry-writes, index-writes, insert-slot, writes-a, writes-b, writes-c, writes-d, insert-writes, best-table}
 use Rattle.be.proofs.Bools.{and-left, and-right, by-cases}
 use Rattle.edition.proofs.Sizes.{entry-size-least}
 use Rattle.dir_block_rules.proofs.CutJoin.{join, Laid, laid-back}
 use Rattle.dir_block_rules.proofs.BlockParts.{length-slot-bytes}
 use Rattle.be.proofs.Splits.{Split}
+use Rattle.dir_block_rules.proofs.BestTable.{longest-holds}
 use Rattle.dir_block_rules.proofs.GoodParts.{tally-length}
 use Rattle.dir.proofs.FileTypes.{target-type}
 use Rattle.dir_block_rules.proofs.EntryMore.{entry-name, entry-target}
@@ -111,12 +112,19 @@ module _ (e : Edition) (sane : Sane e) (b : List ℕ) (h : bytes b ≡ true) (a 
   need : ℕ
   need = entry-size e (length n)
 
+  abbrev holds : Rec → Bool
+  holds g = leb (entry-size e (length n)) (size g)
+
+  longest-long : (gs : List Rec) → some-of holds gs ≡ true → entry-size e (length n) ≤ size (longest gs)
+  longest-long gs q =
+      leb-true (entry-size e (length n)) (size (longest gs)) (sym (longest-holds (entry-size e (length n)) gs (omega (arith, entry-size-least e (length n)))) ∙ q)
+
   by-a : case-a (room-of e b n) ≡ true → Inserted e b n i (changed e b (writes-a e b n i (room-of e b n)))
   unfolding room-of writes-a
   by-a q =
       let G : List Rec = gaps (records e b) in
-      let s : 1 ≤ stale-of b = stale-least (room-of e b n) (and-left (some-stale (room-of e b n)) (leb (entry-size e (length n)) (size (longest G))) q) in
-      let f : entry-size e (length n) ≤ size (longest G) = leb-true (entry-size e (length n)) (size (longest G)) (and-right (some-stale (room-of e b n)) (leb (entry-size e (length n)) (size (longest G))) q) in
+      let s : 1 ≤ stale-of b = stale-least (room-of e b n) (and-left (some-stale (room-of e b n)) (some-of holds G) q) in
+      let f : entry-size e (length n) ≤ size (longest G) = longest-long G (and-right (some-stale (room-of e b n)) (some-of holds G) q) in
       let t : (t : Split G) × (t .here ≡ longest G) = longest-in G (omega (arith, entry-size-least e (length n))) in
       let g : Rec = t .0 .here in
       let k : Found-in is-gap (records e b) (t .0 .before) g (t .0 .behind) = keep-find is-gap (records e b) (t .0 .before) g (t .0 .behind) (t .0 .is) in
@@ -232,9 +240,9 @@ module _ (e : Edition) (sane : Sane e) (b : List ℕ) (h : bytes b ≡ true) (a 
   by-c q =
       let s : Bool = eqb (stale-of b) 0 in
       let k : Bool = leb 8 (size T) in
-      let f : Bool = leb (entry-size e (length n)) (size (longest (besides (T .off) (gaps (records e b))))) in
+      let f : Bool = some-of holds (besides (T .off) (gaps (records e b))) in
       go-c (touch (data-end b) (records e b)) (eqb-true (stale-of b) 0 (and-left s k (and-left (s && k) f q))) (leb-true 8 (size T) (and-right s k (and-left (s && k) f q)))
-      (leb-true (entry-size e (length n)) (size (longest (besides (T .off) (gaps (records e b))))) (and-right (s && k) f q))
+      (longest-long (besides (T .off) (gaps (records e b))) (and-right (s && k) f q))
 
   -- whichever case holds first
   pub insert-any : has-room e b n ≡ true → Inserted e b n i (changed e b (insert-writes e b n i))

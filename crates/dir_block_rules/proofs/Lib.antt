@@ -1,6 +1,8 @@
+pub mod PlainTests
 pub mod OneMore
 pub mod GapsApart
 pub mod CutJoin
+pub mod WholeRecords
 pub mod SlotOrder
 pub mod SlotCounts
 pub mod IndexedEntries
@@ -32,6 +34,7 @@ pub mod EachCall
 pub mod Demand3
 pub mod LookupRight
 pub mod WholeWalk
+pub mod BestRanked
 pub mod BestAnew
 pub mod Capacity
 pub mod SmallCodes

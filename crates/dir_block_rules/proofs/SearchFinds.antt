@@ -18,8 +18,8 @@ use Rattle.dir_block_rules.specs.Block.{Slot, is-live}
 use Rattle.dir_block_rules.specs.Verdict.{has-slot}
 use Rattle.dir_block_rules.specs.Lookup.{Sought, seek, candidate, match, step-if, name-at}
 use Rattle.be.proofs.Bools.{and-left, and-right, and-both, by-cases, clash}
-use Rattle.dir_block_rules.proofs.SlotCounts.{Apart, at-addr}
-use Rattle.dir_block_rules.proofs.IndexedEntries.{Indexed, Slotted, slotted, addr-of, at-both, no-stray, tally-le}
+use Rattle.dir_block_rules.proofs.SlotCounts.{Apart, at-addr, tally-le}
+use Rattle.dir_block_rules.proofs.IndexedEntries.{Indexed, Slotted, slotted, addr-of, at-both, no-stray}
 use Rattle.be.proofs.Splits.{tally-mid, some-none, Split, some-split, some-at, every-at, tally-split, every-map}
 use Rattle.dir_block_rules.proofs.RecordPlaces.{apart-pos}
 

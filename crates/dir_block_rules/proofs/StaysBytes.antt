@@ -19,8 +19,8 @@ use Rattle.name.specs.Name.{hash-of}
 use Rattle.dir_block_rules.proofs.Sealing.{seals}
 use Rattle.dir_block_rules.specs.Lookup.{sought}
 use Rattle.dir_block_rules.specs.Verdict.{Pair}
-use Rattle.dir_block_rules.specs.Room.{Room, room-of, longest, other-gaps, case-a, case-b, case-c}
-use Rattle.dir_block_rules.specs.Change.{insert-slot, gap-start-before, gap-end-after, best-table, pair-bytes, with-best, changed, index-writes, entry-writes, writes-a, writes-b, writes-c, writes-d, insert-writes, remove-writes}
+use Rattle.dir_block_rules.specs.Room.{Room, room-of, other-gaps, case-a, case-b, case-c}
+use Rattle.dir_block_rules.specs.Change.{longest, insert-slot, gap-start-before, gap-end-after, best-table, pair-bytes, with-best, changed, index-writes, entry-writes, writes-a, writes-b, writes-c, writes-d, insert-writes, remove-writes}
 use Rattle.be.proofs.Bools.{and-both, by-cases, every-append, every-head, every-tail, every-cons}
 
 isb : ℕ → Bool

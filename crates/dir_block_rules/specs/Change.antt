@@ -14,12 +14,17 @@ use Rattle.edition.specs.declared.Edition.{Edition}
 use Rattle.edition.specs.Edition.{entry-size}
 use Rattle.name.specs.Name.{hash-of, legal-name, fixed-name}
 use Rattle.dir.specs.declared.Target.{Target}
-use Rattle.dir_block_rules.specs.Record.{Rec, size, gaps, besides, entry-bytes, gap-writes}
+use Rattle.dir_block_rules.specs.Record.{Rec, rec, size, gaps, besides, entry-bytes, gap-writes}
 use Rattle.dir_block_rules.specs.Block.{records, slots, Slot, slot, slot-bytes, is-stale, is-live, stale-of, data-end}
 use Rattle.dir.specs.Target.{legal-target}
 use Rattle.dir_block_rules.specs.Verdict.{verdict, Pair, pair}
 use Rattle.dir_block_rules.specs.Lookup.{sought}
-use Rattle.dir_block_rules.specs.Room.{Room, room-of, longest, other-gaps, case-a, case-b, case-c, has-room}
+use Rattle.dir_block_rules.specs.Room.{Room, room-of, other-gaps, case-a, case-b, case-c, has-room}
+
+-- the longest of the records, lowest offset on a tie (records stand in offset order); an empty record if there is none
+unfoldable pub longest : List Rec → Rec
+longest [] = rec 0 []
+longest (g ∷ gs) = let m = longest gs in cond (leb (size m) (size g)) g m
 
 -- BEST, as a change writes it: the k longest gaps, longest first, lower offset first among equals, then zeros
 unfoldable pub best-of : ℕ → List Rec → List Pair

@@ -2,24 +2,24 @@
 -- Their proofs: proofs/LookupRight.antt, WholeWalk.antt, BestAnew.antt, SlotOrder.antt, Capacity.antt.
 -- Assumes nothing.
 use Prim.Native.Nat.{ℕ, suc, _+_, _-_, _/_, _≤_}
-use mathlib.Core.Bool.{Bool, true, false, not, cond, _&&_}
+use mathlib.Core.Bool.{Bool, true, false, not, cond, _&&_, _||_}
 use mathlib.Core.Path.{_≡_}
 use mathlib.Core.List.{List, [], _∷_, _++_, map}
-use lib.Dec.{leb, ltb}
-use lib.ListN.{length}
+use lib.Dec.{eqb, leb, ltb}
+use lib.ListN.{length, take, drop}
 use Rattle.refusal.specs.Refusal.{ASKED, ABSENT}
-use Rattle.be.specs.Lists.{some-of, keep}
+use Rattle.be.specs.Lists.{every, some-of, keep}
 use Rattle.be.specs.Bytes.{bytes, part}
 use Rattle.edition.specs.declared.Edition.{Edition}
 use Rattle.name.specs.Name.{legal-name, same-name}
 use Rattle.dir.specs.declared.Looked.the-variants.{Found, Absent}
 use Rattle.dir.specs.declared.Walked.the-variants.{Stepped, Refused}
-use Rattle.dir_block_rules.specs.Record.{Rec, is-gap, entries, gaps, name, target-of, tag}
+use Rattle.dir_block_rules.specs.Record.{Rec, size, is-gap, entries, gaps, name, target-of, tag}
 use Rattle.dir_block_rules.specs.Block.{records, data-end, Slot}
-use Rattle.dir_block_rules.specs.Verdict.{Accepted, rising, best-pairs}
+use Rattle.dir_block_rules.specs.Verdict.{Accepted, rising, Pair, pair, best-pairs, zero-pair, is-gap-of}
 use Rattle.dir.specs.Answers.{looked-code}
 use Rattle.dir_block_rules.specs.Lookup.{lookup, names-compared}
-use Rattle.dir_block_rules.specs.Change.{best-table, insert-slot}
+use Rattle.dir_block_rules.specs.Change.{insert-slot}
 use Rattle.dir.specs.Calls.{Call, done}
 use Rattle.dir_block_rules.specs.Calls.{reply, after}
 use Rattle.dir.specs.Along.{call-bytes}
@@ -59,11 +59,39 @@ pub record Walks (e : Edition) (b : List ℕ) : Type 0 where
 unfoldable pub Walk-right : Edition → Type 0
 Walk-right e = (b : List ℕ) → bytes b ≡ true → Accepted e b → Walks e b
 
--- every change writes the pairs anew: the longest gaps of what it leaves, longest first, lower offset first among equals
+-- p comes before q in the best-gap table: longer, or as long and at a lower offset
+abbrev pub ahead : Pair → Pair → Bool
+ahead p q = ltb (q .long) (p .long) || (eqb (p .long) (q .long) && ltb (p .from) (q .from))
+
+-- each pair comes before the next
+unfoldable pub ranked : List Pair → Bool
+ranked [] = true
+ranked (p ∷ []) = true
+ranked (p ∷ q ∷ ps) = ahead p q && ranked (q ∷ ps)
+
+-- the pairs that are needed: as many as there are gaps, or all
+abbrev pub needed-pairs : List Rec → List Pair → List Pair
+needed-pairs gs ps = take (length gs) ps
+
+-- a gap is in the table, or comes after each pair of it
+abbrev pub in-or-behind : List Pair → Rec → Bool
+in-or-behind ps g = some-of (λ p. is-gap-of p g) ps || every (λ p. ahead p (pair (g .off) (size g))) ps
+
+-- the header's pairs ps, as a change leaves them in a block with gaps gs
+pub record Best-written (ps : List Pair) (gs : List Rec) : Type 0 where
+  -- the needed pairs are gaps, longest first, lower offset first among equals
+  pub are-gaps : every (λ p. some-of (is-gap-of p) gs) (needed-pairs gs ps) ≡ true
+  pub longest-first : ranked (needed-pairs gs ps) ≡ true
+  -- they are the longest: any other gap comes after them
+  pub others-behind : every (in-or-behind (needed-pairs gs ps)) gs ≡ true
+  -- unneeded pairs are zero
+  pub others-zero : every zero-pair (drop (length gs) ps) ≡ true
+
+-- every change writes the pairs anew
 unfoldable pub Best-right : Edition → Type 0
 Best-right e =
     (b : List ℕ) (c : Call) → bytes b ≡ true → Accepted e b → call-bytes c ≡ true → reply e b c ≡ done
-    → best-pairs e (after e b c) ≡ best-table (gaps (records e (after e b c)))
+    → Best-written (best-pairs e (after e b c)) (gaps (records e (after e b c)))
 
 -- the new slot stands after all slots with an equal or lower hash, and before all with a higher one
 unfoldable pub Slot-right : Type 0

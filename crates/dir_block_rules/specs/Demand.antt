@@ -20,13 +20,14 @@ use Rattle.dir_block_rules.specs.Calls.{reply, after, book-of}
 use Rattle.dir.specs.Book.{Book, holds, book-reply, book-after, SameBook}
 use Rattle.dir.specs.Along.{call-bytes, Along}
 
--- right after a removal that is done, any legal absent name that is no longer than the removed one goes in with any legal number and type
-unfoldable pub Reuse : Edition → List ℕ → Call → Reply → Type 0
-Reuse e b (look-up n) r = Unit {0}
-Reuse e b (insert n i) r = Unit {0}
-Reuse e b (remove n) r =
-    r ≡ done → (m : List ℕ) (i : Target) → bytes m ≡ true → legal-name e m ≡ true → legal-target e i ≡ true
-    → holds e m (book-of e b) ≡ false → length m ≤ length n → reply e b (insert m i) ≡ done
+-- right after a removal that is done, any legal absent name that is no longer than the removed one goes in with any legal number and type:
+-- `left` is the block that call c left, and `answer` what it replied
+unfoldable pub Reuse : (e : Edition) (left : List ℕ) (c : Call) (answer : Reply) → Type 0
+Reuse e left (look-up n) answer = Unit {0}
+Reuse e left (insert n i) answer = Unit {0}
+Reuse e left (remove n) answer =
+    answer ≡ done → (m : List ℕ) (i : Target) → bytes m ≡ true → legal-name e m ≡ true → legal-target e i ≡ true
+    → holds e m (book-of e left) ≡ false → length m ≤ length n → reply e left (insert m i) ≡ done
 
 -- one call c on block b, with book k
 pub record Call-right (e : Edition) (k : Book) (b : List ℕ) (c : Call) : Type 0 where

@@ -7,6 +7,7 @@ use lib.Dec.{eqb, leb}
 use lib.ListN.{length, take, drop, replicate}
 use Rattle.be.specs.Lists.{keep}
 use Rattle.be.specs.Bytes.{be, to-be, byte, field, part, Write, write}
+use Rattle.records.specs.Records.{joined}
 use Rattle.edition.specs.declared.Edition.{Edition}
 use Rattle.dir.specs.declared.Target.{Target}
 use Rattle.edition.specs.Edition.{entry-size}
@@ -59,10 +60,9 @@ name r = part 9 (namelen r) (r .raw)
 abbrev pub tag : Rec → ℕ
 tag r = be (drop (size r - 2) (r .raw))
 
--- 5 TILE: as long as it says, a multiple of 8 and at least 8 long, and the tag is its own offset
-unfoldable pub whole : Edition → Rec → Bool
-whole e r =
-    eqb (size r) (says e (r .raw)) && leb 8 (size r) && eqb (size r % 8) 0 && eqb (tag r) (r .off)
+-- 5 TILE: a record is a multiple of 8 and at least 8 long (an entry is so by E), and its tag is its own offset
+unfoldable pub record-ok : Rec → Bool
+record-ok r = leb 8 (size r) && eqb (size r % 8) 0 && eqb (tag r) (r .off)
 
 -- 5 TILE: no two gaps touch
 unfoldable pub apart : List Rec → Bool
@@ -100,3 +100,13 @@ entry-bytes e o t n =
 unfoldable pub gap-writes : ℕ → ℕ → List Write
 gap-writes o zero = []
 gap-writes o (suc n) = write o (0xff ∷ 0xff ∷ to-be 2 (suc n)) ∷ write (o + suc n - 2) (to-be 2 o) ∷ []
+
+-- ---- for code and proofs alone: no public promise cites these
+
+-- the records' bytes end to end
+abbrev pub join : List Rec → List ℕ
+join rs = joined (λ (r : Rec). r .raw) rs
+
+-- a record that is as long as it says, and right. Records that are all so fill the data: proofs/WholeRecords.antt
+unfoldable pub whole : Edition → Rec → Bool
+whole e r = eqb (size r) (says e (r .raw)) && record-ok r

@@ -5,15 +5,11 @@ use mathlib.Core.Bool.{Bool, cond, _&&_, _||_}
 use mathlib.Core.List.{List, [], _∷_}
 use lib.Dec.{eqb, leb}
 use lib.ListN.{length}
+use Rattle.be.specs.Lists.{some-of}
 use Rattle.edition.specs.declared.Edition.{Edition}
 use Rattle.edition.specs.Edition.{entry-size}
 use Rattle.dir_block_rules.specs.Record.{Rec, rec, size, is-gap, gaps, besides}
 use Rattle.dir_block_rules.specs.Block.{records, data-end, stale-of}
-
--- the longest of the records, lowest offset on a tie (records stand in offset order); an empty record if there is none
-unfoldable pub longest : List Rec → Rec
-longest [] = rec 0 []
-longest (g ∷ gs) = let m = longest gs in cond (leb (size m) (size g)) g m
 
 -- the last record, or an empty record at o
 unfoldable pub last-of : ℕ → List Rec → Rec
@@ -51,7 +47,7 @@ some-stale m = leb 1 (m .stale)
 
 -- (a) s ≥ 1 and some gap is at least E
 abbrev pub case-a : Room → Bool
-case-a m = some-stale m && leb (m .needed) (size (longest (m .all-gaps)))
+case-a m = some-stale m && some-of (λ g. leb (m .needed) (size g)) (m .all-gaps)
 
 -- (b) s ≥ 1 and T + 8 × (s - 1) is at least E
 abbrev pub case-b : Room → Bool
@@ -59,7 +55,7 @@ case-b m = some-stale m && leb (m .needed) (size (m .last-gap) + 8 * (m .stale -
 
 -- (c) s = 0, T ≥ 8 and a gap other than T is at least E
 abbrev pub case-c : Room → Bool
-case-c m = eqb (m .stale) 0 && leb 8 (size (m .last-gap)) && leb (m .needed) (size (longest (other-gaps m)))
+case-c m = eqb (m .stale) 0 && leb 8 (size (m .last-gap)) && some-of (λ g. leb (m .needed) (size g)) (other-gaps m)
 
 -- (d) s = 0 and T is at least E + 8
 abbrev pub case-d : Room → Bool

@@ -3,7 +3,7 @@
 use Prim.Native.Nat.{ℕ, _+_, _-_, _/_}
 use mathlib.Core.Bool.{true, cond}
 use mathlib.Core.Path.{_≡_, refl}
-use mathlib.Core.List.{List, [], _∷_, _++_}
+use mathlib.Core.List.{List, [], _∷_, _++_, map}
 use lib.ListN.{replicate}
 use Rattle.be.specs.Lists.{every}
 use Rattle.be.specs.Bytes.{be, be-from, to-be, put, written, write}
@@ -13,13 +13,79 @@ use Rattle.name.specs.Name.{legal-name, legal-number, hash-of, hash-from, hash-
 use Rattle.name.specs.Starred.{Row, row, right, hash-rows}
 use Rattle.dir.specs.declared.Target.{Target}
 use Rattle.dir.specs.Target.{target, legal-target, legal-type}
-use Rattle.dir_block_rules.specs.Record.{Rec, pad, says, cut, whole, apart, size, gaps, entry-bytes, gap-writes}
+use Rattle.dir_block_rules.specs.Record.{pad, says, cut, record-ok, apart, size, gaps, entry-bytes, gap-writes}
 use Rattle.dir_block_rules.specs.Block.{records, slots, slots-in, slot, slot-bytes, count-of, stale-of, data-end}
-use Rattle.dir_block_rules.specs.Verdict.{best-pairs, pairs-in, verdict, size-ok, magic-ok, span-ok, tile-ok, names-ok, numbers-ok, number-fits, own-in, index-ok, rising, best-ok, once-ok}
+use Rattle.dir_block_rules.specs.Verdict.{best-pairs, pairs-in, verdict, size-ok, magic-ok, span-ok, fills, tile-ok, names-ok, numbers-ok, number-fits, own-in, index-ok, rising, best-ok, once-ok}
 use Rattle.dir.specs.Answers.{looked-code, looked-target, looked-compared}
 use Rattle.dir_block_rules.specs.Lookup.{seek, sought, up-to, names-compared, lookup, lookup-refusal}
-use Rattle.dir_block_rules.specs.Room.{longest, last-of, touching, room-of, has-room, case-a, case-b}
-use Rattle.dir_block_rules.specs.Change.{pair-bytes, best-of, with-best, sealed, changed, index-writes, insert-slot, writes-a, writes-b, writes-c, writes-d, insert-writes, insert-code, insert-bytes, gap-start-before, gap-end-after, remove-writes, remove-code, remove-bytes}
+use Rattle.dir_block_rules.specs.Room.{last-of, touching, room-of, has-room, case-a, case-b}
+use Rattle.dir_block_rules.specs.Change.{longest, pair-bytes, best-of, with-best, sealed, changed, index-writes, insert-slot, writes-a, writes-b, writes-c, writes-d, insert-writes, insert-code, insert-bytes, gap-start-before, gap-end-after, remove-writes, remove-code, remove-bytes}
+
+-- ---- the columns of the rows about blocks
+
+-- a gap: where it stands, and how long it is
+pub record Extent : Type 0 where
+  pub offset : ℕ
+  pub long : ℕ
+
+abbrev pub gap-at : ℕ → ℕ → Extent
+gap-at o n = record { offset = o; long = n }
+
+-- a block: its verdict (0: accepted), the tail's count and stale, and its gaps
+pub record Shape : Type 0 where
+  pub verdict : ℕ
+  pub count : ℕ
+  pub stale : ℕ
+  pub gaps : List Extent
+
+-- a lookup: its number, the inode number, the names compared, and the offset of the entry found
+pub record Answer : Type 0 where
+  pub number : ℕ
+  pub inode : ℕ
+  pub compared : ℕ
+  pub offset : ℕ
+
+-- an insert: its number, and the block that it leaves
+pub record Insertion : Type 0 where
+  pub number : ℕ
+  pub leaves : Shape
+
+-- what the definitions give
+unfoldable pub shape : List ℕ → Shape
+shape b = record { verdict = verdict v4 b; count = count-of b; stale = stale-of b; gaps = map (λ g. gap-at (g .off) (size g)) (gaps (records v4 b)) }
+
+unfoldable pub answer : List ℕ → List ℕ → Answer
+answer b n =
+    let a = lookup v4 b n in
+    record { number = looked-code a; inode = looked-target a .inode; compared = looked-compared a; offset = sought v4 b n .at }
+
+unfoldable pub inserted : List ℕ → List ℕ → Insertion
+inserted b n = record { number = insert-code v4 b n (target 150 0); leaves = shape (insert-bytes v4 b n (target 150 0)) }
+
+-- the columns in a row
+unfoldable pub gap-columns : List Extent → List ℕ
+gap-columns [] = []
+gap-columns (g ∷ gs) = g .offset ∷ g .long ∷ gap-columns gs
+
+abbrev pub shape-columns : Shape → List ℕ
+shape-columns s = s .verdict ∷ s .count ∷ s .stale ∷ gap-columns (s .gaps)
+
+abbrev pub shape-row : Shape → Shape → Row
+shape-row computed stated = row (shape-columns computed) (shape-columns stated)
+
+abbrev pub answer-columns : Answer → List ℕ
+answer-columns a = a .number ∷ a .inode ∷ a .compared ∷ a .offset ∷ []
+
+abbrev pub answer-row : Answer → Answer → Row
+answer-row computed stated = row (answer-columns computed) (answer-columns stated)
+
+abbrev pub insert-columns : Insertion → List ℕ
+insert-columns i = i .number ∷ shape-columns (i .leaves)
+
+abbrev pub insert-row : Insertion → Insertion → Row
+insert-row computed stated = row (insert-columns computed) (insert-columns stated)
+
+-- ---- the cases
 
 -- a block of n bytes that holds only "." and "..", both with target i
 unfoldable pub fresh : Edition → ℕ → Target → List ℕ
@@ -29,25 +95,6 @@ fresh e n i =
     ∷ write (e .header + 16) (entry-bytes e (e .header + 16) i dotdot)
     ∷ gap-writes (e .first) (n - 24 - e .first)
     ++ index-writes n (slot (hash-of e dot) (e .header / 8) ∷ slot (hash-of e dotdot) ((e .header + 16) / 8) ∷ []) 0))
-
--- offset and length of each record in turn
-unfoldable pub spans : List Rec → List ℕ
-spans [] = []
-spans (r ∷ rs) = r .off ∷ size r ∷ spans rs
-
--- what a case states of a block: the verdict, count, stale, and the gaps
-unfoldable pub shape : List ℕ → List ℕ
-shape b = verdict v4 b ∷ count-of b ∷ stale-of b ∷ spans (gaps (records v4 b))
-
--- what a lookup answers: number, inode number, names compared; and where the entry stands
-unfoldable pub answer : List ℕ → List ℕ → List ℕ
-answer b n =
-    let a = lookup v4 b n in
-    looked-code a ∷ looked-target a .inode ∷ looked-compared a ∷ sought v4 b n .at ∷ []
-
--- what an insert of n answers, and the block it leaves
-unfoldable pub inserted : List ℕ → List ℕ → List ℕ
-inserted b n = insert-code v4 b n (target 150 0) ∷ shape (insert-bytes v4 b n (target 150 0))
 
 -- names: "a", and k bytes "b" or "c"
 abbrev pub a₁ : List ℕ
@@ -82,30 +129,37 @@ full = insert-bytes v4 (insert-bytes v4 c4 a₁ (target 141 0)) (cs 117) (target
 unfoldable pub c5 : List ℕ
 c5 = remove-bytes v4 (remove-bytes v4 full a₁) (cs 117)
 
--- the first case of the room rule that holds, (a) or (b): 1 or 2, else 0
+-- the first case of the room rule that holds: (a), (b), or another
+abbrev pub by-a : ℕ
+by-a = 1
+
+abbrev pub by-b : ℕ
+by-b = 2
+
 unfoldable pub by-case : List ℕ → List ℕ → ℕ
-by-case b n = cond (case-a (room-of v4 b n)) 1 (cond (case-b (room-of v4 b n)) 2 0)
+by-case b n = cond (case-a (room-of v4 b n)) by-a (cond (case-b (room-of v4 b n)) by-b 0)
 
 -- C1 to C5: what the definitions give, and what the paper states; a refused insert leaves the block as it was
 unfoldable pub block-rows : List Row
 block-rows =
     -- C1: gap 48, length 440
-    row (shape c1) (0 ∷ 2 ∷ 0 ∷ 48 ∷ 440 ∷ [])
+    shape-row (shape c1) (record { verdict = 0; count = 2; stale = 0; gaps = gap-at 48 440 ∷ [] })
     -- C2: entry at 48, gap 64 length 416
-    ∷ row (shape c2) (0 ∷ 3 ∷ 0 ∷ 64 ∷ 416 ∷ [])
-    ∷ row (answer c2 a₁) (0 ∷ 131 ∷ 1 ∷ 48 ∷ [])
+    ∷ shape-row (shape c2) (record { verdict = 0; count = 3; stale = 0; gaps = gap-at 64 416 ∷ [] })
+    ∷ answer-row (answer c2 a₁) (record { number = 0; inode = 131; compared = 1; offset = 48 })
     -- C3: gap 48 length 432, count 3, stale 1
-    ∷ row (shape c3) (0 ∷ 3 ∷ 1 ∷ 48 ∷ 432 ∷ [])
-    ∷ row (answer c3 a₁) (13 ∷ 0 ∷ 0 ∷ 0 ∷ [])
+    ∷ shape-row (shape c3) (record { verdict = 0; count = 3; stale = 1; gaps = gap-at 48 432 ∷ [] })
+    ∷ answer-row (answer c3 a₁) (record { number = 13; inode = 0; compared = 0; offset = 0 })
     -- C4: a gap of 160; then 141 bytes goes in, 142 is refused
-    ∷ row (shape c4) (0 ∷ 3 ∷ 0 ∷ 320 ∷ 160 ∷ [])
-    ∷ row (inserted c4 (cs 141)) (0 ∷ 0 ∷ 4 ∷ 0 ∷ [])
-    ∷ row (inserted c4 (cs 142)) (15 ∷ 0 ∷ 3 ∷ 0 ∷ 320 ∷ 160 ∷ [])
+    ∷ shape-row (shape c4) (record { verdict = 0; count = 3; stale = 0; gaps = gap-at 320 160 ∷ [] })
+    ∷ insert-row (inserted c4 (cs 141)) (record { number = 0; leaves = record { verdict = 0; count = 4; stale = 0; gaps = [] } })
+    ∷ insert-row (inserted c4 (cs 142)) (record { number = 15; leaves = record { verdict = 0; count = 3; stale = 0; gaps = gap-at 320 160 ∷ [] } })
     -- C5: full; then gap 144, stale 2; 141 bytes goes in by (b), 142 is refused
-    ∷ row (shape full) (0 ∷ 5 ∷ 0 ∷ [])
-    ∷ row (shape c5) (0 ∷ 5 ∷ 2 ∷ 320 ∷ 144 ∷ [])
-    ∷ row (by-case c5 (cs 141) ∷ inserted c5 (cs 141)) (2 ∷ 0 ∷ 0 ∷ 4 ∷ 0 ∷ [])
-    ∷ row (inserted c5 (cs 142)) (15 ∷ 0 ∷ 5 ∷ 2 ∷ 320 ∷ 144 ∷ [])
+    ∷ shape-row (shape full) (record { verdict = 0; count = 5; stale = 0; gaps = [] })
+    ∷ shape-row (shape c5) (record { verdict = 0; count = 5; stale = 2; gaps = gap-at 320 144 ∷ [] })
+    ∷ row (by-case c5 (cs 141) ∷ []) (by-b ∷ [])
+    ∷ insert-row (inserted c5 (cs 141)) (record { number = 0; leaves = record { verdict = 0; count = 4; stale = 0; gaps = [] } })
+    ∷ insert-row (inserted c5 (cs 142)) (record { number = 15; leaves = record { verdict = 0; count = 5; stale = 2; gaps = gap-at 320 144 ∷ [] } })
     ∷ []
 
 -- H1 to H5, and C1 to C5
@@ -113,5 +167,5 @@ unfoldable pub rows : List Row
 rows = hash-rows ++ block-rows
 
 pub starred : every right rows ≡ true
-unfolding rows hash-rows block-rows block-size rol hash-byte hash-from spans shape answer inserted c1 c2 c3 c4 c5 full by-case fresh best-pairs be be-from to-be slots-in slot-bytes pairs-in pair-bytes put written entry-size legal-name legal-number hash-of same-name fixed-name says cut whole apart entry-bytes pad gap-writes records slots count-of stale-of data-end verdict size-ok magic-ok span-ok tile-ok names-ok numbers-ok number-fits own-in legal-target legal-type index-ok rising best-ok once-ok seek sought names-compared up-to lookup lookup-refusal longest last-of touching room-of has-room best-of with-best sealed changed insert-slot writes-a writes-b writes-c writes-d insert-writes insert-code insert-bytes gap-start-before gap-end-after remove-writes remove-code remove-bytes
+unfolding rows hash-rows block-rows block-size rol hash-byte hash-from gap-columns shape answer inserted c1 c2 c3 c4 c5 full by-case fresh best-pairs be be-from to-be slots-in slot-bytes pairs-in pair-bytes put written entry-size legal-name legal-number hash-of same-name fixed-name says cut record-ok apart entry-bytes pad gap-writes records slots count-of stale-of data-end verdict size-ok magic-ok span-ok fills tile-ok names-ok numbers-ok number-fits own-in legal-target legal-type index-ok rising best-ok once-ok seek sought names-compared up-to lookup lookup-refusal longest last-of touching room-of has-room best-of with-best sealed changed insert-slot writes-a writes-b writes-c writes-d insert-writes insert-code insert-bytes gap-start-before gap-end-after remove-writes remove-code remove-bytes
 starred = refl

@@ -1,20 +1,20 @@
 -- The tests of a block, in number order; the first that fails is the answer, 0 if none does.
 -- Assumes nothing.
-use Prim.Native.Nat.{ℕ, zero, suc, _+_, _*_, _/_}
-use mathlib.Core.Bool.{Bool, true, not, cond, _&&_, Bool·beq}
+use Prim.Native.Nat.{ℕ, zero, suc, _+_, _-_, _*_, _/_}
+use mathlib.Core.Bool.{Bool, true, not, cond, _&&_, _||_, Bool·beq}
 use mathlib.Core.Path.{_≡_}
 use mathlib.Core.List.{List, [], _∷_}
 use lib.Dec.{eqb, leb}
 use lib.ListN.{length, drop}
 use Rattle.refusal.specs.Refusal.{SIZE, MAGIC, SPAN, TILE, NAME, NUMBER, INDEX, BEST, TWICE}
 use Rattle.be.specs.Codes.{_unless_then_}
-use Rattle.be.specs.Lists.{every, some-of, tally, same}
+use Rattle.be.specs.Lists.{every, some-of, tally, total, same}
 use Rattle.be.specs.Bytes.{field}
 use Rattle.edition.specs.declared.Edition.{Edition}
 use Rattle.edition.specs.Edition.{block-size}
 use Rattle.name.specs.Name.{legal-name, legal-number, hash-of, same-name, dot, dotdot}
-use Rattle.dir_block_rules.specs.Record.{Rec, besides, whole, apart, entries, gaps, size, name, number}
-use Rattle.dir_block_rules.specs.Block.{records, slots, Slot, is-stale, is-live, count-of, stale-of}
+use Rattle.dir_block_rules.specs.Record.{Rec, says, besides, record-ok, apart, entries, gaps, size, name, number}
+use Rattle.dir_block_rules.specs.Block.{records, slots, Slot, is-stale, count-of, stale-of, data-end}
 
 -- 1 SIZE: a block's length is one allowed
 unfoldable pub size-ok : List ℕ → Bool
@@ -28,9 +28,13 @@ magic-ok e b = eqb (field 0 4 b) (e .magic)
 unfoldable pub span-ok : Edition → List ℕ → Bool
 span-ok e b = leb (e .header + 8 * count-of b + 8) (length b) && leb (stale-of b) (count-of b)
 
--- 5 TILE: records fill the data exactly (each is whole, the last too), and no two gaps touch
-unfoldable pub tile-ok : Edition → List Rec → Bool
-tile-ok e rs = every (whole e) rs && apart rs
+-- 5 TILE: records fill the data exactly: the lengths that they say add up to the data's
+unfoldable pub fills : Edition → List ℕ → Bool
+fills e b = eqb (total (λ r. says e (r .raw)) (records e b)) (data-end b - e .header)
+
+-- 5 TILE: they fill it, lengths and tags are right, and no two gaps touch
+unfoldable pub tile-ok : Edition → List ℕ → Bool
+tile-ok e b = fills e b && every record-ok (records e b) && apart (records e b)
 
 -- 6 NAME: the names are legal; "." sits at 16 (the header's end) and ".." at 32 (16 further), nowhere else
 abbrev pub entry-stands : ℕ → List Rec → Bool
@@ -67,17 +71,21 @@ rising [] = true
 rising (s ∷ []) = true
 rising (s ∷ t ∷ ts) = leb (s .hash) (t .hash) && rising (t ∷ ts)
 
--- 8 INDEX: a live entry has exactly one slot, with its hash and its offset / 8
+-- 8 INDEX: each live entry has exactly one slot, with its hash and its offset / 8
 abbrev pub has-slot : Edition → List Slot → Rec → Bool
 has-slot e ss r =
     eqb (tally (λ s. eqb (s .addr) (r .off / 8)) ss) 1
     && eqb (tally (λ s. eqb (s .addr) (r .off / 8) && eqb (s .hash) (hash-of e (name r))) ss) 1
 
--- 8 INDEX: stale slots number the tail's stale; no other slots than the entries' own
+-- 8 INDEX: no other slots: each is stale, or some live entry's
+abbrev pub stale-or-owned : List Rec → Slot → Bool
+stale-or-owned es s = is-stale s || some-of (λ r. eqb (s .addr) (r .off / 8)) es
+
+-- 8 INDEX: and stale slots number the tail's stale
 unfoldable pub index-ok : Edition → List Rec → List Slot → ℕ → Bool
 index-ok e rs ss n =
     rising ss && eqb (tally is-stale ss) n
-    && eqb (tally is-live ss) (length (entries rs)) && every (has-slot e ss) (entries rs)
+    && every (has-slot e ss) (entries rs) && every (stale-or-owned (entries rs)) ss
 
 -- a pair of the best-gap table: offset, length (2 bytes each)
 pub record Pair : Type 0 where
@@ -121,7 +129,7 @@ verdict e b =
     SIZE unless size-ok b then
     MAGIC unless magic-ok e b then
     SPAN unless span-ok e b then
-    TILE unless tile-ok e (records e b) then
+    TILE unless tile-ok e b then
     NAME unless names-ok e (records e b) then
     NUMBER unless numbers-ok e (records e b) then
     INDEX unless index-ok e (records e b) (slots b) (stale-of b) then

@@ -14,9 +14,10 @@ use Rattle.edition.specs.declared.Edition.{Edition}
 use Rattle.edition.specs.Edition.{Sane, block-size, largest-block}
 use Rattle.dir_block_rules.specs.Record.{Rec, entries}
 use Rattle.dir_block_rules.specs.Block.{Slot, records, slots, slots-in, count-of, stale-of, data-end}
-use Rattle.dir_block_rules.specs.Verdict.{verdict, size-ok, magic-ok, span-ok, tile-ok}
-use Rattle.dir_block_test.specs.Passes.{rest, slots-from, Parts, Data-tiled, after-span, after-tile, after-index, tile-count}
-use Rattle.dir_block_test.proofs.FaultsAnswer.{tiled-not, tiled-done}
+use Rattle.dir_block_rules.specs.Verdict.{verdict, size-ok, magic-ok, span-ok}
+use Rattle.dir_block_test.specs.Passes.{rest, slots-from, Parts, Data-tiled, after-span, after-tile, after-index, tile-from, tile-count}
+use Rattle.dir_block_test.proofs.FaultsAnswer.{tiled-not, tiled-done, tile-is}
+use Rattle.dir_block_rules.proofs.WholeRecords.{tile-law}
 -- TILE
 use Rattle.edition.proofs.Sizes.{block-size-bounds}
 
@@ -26,7 +27,7 @@ module _ (e : Edition) (b : List ℕ) (t n m k : ℕ) (ks : k ≡ tile-count e f
   end-5 z = sym (rw (tiled-not e (rest e b t (length b) (e .header)) k ks z))
 
   module _ (z : k ≡ 0 → ⊥) where
-    done : (tile-ok e (rest e b t (length b) (e .header)) ≡ true) × (k ≡ 1 + length (entries (rest e b t (length b) (e .header))))
+    done : (tile-from e false (rest e b t (length b) (e .header)) ≡ true) × (k ≡ 1 + length (entries (rest e b t (length b) (e .header))))
     done = tiled-done e (rest e b t (length b) (e .header)) k ks z
 
     pub tiled-parts : Parts e b t n → Data-tiled e b t n
@@ -108,4 +109,4 @@ module _ (e : Edition) (sane : Sane e) (b : List ℕ) (z : Bool) (zs : z ≡ blo
           unfolding verdict span-ok after-span after-tile after-index
           end-span f r rs =
               let q : leb (stale-of b) (count-of b) ≡ true = le-leb (stale-of b) (count-of b) (omega (arith, counted, staled)) in
-              rs ∙ ap₂ (λ (l : List Rec) (s : List Slot). after-span e b l s m) recs slts ∙ ap (after-span e b (records e b) (slots b)) staled ∙ sym (rw (size, magic, q4, q))
+              rs ∙ ap₂ (λ (l : List Rec) (s : List Slot). after-span e b l s m) recs slts ∙ ap (after-span e b (records e b) (slots b)) staled ∙ sym (rw (size, magic, q4, q, tile-law e b, ← tile-is e (records e b)))

@@ -8,12 +8,13 @@ use mathlib.Core.List.{List, [], _∷_}
 use lib.Dec.{leb}
 use lib.ListN.{length}
 use borrow.Author.Tests.{le-leb, lt-leb, leb-true, leb-false}
-use Rattle.be.specs.Lists.{every, keep}
+use Rattle.be.specs.Lists.{every}
 use Rattle.edition.specs.declared.Edition.{Edition}
 use Rattle.name.specs.Name.{hash-of}
 use Rattle.dir_block_rules.specs.Record.{Rec, whole, apart, is-gap, entries, name}
-use Rattle.dir_block_rules.specs.Verdict.{tile-ok, name-ok, number-ok}
+use Rattle.dir_block_rules.specs.Verdict.{name-ok, number-ok}
 use Rattle.be.proofs.Bools.{by-cases}
+use Rattle.dir_block_rules.proofs.PlainTests.{every-besides}
 use Rattle.dir_block_test.specs.Passes.{no-fault, tile-from, tile-count, fault, worst}
 
 -- TILE
@@ -40,24 +41,23 @@ tile-split e g (r ∷ rs) =
     ap (λ (t : Bool). (whole e r && not (g && is-gap r)) && t) (tile-split e (is-gap r) rs)
     ∙ four (whole e r) (not (g && is-gap r)) (every (whole e) rs) (apart-from (is-gap r) rs)
 
-pub tile-is : (e : Edition) (rs : List Rec) → tile-from e false rs ≡ tile-ok e rs
-unfolding tile-ok
+pub tile-is : (e : Edition) (rs : List Rec) → tile-from e false rs ≡ (every (whole e) rs && apart rs)
 tile-is e rs = tile-split e false rs ∙ ap (λ (t : Bool). every (whole e) rs && t) (sym (apart-is rs))
 
 module _ (e : Edition) (rs : List Rec) (t : ℕ) (is : t ≡ tile-count e false 1 rs) where
-  pub tiled-not : t ≡ 0 → tile-ok e rs ≡ false
+  pub tiled-not : t ≡ 0 → tile-from e false rs ≡ false
   unfolding tile-count
   tiled-not z =
-      by-cases (tile-ok e rs)
-      (λ q. absurd (let f : t ≡ 1 + length (entries rs) = is ∙ rw (tile-is e rs ∙ q) in omega arith))
+      by-cases (tile-from e false rs)
+      (λ q. absurd (let f : t ≡ 1 + length (entries rs) = is ∙ rw q in omega arith))
       (λ q. q)
 
-  pub tiled-done : (t ≡ 0 → ⊥) → (tile-ok e rs ≡ true) × (t ≡ 1 + length (entries rs))
+  pub tiled-done : (t ≡ 0 → ⊥) → (tile-from e false rs ≡ true) × (t ≡ 1 + length (entries rs))
   unfolding tile-count
   tiled-done z =
-      by-cases (tile-ok e rs)
-      (λ q. (q, is ∙ rw (tile-is e rs ∙ q)))
-      (λ q. absurd (z (is ∙ rw (tile-is e rs ∙ q))))
+      by-cases (tile-from e false rs)
+      (λ q. (q, is ∙ rw q))
+      (λ q. absurd (z (is ∙ rw q)))
 
 -- names, numbers, slots
 min-leb : (m a b : ℕ) → leb m (min a b) ≡ (leb m a && leb m b)
@@ -68,10 +68,6 @@ min-leb m a b =
     (λ q. let y : m ≤ b = leb-true m b q in rw (p, q) (le-leb m (min a b) (omega arith)))
     (λ q. let y : b < m = leb-false m b q in rw (p, q) (lt-leb m (min a b) (omega arith))))
     (λ p. let x : a < m = leb-false m a p in rw p (lt-leb m (min a b) (omega arith)))
-
-every-entries : {A : Type 0} (g p : A → Bool) (rs : List A) → every (λ r. g r || p r) rs ≡ every p (keep (λ r. not (g r)) rs)
-every-entries g p [] = refl
-every-entries g p (r ∷ rs) = by-cases (g r) (λ q. rw q (every-entries g p rs)) (λ q. rw (q, every-entries g p rs))
 
 every-and : {A : Type 0} (p q : A → Bool) (rs : List A) → every (λ r. p r && q r) rs ≡ (every p rs && every q rs)
 every-and p q [] = refl
@@ -115,16 +111,16 @@ module _ (e : Edition) (own : ℕ) (ss : ℕ → ℕ → Bool) where
     pub worst-7 : leb 7 (worst e own ss rs) ≡ every (name-ok e) (entries rs)
     worst-7 =
         worst-leb 7 (omega arith) rs ∙ every-same (λ r. leb 7 (fault e own ss r)) (λ r. is-gap r || name-ok e r) fault-7 rs
-        ∙ every-entries is-gap (name-ok e) rs
+        ∙ every-besides is-gap (name-ok e) rs
 
     pub worst-8 : leb 8 (worst e own ss rs) ≡ (every (name-ok e) (entries rs) && every (number-ok e own) (entries rs))
     worst-8 =
         worst-leb 8 (omega arith) rs ∙ every-same (λ r. leb 8 (fault e own ss r)) (λ r. is-gap r || (name-ok e r && number-ok e own r)) fault-8 rs
-        ∙ every-entries is-gap (λ r. name-ok e r && number-ok e own r) rs ∙ every-and (name-ok e) (number-ok e own) (entries rs)
+        ∙ every-besides is-gap (λ r. name-ok e r && number-ok e own r) rs ∙ every-and (name-ok e) (number-ok e own) (entries rs)
 
     pub worst-9 : leb 9 (worst e own ss rs) ≡ (every (name-ok e) (entries rs) && every (number-ok e own) (entries rs) && every slot-ok (entries rs))
     worst-9 =
         worst-leb 9 (omega arith) rs ∙ every-same (λ r. leb 9 (fault e own ss r)) (λ r. is-gap r || (name-ok e r && number-ok e own r && slot-ok r)) fault-9 rs
-        ∙ every-entries is-gap (λ r. name-ok e r && number-ok e own r && slot-ok r) rs
+        ∙ every-besides is-gap (λ r. name-ok e r && number-ok e own r && slot-ok r) rs
         ∙ every-and (λ r. name-ok e r && number-ok e own r) slot-ok (entries rs)
         ∙ ap (λ (t : Bool). t && every slot-ok (entries rs)) (every-and (name-ok e) (number-ok e own) (entries rs))

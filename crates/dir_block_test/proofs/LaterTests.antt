@@ -16,13 +16,13 @@ use Rattle.be.specs.Bytes.{part, field}
 use Rattle.edition.specs.declared.Edition.{Edition}
 use Rattle.edition.specs.Edition.{Sane, entry-size, largest-block, record-starts}
 use Rattle.name.specs.Name.{dot, legal-name}
-use Rattle.dir_block_rules.specs.Record.{Rec, rec, whole, is-gap, is-entry, entries, gaps, name}
+use Rattle.dir_block_rules.specs.Record.{Rec, rec, whole, apart, is-gap, is-entry, entries, gaps, name}
 use Rattle.dir_block_rules.specs.Block.{Slot, is-live, is-stale}
-use Rattle.dir_block_rules.specs.Verdict.{tile-ok, entry-stands, name-ok, names-ok, numbers-ok, number-ok, own-in, index-ok, rising, best-ok, best-pairs, pairs-in, pair, Pair, zero-pair, once-ok}
+use Rattle.dir_block_rules.specs.Verdict.{entry-stands, name-ok, names-ok, numbers-ok, number-ok, own-in, index-ok, rising, best-ok, best-pairs, pairs-in, pair, Pair, zero-pair, once-ok}
 use Rattle.be.proofs.Bools.{by-cases, and-left, and-right, every-head, every-tail, every-cons}
 use Rattle.dir_block_rules.proofs.CutJoin.{Laid, join, join-cut}
 use Rattle.dir_block_rules.proofs.SlotCounts.{Apart}
-use Rattle.dir_block_rules.proofs.IndexedEntries.{addr-of, Indexed, indexed}
+use Rattle.dir_block_rules.proofs.IndexedEntries.{addr-of, Indexed, indexed, index-counts}
 use Rattle.be.proofs.Splits.{Split, every-at}
 use Rattle.dir_block_rules.proofs.RecordPlaces.{apart-keep, laid-eights}
 use Rattle.dir_block_rules.proofs.SearchFinds.{Reads, Owner, owner}
@@ -35,7 +35,7 @@ use Rattle.dir_block_test.proofs.WholeRecord.{says-entry}
 use Rattle.dir_block_test.proofs.EntryWalk.{entry-fits, name-here, number-here}
 use Rattle.dir_block_test.proofs.SlotWalk.{slot-at}
 use Rattle.dir_block_test.proofs.SlotTable.{slots-split, table-law, hinted}
-use Rattle.dir_block_test.proofs.FaultsAnswer.{worst-7, worst-8, worst-9}
+use Rattle.dir_block_test.proofs.FaultsAnswer.{tile-is, worst-7, worst-8, worst-9}
 use Rattle.dir_block_test.proofs.OneSlotEach.{in-order-is}
 use Rattle.dir_block_test.proofs.BestNamed.{at-most, best-law}
 use Rattle.dir_block_test.proofs.TwinSlots.{twice-law, once-free}
@@ -69,8 +69,7 @@ module _ (e : Edition) (sane : Sane e) (b : List ℕ) (t n : ℕ) where
     enough = omega (arith, hi)
 
     pub wholes : every (whole e) RS ≡ true
-    unfolding tile-ok
-    wholes = and-left (every (whole e) RS) _ (T .tiles)
+    wholes = and-left (every (whole e) RS) (apart RS) (sym (tile-is e RS) ∙ T .tiles)
 
     laid : Laid e (e .header) RS
     laid = laid-rest e b t hi (T .parts .eights) (length b) (e .header) wholes
@@ -92,7 +91,7 @@ module _ (e : Edition) (sane : Sane e) (b : List ℕ) (t n : ℕ) where
     -- TWICE
     module _ (m : ℕ) (x : index-ok e RS SS m ≡ true) where
       ix : Indexed e (entries RS) SS m
-      ix = indexed e RS SS m x
+      ix = indexed e RS SS m addrs x
 
       pub once-is : once-ok e (entries RS) ≡ once-in e b SS
       once-is = twice-law e b (entries RS) SS m ix addrs reads ∙ sym (once-free e b 0 SS (ix .order))
@@ -252,9 +251,9 @@ module _ (e : Edition) (sane : Sane e) (b : List ℕ) (t n : ℕ) where
               (go es (every-tail (placed e b t hi (T .parts .eights)) r es h))
 
       pub index-is : index-ok e RS SS m ≡ (fit && every (hinted b t n M e) (entries RS))
-      unfolding index-ok
       index-is =
-          rw (fs, in-order-is m SS, lv)
+          index-counts e RS SS m addrs
+          ∙ rw (fs, in-order-is m SS, lv)
           (by-cases (rising SS && eqb (tally is-stale SS) m)
           (λ q. let st : tally is-stale SS ≡ m = eqb-true (tally is-stale SS) m (and-right (rising SS) _ q) in
           let lvs : tally is-live SS ≡ n - m = omega (arith, count-is) in

@@ -16,8 +16,8 @@ use Rattle.dir_block_rules.specs.Record.{Rec, name}
 use Rattle.dir_block_rules.specs.Block.{Slot, is-stale, is-live}
 use Rattle.dir_block_rules.specs.Verdict.{has-slot, rising}
 use Rattle.be.proofs.Bools.{by-cases, and-left, every-head, every-tail, every-cons, clash}
-use Rattle.dir_block_rules.proofs.SlotCounts.{Apart, pigeon, at-addr}
-use Rattle.dir_block_rules.proofs.IndexedEntries.{addr-of, at-both, tally-le, Slotted, slotted, →slotted}
+use Rattle.dir_block_rules.proofs.SlotCounts.{Apart, pigeon, at-addr, tally-le}
+use Rattle.dir_block_rules.proofs.IndexedEntries.{addr-of, at-both, Slotted, slotted, →slotted}
 use Rattle.dir_block_test.specs.Passes.{rising-from, in-order, slot-is}
 
 -- the order, as the pass tests it

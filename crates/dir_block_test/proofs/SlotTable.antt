@@ -18,8 +18,8 @@ use Rattle.dir_block_rules.specs.Record.{Rec, name}
 use Rattle.dir_block_rules.specs.Block.{Slot, is-live}
 use Rattle.dir_block_rules.specs.Verdict.{has-slot}
 use Rattle.be.proofs.Bools.{by-cases, and-left, and-right, every-head, every-tail, every-cons, clash}
-use Rattle.dir_block_rules.proofs.SlotCounts.{Apart, at-addr}
-use Rattle.dir_block_rules.proofs.IndexedEntries.{addr-of, at-both, tally-le, Slotted, slotted}
+use Rattle.dir_block_rules.proofs.SlotCounts.{Apart, at-addr, tally-le}
+use Rattle.dir_block_rules.proofs.IndexedEntries.{addr-of, at-both, Slotted, slotted}
 use Rattle.be.proofs.Splits.{some-at}
 use Rattle.dir_block_test.specs.Passes.{slots-from, hash-at, addr-at, cells-of, hint, slot-is}
 use Rattle.dir_block_test.proofs.SlotWalk.{slot-at, slots-next, slots-end}

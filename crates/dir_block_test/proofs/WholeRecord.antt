@@ -7,14 +7,14 @@ use mathlib.Core.Path.{_≡_, sym, _∙_, ap}
 use mathlib.Core.List.{List}
 use lib.Dec.{eqb, leb}
 use lib.ListN.{length, take, drop, getD, length-take, List·getD-eq-default}
-use lib.Seq.{length-take-le, take-all, take-take, getD-take}
+use lib.Seq.{length-take-le, take-all, take-take}
 use borrow.Author.Tests.{eq-eqb, ne-eqb, le-leb, lt-leb}
 use Rattle.be.specs.Bytes.{byte, be, part, field}
 use Rattle.edition.specs.declared.Edition.{Edition}
 use Rattle.edition.specs.Edition.{entry-size}
-use Rattle.dir_block_rules.specs.Record.{rec, says, whole, size, tag, gap-start}
+use Rattle.dir_block_rules.specs.Record.{rec, says, record-ok, whole, size, tag, gap-start}
 use Rattle.be.proofs.Bools.{by-cases}
-use Rattle.edition.proofs.Sizes.{entry-size-least}
+use Rattle.dir_block_rules.proofs.WholeRecords.{says-alone}
 use Rattle.dir_block_test.specs.Passes.{whole-len}
 use Rattle.be.proofs.Parts.{field-part, getD-part, part-length, drop-take}
 
@@ -37,29 +37,15 @@ module _ (e : Edition) (b : List ℕ) (o m : ℕ) (least : 8 ≤ m) where
 
 -- when the record at the head of d is whole
 module _ (e : Edition) (d : List ℕ) (o : ℕ) where
-  -- a record that is there whole says the same alone
-  pub says-alone : 8 ≤ says e d → says e d ≤ length d → says e (take (says e d) d) ≡ says e d
-  unfolding says
-  says-alone l h =
-      by-cases (gap-start d)
-      (λ g. let n : ℕ = field 2 2 d in
-      let l′ : 8 ≤ n = rw g at l in
-      let s : gap-start (take n d) ≡ true = ap (λ (x : List ℕ). eqb (be x) 0xffff) (take-take 2 n d (omega arith)) ∙ g in
-      rw (g, s) (field-part d 0 n 2 2 (omega arith)))
-      (λ g. let n : ℕ = entry-size e (getD d 8 0) in
-      let long : 8 < n = omega (arith, entry-size-least e (getD d 8 0)) in
-      let s : gap-start (take n d) ≡ false = ap (λ (x : List ℕ). eqb (be x) 0xffff) (take-take 2 n d (omega arith)) ∙ g in
-      rw (g, s) (ap (entry-size e) (getD-take n d 8 0 long)))
-
   pub whole-short : says e d < 8 → whole-len e d o ≡ 0
-  unfolding whole-len whole
+  unfolding whole-len whole record-ok
   whole-short h =
       let c : List ℕ = take (says e d) d in
       let s : leb 8 (length c) ≡ false = lt-leb 8 (length c) (simp length-take (omega arith)) in
       by-cases (eqb (length c) (says e c)) (λ q. rw (q, s)) (λ q. rw q)
 
   pub whole-long : length d < says e d → whole-len e d o ≡ 0
-  unfolding whole-len whole
+  unfolding whole-len whole record-ok
   whole-long h =
       let all : take (says e d) d ≡ d = take-all (says e d) d (omega arith) in
       let s : eqb (length d) (says e d) ≡ false = ne-eqb (length d) (says e d) (λ (z : length d ≡ says e d). omega arith) in
@@ -70,7 +56,7 @@ module _ (e : Edition) (d : List ℕ) (o : ℕ) where
     spans = length-take-le (says e d) d h
 
     alone : eqb (length (take (says e d) d)) (says e (take (says e d) d)) ≡ true
-    alone = eq-eqb (length (take (says e d) d)) (says e (take (says e d) d)) (spans ∙ sym (says-alone l h))
+    alone = eq-eqb (length (take (says e d) d)) (says e (take (says e d) d)) (spans ∙ sym (says-alone e d l h))
 
     tag-is : tag (rec o (take (says e d) d)) ≡ field (says e d - 2) 2 d
     tag-is =
@@ -81,12 +67,12 @@ module _ (e : Edition) (d : List ℕ) (o : ℕ) where
         ∙ ap be (drop-take (n - 2) 2 d)
 
     pub whole-uneven : (says e d % 8 ≡ 0 → ⊥) → whole-len e d o ≡ 0
-    unfolding whole-len whole
+    unfolding whole-len whole record-ok
     whole-uneven u =
         rw (alone, spans, le-leb 8 (says e d) l, ne-eqb (says e d % 8) 0 u)
 
     pub whole-untagged : (field (says e d - 2) 2 d ≡ o → ⊥) → whole-len e d o ≡ 0
-    unfolding whole-len whole
+    unfolding whole-len whole record-ok
     whole-untagged u =
         let f : eqb (tag (rec o (take (says e d) d))) o ≡ false = ne-eqb (tag (rec o (take (says e d) d))) o (λ (z : tag (rec o (take (says e d) d)) ≡ o). u (sym tag-is ∙ z)) in
         by-cases (eqb (size (rec o (take (says e d) d)) % 8) 0)
@@ -94,7 +80,7 @@ module _ (e : Edition) (d : List ℕ) (o : ℕ) where
         (λ q. rw (alone, ap (leb 8) spans, le-leb 8 (says e d) l, q))
 
     pub whole-good : says e d % 8 ≡ 0 → field (says e d - 2) 2 d ≡ o → whole-len e d o ≡ says e d
-    unfolding whole-len whole
+    unfolding whole-len whole record-ok
     whole-good u t =
         let f : eqb (tag (rec o (take (says e d) d))) o ≡ true = eq-eqb (tag (rec o (take (says e d) d))) o (tag-is ∙ t) in
         rw (alone, f, spans, le-leb 8 (says e d) l, eq-eqb (says e d % 8) 0 u)

@@ -15,7 +15,7 @@ use Rattle.edition.specs.Edition.{largest-block}
 use Rattle.name.specs.Name.{legal-name, hash-of, same-name, dot, dotdot}
 use Rattle.dir_block_rules.specs.Record.{Rec, rec, cut, says, whole, is-gap, entries, gaps, name, size}
 use Rattle.dir_block_rules.specs.Block.{Slot, slots-in, is-stale}
-use Rattle.dir_block_rules.specs.Verdict.{name-ok, number-fits, number-ok, Pair, is-gap-of, best-ok, best-pairs, once-ok, names-ok, numbers-ok, index-ok, tile-ok}
+use Rattle.dir_block_rules.specs.Verdict.{name-ok, number-fits, number-ok, Pair, is-gap-of, best-ok, best-pairs, once-ok, names-ok, numbers-ok, index-ok}
 
 -- the records from o to the data's end t, with fuel k
 unfoldable pub rest : Edition → List ℕ → ℕ → ℕ → ℕ → List Rec
@@ -149,7 +149,7 @@ after-tile e b rs ss m =
     INDEX unless index-ok e rs ss m then after-index e b rs
 
 unfoldable pub after-span : Edition → List ℕ → List Rec → List Slot → ℕ → ℕ
-after-span e b rs ss m = TILE unless tile-ok e rs then after-tile e b rs ss m
+after-span e b rs ss m = TILE unless tile-from e false rs then after-tile e b rs ss m
 
 -- a block whose data ends at t and has n slots there, all counted
 pub record Parts (e : Edition) (b : List ℕ) (t n : ℕ) : Type 0 where
@@ -162,7 +162,7 @@ pub record Parts (e : Edition) (b : List ℕ) (t n : ℕ) : Type 0 where
 -- and whose data is tiled
 pub record Data-tiled (e : Edition) (b : List ℕ) (t n : ℕ) : Type 0 where
   pub parts : Parts e b t n
-  pub tiles : tile-ok e (rest e b t (length b) (e .header)) ≡ true
+  pub tiles : tile-from e false (rest e b t (length b) (e .header)) ≡ true
 
 -- one more than the index of each of the first i slots at t, by its address, in a table; the last slot at an address counts
 unfoldable pub cells-of : List ℕ → ℕ → List ℕ → ℕ → List ℕ
