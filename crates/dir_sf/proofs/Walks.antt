@@ -26,7 +26,7 @@ use Rattle.dir.specs.declared.Target.{Target}
 use Rattle.dir.specs.Target.{target}
 use Rattle.dir.specs.Answers.{walked-code, walked-next, walked-seen}
 use Rattle.dinode.specs.Core.{data-length}
-use Rattle.dir_sf.specs.Inode.{verdict, used}
+use Rattle.dir_sf.specs.Inode.{size-of, verdict, used}
 use Rattle.dir_sf.proofs.Tested.{used-is}
 use Rattle.dir_sf.proofs.Leaves.{one-in}
 use Rattle.dir_sf.proofs.Listed.{list-enough}
@@ -129,7 +129,7 @@ step-walked e told b place v =
     by-cases (stands size (count-of u) (2 + used-width u) place)
     (λ q. by-cases (eqb place (start size (count-of u) (2 + used-width u))) (λ r. rw (v, q, r) refl) (λ r. rw (v, q, r) refl)) (λ q. rw (v, q) refl)
 
-pub step-stepped : (e : Edition) (sane : Sane e) (told c z : ℕ) (b : List ℕ) (place : ℕ) (r : Walked) → c ≡ verdict e told b → c ≡ 0 → z ≡ field 56 8 b
+pub step-stepped : (e : Edition) (sane : Sane e) (told c z : ℕ) (b : List ℕ) (place : ℕ) (r : Walked) → c ≡ verdict e told b → c ≡ 0 → z ≡ size-of b
     → r ≡ walked-in e (take (e .literal + z - e .literal) (drop (e .literal) b)) place → r ≡ walk-step e told b place
 step-stepped e sane told c z b place r h f q k =
     let v : verdict e told b ≡ 0 = sym h ∙ f in

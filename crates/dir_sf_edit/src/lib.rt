@@ -8,6 +8,7 @@ ghost use lib.ListN.{length, take, drop};
 ghost use Rattle.be.specs.Bytes.{byte, put, to-be};
 ghost use Rattle.records.specs.Records.{start};
 ghost use Rattle.edition.specs.Edition.{v4, Sane};
+ghost use Rattle.dinode.specs.Core.{size-place};
 ghost use Rattle.dir.specs.Target.{target};
 ghost use Rattle.dir_sf.specs.Entry.{entry, width-of, entry-at, entries-in, enough, size-at, entry-bytes, entries-bytes, is-wide, end-tag};
 ghost use Rattle.dir_sf.specs.Fork.{Readable, place-of, laid, lay, holds, count-of, parent, entries};
@@ -186,9 +187,9 @@ fn copy_others<'a, 'b>(
 // Writes a size and the data fork back: the first n bytes of t.
 fn write_back<'a, 'b>(e: Edition, b: &'a mut [u8], t: &'b [u8], n: usize, size: usize)
     requires { ⌜ Sane e × (n ≤ length (now t)) × (e .literal + n ≤ length (now b)) ⌝ }
-    ensures { λ _. ⌜ now (b .exit) ≡ put (put (now (b .entry)) 56 (to-be 8 size)) (e .literal) (take n (now (t .entry))) ⌝ }
+    ensures { λ _. ⌜ now (b .exit) ≡ put (put (now (b .entry)) size-place (to-be 8 size)) (e .literal) (take n (now (t .entry))) ⌝ }
 {
-    be::put64(b, 56, size as u64);
+    be::put64(b, dinode::SIZE_PLACE, size as u64);
     be::copy_into(b, e.literal, &t[..n]);
 }
 
