@@ -23,9 +23,10 @@ use Rattle.dir.specs.declared.Target.{Target}
 use Rattle.dir.specs.Target.{no-target}
 use Rattle.dir.specs.Answers.{looked-code, looked-target, looked-compared}
 use Rattle.name.specs.Name.{legal-name, dot, dotdot}
-use Rattle.dir_sf.specs.Entry.{SfEntry, width-of, enough, filled, tags-ok, wides-of}
-use Rattle.dir_sf.specs.Fork.{Readable, count-of, stored-wides, used-width, parent, entries, holds, span-ok, tile-ok, names-ok, numbers-ok, once-ok, used-verdict, fork-verdict}
+use Rattle.dir_sf.specs.Entry.{SfEntry, width-of, filled, tags-ok, wides-of}
+use Rattle.dir_sf.specs.Fork.{count-of, stored-wides, used-width, parent, entries, holds, span-ok, tile-ok, names-ok, numbers-ok, once-ok, used-verdict, fork-verdict}
 use Rattle.dir_sf.specs.Change.{lookup-request, target-for}
+use Rattle.dir_sf.specs.Inner.{enough, Readable}
 use Rattle.dir_sf.specs.Inode.{size-of, verdict, used, looked, lookup, lookup-code, lookup-target, Lookup-promise}
 use Rattle.dir_sf.proofs.Leaves.{width-least}
 use Rattle.dir_sf.proofs.Run.{filled-enough}

@@ -18,9 +18,9 @@ use Rattle.records.proofs.Turns.{run-inside}
 use Rattle.edition.specs.declared.Edition.{Edition}
 use Rattle.edition.specs.Edition.{entry-size, Sane}
 use Rattle.name.specs.Name.{legal-name, legal-number, fixed-name, same-name}
-use Rattle.dir_sf.specs.Entry.{SfEntry, size-at, entry-at, entries-in, filled, enough, next-tag, tags-ok, end-tag, in-block, is-wide, wides-of}
-use Rattle.dir_sf.specs.Fork.{tiles, name-ok, names-ok, numbers-ok, once-ok, holds}
-use Rattle.dir_sf.specs.Change.{seek}
+use Rattle.dir_sf.specs.Entry.{SfEntry, size-at, entry-at, entries-in, filled, next-tag, tags-ok, end-tag, in-block, is-wide, wides-of}
+use Rattle.dir_sf.specs.Fork.{name-ok, names-ok, numbers-ok, once-ok, holds}
+use Rattle.dir_sf.specs.Inner.{enough, tiles, seek}
 use Rattle.dir_sf.proofs.Run.{Run, length-entries-in, run-start, run-left, run-on, run-rest, run-over, run-whole, long-at-is, name-at-is, tag-at-is, inode-at-is}
 
 -- ---- TILE

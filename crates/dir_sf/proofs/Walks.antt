@@ -18,10 +18,10 @@ use Rattle.edition.specs.Edition.{Sane}
 use Rattle.dir.specs.declared.Walked.{Walked}
 use Rattle.dir.specs.declared.Seen.the-variants.{Live, End}
 use Rattle.dir.specs.declared.Walked.the-variants.{Stepped, Refused}
-use Rattle.dir_sf.specs.Entry.{width-of, size-at, entry-at, enough}
+use Rattle.dir_sf.specs.Entry.{width-of, size-at, entry-at}
 use Rattle.dir_sf.specs.Fork.{count-of, stored-wides, used-width, place-of}
 use Rattle.dir_sf.specs.Walk.{end-step, entry-step, place-in, step-in, step-code, step-next, step-seen, walk-step, Step-promise}
-use Rattle.dir_sf.specs.WalkPass.{at-end, at-entry, walked-over, walked-in}
+use Rattle.dir_sf.specs.Inner.{enough, at-end, at-entry, walked-over, walked-in}
 use Rattle.dir.specs.declared.Target.{Target}
 use Rattle.dir.specs.Target.{target}
 use Rattle.dir.specs.Answers.{walked-code, walked-next, walked-seen}

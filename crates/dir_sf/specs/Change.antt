@@ -2,10 +2,9 @@
 -- Assumes nothing.
 use Prim.Native.Nat.{ℕ, suc, _+_}
 use mathlib.Core.Bool.{Bool, not, cond, _&&_, _||_}
-use mathlib.Core.Path.{_≡_}
-use mathlib.Core.List.{List, [], _∷_, _++_}
+use mathlib.Core.List.{List, [], _∷_}
 use lib.Dec.{eqb, leb, ltb}
-use lib.ListN.{length, take, drop}
+use lib.ListN.{length}
 use Rattle.refusal.specs.Refusal.{ASKED, FIXED, ABSENT, EXISTS, NOROOM, NARROW}
 use Rattle.be.specs.Lists.{same, without-first}
 use Rattle.be.specs.Codes.{_unless_then_}
@@ -14,9 +13,8 @@ use Rattle.edition.specs.Edition.{entry-size}
 use Rattle.name.specs.Name.{legal-name, same-name, fixed-name, dot, dotdot}
 use Rattle.dir.specs.declared.Target.{Target}
 use Rattle.dir.specs.Target.{target, no-target, legal-target, kept-of}
-use Rattle.dir_sf.specs.declared.Hit.{Hit}
 use Rattle.dir_sf.specs.Entry.{SfEntry, entry, is-wide, wides-of, next-tag, end-tag, in-block}
-use Rattle.dir_sf.specs.Fork.{entries, place-of, lay, holds}
+use Rattle.dir_sf.specs.Fork.{lay, holds}
 
 -- ---- lookup
 
@@ -24,19 +22,6 @@ use Rattle.dir_sf.specs.Fork.{entries, place-of, lay, holds}
 unfoldable pub target-in : Edition → List ℕ → List SfEntry → Target
 target-in e n [] = no-target
 target-in e n (x ∷ xs) = cond (same-name e n (x .name)) (x .target) (target-in e n xs)
-
--- how many entries stand before the first of the name (inner: no public promise cites it)
-unfoldable pub seek : Edition → List ℕ → List SfEntry → ℕ
-seek e n [] = 0
-seek e n (x ∷ xs) = let r = seek e n xs in cond (same-name e n (x .name)) 0 (suc r)
-
--- what the search for a name in the used bytes finds: whether an entry bears it, how many stand before that entry, where it starts, and what it stands for
--- (inner)
-pub record Hits (e : Edition) (n u : List ℕ) (r : Hit) : Type 0 where
-  pub held-is : r .held ≡ holds e n (entries e u)
-  pub index-is : r .index ≡ seek e n (entries e u)
-  pub at-is : r .at ≡ place-of e (r .index) u
-  pub target-is : r .target ≡ target-in e n (entries e u)
 
 -- 11 ASKED, 12 FIXED ("." looked up in a short form), 13 ABSENT
 unfoldable pub lookup-request : Edition → List ℕ → List SfEntry → ℕ
@@ -72,15 +57,6 @@ unfoldable pub placed : SfEntry → List SfEntry → List SfEntry
 placed y [] = y ∷ []
 placed y (x ∷ xs) = let r = placed y xs in cond (ltb (y .tag) (x .tag)) (y ∷ x ∷ xs) (x ∷ r)
 
--- how many entries stand before a new one with tag t (inner)
-unfoldable pub rank : ℕ → List SfEntry → ℕ
-rank t [] = 0
-rank t (x ∷ xs) = let r = rank t xs in cond (ltb t (x .tag)) 0 (suc r)
-
--- the list with an entry put in, j before it (inner)
-unfoldable pub with-nth : ℕ → SfEntry → List SfEntry → List SfEntry
-with-nth j y xs = take j xs ++ (y ∷ drop j xs)
-
 unfoldable pub inserted : Edition → ℕ → List ℕ → Target → List SfEntry → List SfEntry
 inserted e told n t xs = placed (entry (tag-for e told (length n) xs) n (kept-of e t)) xs
 
@@ -102,10 +78,6 @@ insert-request e told fork n t p xs =
 -- later entries close up, their tags stay
 unfoldable pub removed : Edition → List ℕ → List SfEntry → List SfEntry
 removed e n xs = without-first (λ x. same-name e n (x .name)) xs
-
--- the list without the entry that has j before it (inner)
-unfoldable pub without-nth : ℕ → List SfEntry → List SfEntry
-without-nth j xs = take j xs ++ drop (suc j) xs
 
 -- 16 NARROW: the last wide entry is taken out under a wide parent
 unfoldable pub narrows : ℕ → List SfEntry → List SfEntry → Bool

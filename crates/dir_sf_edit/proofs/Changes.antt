@@ -22,8 +22,9 @@ use Rattle.name.specs.Name.{legal-name, fixed-name}
 use Rattle.name.proofs.Legality.{legal-bounds}
 use Rattle.dinode.specs.Core.{size-place, directory-code, data-length}
 use Rattle.dir_sf.specs.Entry.{SfEntry, entry, width-of, size-at, entry-at, entries-in, filled, entry-bytes, entries-bytes, wides-of}
-use Rattle.dir_sf.specs.Fork.{Readable, count-of, used-width, parent, entries, holds, lay, lay-fork, tile-ok, name-ok, names-ok, used-verdict}
+use Rattle.dir_sf.specs.Fork.{count-of, used-width, parent, entries, holds, lay, lay-fork, tile-ok, name-ok, names-ok, used-verdict}
 use Rattle.dir_sf.specs.Change.{tag-for, placed, inserted, insert-request, removed, remove-request}
+use Rattle.dir_sf.specs.Inner.{Readable}
 use Rattle.dir_sf.specs.Inode.{size-of, verdict, used, insert-code, remove-code, with-entries, insert-bytes, remove-bytes}
 use Rattle.dir_sf_edit.proofs.ReadBack.{length-entry-bytes, length-lay}
 use Rattle.dir_sf_edit.proofs.Keeps.{removed-fits, inserts}

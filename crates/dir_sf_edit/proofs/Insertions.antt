@@ -18,8 +18,10 @@ use Rattle.dir.specs.Target.{legal-target, kept-of}
 use Rattle.name.specs.Name.{legal-name, fixed-name}
 use Rattle.name.proofs.Legality.{legal-bounds}
 use Rattle.dir_sf.specs.Entry.{SfEntry, entry, width-of, entry-bytes, entries-bytes, is-wide, wides-of}
-use Rattle.dir_sf.specs.Fork.{Readable, laid, lay, count-of, stored-wides, parent, entries, holds, name-ok, names-ok}
-use Rattle.dir_sf.specs.Change.{rank, placed, with-nth, tag-for, inserted, has-room, insert-request}
+use Rattle.dir_sf.specs.Fork.{laid, lay, count-of, stored-wides, parent, entries, holds, name-ok, names-ok}
+use Rattle.dir_sf.specs.Change.{placed, tag-for, inserted, has-room, insert-request}
+use Rattle.dir_sf.specs.Inner.{Readable}
+use Rattle.dir_sf_edit.specs.Inner.{rank, with-nth}
 use Rattle.dir_sf.proofs.Leaves.{narrow, broad, width-least}
 use Rattle.dir_sf.proofs.Listed.{count-is}
 use Rattle.dir_sf_edit.proofs.ReadBack.{length-entry-bytes, length-lay}

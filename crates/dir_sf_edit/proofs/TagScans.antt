@@ -13,9 +13,11 @@ use Rattle.be.specs.Bytes.{byte, field}
 use Rattle.records.specs.Records.{start}
 use Rattle.edition.specs.declared.Edition.{Edition}
 use Rattle.edition.specs.Edition.{entry-size, Sane}
-use Rattle.dir_sf.specs.Entry.{SfEntry, width-of, size-at, entry-at, entries-in, enough, next-tag, end-tag, in-block}
-use Rattle.dir_sf.specs.Change.{gap-tag, tag-for, rank}
+use Rattle.dir_sf.specs.Entry.{SfEntry, width-of, size-at, entry-at, entries-in, next-tag, end-tag, in-block}
+use Rattle.dir_sf.specs.Change.{gap-tag, tag-for}
 use Rattle.dir_sf.specs.Fork.{count-of, entries, place-of}
+use Rattle.dir_sf.specs.Inner.{enough}
+use Rattle.dir_sf_edit.specs.Inner.{rank}
 use Rattle.dir_sf.proofs.Listed.{entries-is, place-is, count-is}
 use Rattle.dir_sf.proofs.Leaves.{one-in}
 use Rattle.dir_sf.proofs.Run.{Run, run-start, run-on, run-one, run-rest, run-over, run-whole, tag-at-is, name-at-is}
