@@ -3,7 +3,8 @@ ghost use mathlib.Core.Path.{_≡_};
 ghost use Prim.Native.Nat.{_≤_};
 ghost use lib.ListN.{length};
 ghost use Rattle.edition.specs.Edition.{v4, Sane};
-ghost use Rattle.dinode.specs.Core.{core-of, inode-size, version-ok, directory-ok, attributes-ok, inode-code, directory-code, attributes-code, tested, tested-code, directory-fork, attributes-fork};
+ghost use Rattle.dinode.specs.Core.{core-of, inode-size, version-ok, directory-ok, attributes-ok};
+ghost use Rattle.dinode.specs.Core.{inode-code, directory-code, attributes-code, tested, tested-code, directory-fork, attributes-fork};
 use edition::Edition;
 use edition::V4;
 

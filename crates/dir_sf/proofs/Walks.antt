@@ -148,7 +148,7 @@ module _ (e : Edition) (told : ℕ) (b : List ℕ) (place : ℕ) where
   unfolding walk-step step-next
   next-is = by-cases (eqb (step-code e told b place) 0) (λ q. rw q refl) (λ q. rw q refl)
 
-  seen-is : walked-seen (walk-step e told b place) ≡ step-seen e told b place
+  pub seen-is : walked-seen (walk-step e told b place) ≡ step-seen e told b place
   unfolding walk-step step-seen
   seen-is = by-cases (eqb (step-code e told b place) 0) (λ q. rw q refl) (λ q. rw q refl)
 

@@ -69,6 +69,12 @@ pub struct Spot {
     pub at: usize,
 }
 
+// The tag of a new entry: where it is free, or nowhere.
+pub enum FreeTag {
+    At(usize),
+    Nowhere,
+}
+
 // The first entry of a name among the k from `at` on; past them all where there is none.
 fn find<'a, 'b>(e: Edition, u: &'a [u8], at: usize, k: usize, wides: usize, name: &'b [u8]) -> Spot
     requires { ⌜ Sane e × (at ≤ length (now u)) × (enough e (width-of wides) (now u) k at ≡ true) ⌝ }

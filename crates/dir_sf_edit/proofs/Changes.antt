@@ -23,12 +23,12 @@ use Rattle.name.proofs.Legality.{legal-bounds}
 use Rattle.dinode.specs.Core.{size-place, directory-code, data-length}
 use Rattle.dir_sf.specs.Entry.{SfEntry, entry, width-of, size-at, entry-at, entries-in, filled, entry-bytes, entries-bytes, wides-of}
 use Rattle.dir_sf.specs.Fork.{count-of, used-width, parent, entries, holds, lay, lay-fork, tile-ok, name-ok, names-ok, used-verdict}
-use Rattle.dir_sf.specs.Change.{tag-for, placed, inserted, insert-request, removed, remove-request}
+use Rattle.dir_sf.specs.Change.{tag-for, is-free, placed, inserted, insert-request, removed, remove-request}
 use Rattle.dir_sf.specs.Inner.{Readable}
 use Rattle.dir_sf.specs.Inode.{size-of, verdict, used, insert-code, remove-code, with-entries, insert-bytes, remove-bytes}
 use Rattle.dir_sf_edit.proofs.ReadBack.{length-entry-bytes, length-lay}
 use Rattle.dir_sf_edit.proofs.Keeps.{removed-fits, inserts}
-use Rattle.dir_sf_edit.proofs.Inserts.{every-placed, length-placed}
+use Rattle.dir_sf_edit.proofs.Inserts.{number-of, inserted-is, every-placed, length-placed}
 use Rattle.dir_sf_edit.proofs.Insertions.{lay-few}
 use Rattle.dir_sf.proofs.Listed.{count-is}
 use Rattle.dir_sf.proofs.Tested.{wides-known, names-known, is-directory, used-passes, used-is, used-long, used-header, used-bounds, used-readable}
@@ -208,7 +208,7 @@ module _ (e : Edition) (sane : Sane e) (told : ℕ) (b n : List ℕ) (to : Targe
   insert-dir = is-directory e sane told b insert-passes
 
   all-tests : (legal-name e n ≡ true) × (legal-target e to ≡ true) × (fixed-name n ≡ false) × (holds e n (entries e (used e b)) ≡ false)
-      × ((tag-for e told (length n) (entries e (used e b)) ≡ 0 → ⊥)) × (length (lay e (parent (used e b)) (inserted e told n to (entries e (used e b)))) ≤ data-length e b)
+      × (is-free (tag-for e told (length n) (entries e (used e b))) ≡ true) × (length (lay e (parent (used e b)) (inserted e told n to (entries e (used e b)))) ≤ data-length e b)
   all-tests = inserts e told (parent (used e b)) n to (entries e (used e b)) (data-length e b) (insert-parts .1)
 
   pub insert-short : length n < 256
@@ -218,13 +218,14 @@ module _ (e : Edition) (sane : Sane e) (told : ℕ) (b n : List ℕ) (to : Targe
   insert-fits = all-tests .5
 
   few-entries : count-of (used e b) < 255
-  unfolding inserted names-ok
+  unfolding names-ok
   few-entries =
-      let y : SfEntry = entry (tag-for e told (length n) (entries e (used e b))) n (kept-of e to) in
+      let y : SfEntry = entry (number-of (tag-for e told (length n) (entries e (used e b)))) n (kept-of e to) in
+      let fits : length (lay e (parent (used e b)) (placed y (entries e (used e b)))) ≤ data-length e b = rw (inserted-is e told n to (entries e (used e b)) (all-tests .4)) at insert-fits in
       let u = used-bounds e sane told b insert-passes (size-of b) refl in
       let k : every (name-ok e) (placed y (entries e (used e b))) ≡ true =
       every-placed (name-ok e) y (entries e (used e b)) (and-both _ _ (all-tests .0) (rw (all-tests .2) refl)) (names-known e told (used e b) (used-passes e sane told b insert-passes)) in
-      omega (arith, lay-few e (parent (used e b)) (placed y (entries e (used e b))) k, length-placed y (entries e (used e b)), count-is e (used e b), insert-fits)
+      omega (arith, lay-few e (parent (used e b)) (placed y (entries e (used e b))) k, length-placed y (entries e (used e b)), count-is e (used e b))
 
   module _ (z : ℕ) (q : z ≡ size-of b) where
     lent : take (e .literal + z - e .literal) (drop (e .literal) b) ≡ used e b
@@ -232,6 +233,9 @@ module _ (e : Edition) (sane : Sane e) (told : ℕ) (b n : List ℕ) (to : Targe
 
     pub insert-readable : Readable e (take (e .literal + z - e .literal) (drop (e .literal) b))
     insert-readable = rw lent (used-readable e sane told b insert-passes)
+
+    pub insert-free : is-free (tag-for e told (length n) (entries e (take (e .literal + z - e .literal) (drop (e .literal) b)))) ≡ true
+    insert-free = rw lent (all-tests .4)
 
     pub insert-few : count-of (take (e .literal + z - e .literal) (drop (e .literal) b)) < 255
     insert-few = rw lent few-entries

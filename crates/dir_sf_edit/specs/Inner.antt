@@ -19,4 +19,3 @@ with-nth j y xs = take j xs ++ (y ∷ drop j xs)
 -- the list without the entry that has j before it
 unfoldable pub without-nth : ℕ → List SfEntry → List SfEntry
 without-nth j xs = take j xs ++ drop (suc j) xs
-
