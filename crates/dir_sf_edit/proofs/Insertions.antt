@@ -11,7 +11,7 @@ use borrow.Author.Tests.{le-leb, lt-leb, not-true, not-false}
 use Rattle.refusal.specs.Refusal.{ASKED, FIXED, EXISTS, NOROOM}
 use Rattle.be.specs.Lists.{tally, every}
 use Rattle.be.specs.Bytes.{byte, put}
-use Rattle.be.proofs.Bools.{by-cases, and-left, every-head, every-tail}
+use Rattle.be.proofs.Bools.{by-cases, clash, and-left, every-head, every-tail}
 use Rattle.edition.specs.declared.Edition.{Edition}
 use Rattle.dir.specs.declared.Target.{Target}
 use Rattle.dir.specs.Target.{legal-target, kept-of}
@@ -167,6 +167,11 @@ module _ (e : Edition) (told fork : ℕ) (n : List ℕ) (to : Target) (p : ℕ) 
               pub insert-done : z ≤ fork → _≡_ {A = ℕ} 0 (insert-request e told fork n to p xs)
               unfolding has-room is-free
               insert-done h = sym (last ∙ rw (tag-is ∙ f, size-is, le-leb z fork h) refl)
+
+-- where there is a tag, it is somewhere
+pub somewhere : (free t : FreeTag) → free ≡ t → free ≡ Nowhere → is-free t ≡ true → ⊥
+unfolding is-free
+somewhere free t h f k = clash (sym (ap is-free (sym h ∙ f)) ∙ k) refl
 
 -- ---- the directory with the entry in
 

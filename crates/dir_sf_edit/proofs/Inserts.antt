@@ -36,7 +36,7 @@ number-of (At tag) = tag
 number-of Nowhere = 0
 
 pub free-at : (f : FreeTag) → is-free f ≡ true → f ≡ At (number-of f)
-unfolding is-free
+unfolding is-free number-of
 free-at (At tag) h = refl
 free-at Nowhere h = absurd (clash h refl)
 

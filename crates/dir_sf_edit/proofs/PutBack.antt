@@ -24,7 +24,7 @@ use Rattle.dir_sf.specs.Fork.{lay, holds, numbers-ok}
 use Rattle.dir_sf.specs.Change.{target-in, gap-tag, tag-for, is-free, placed, inserted, has-room, insert-request, removed, remove-request}
 use Rattle.dir_sf_edit.proofs.ReadBack.{length-entry-bytes, length-lay}
 use Rattle.dir_sf_edit.proofs.Accepted.{Good}
-use Rattle.dir_sf_edit.proofs.Removes.{removed-end, removed-tags, removed-length, removed-held, removed-wide, less-in-block}
+use Rattle.dir_sf_edit.proofs.Removes.{removed-end, removed-length, removed-held, removed-wide, less-in-block}
 use Rattle.dir_sf.proofs.Tags.{tagged}
 use Rattle.dir_sf_edit.proofs.Inserts.{number-of, inserted-is}
 use Rattle.dir_sf_edit.proofs.Insertions.{placed-wide, placed-bytes}
