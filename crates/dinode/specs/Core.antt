@@ -19,6 +19,10 @@ use Rattle.dinode.specs.declared.Fork.the-variants.{At, Refused}
 unfoldable pub inode-size : ℕ → Bool
 inode-size n = ((eqb n 256 || eqb n 512) || eqb n 1024) || eqb n 2048
 
+-- where the size field lies
+abbrev pub size-place : ℕ
+size-place = 56
+
 -- the fields handed out
 unfoldable pub core-of : List ℕ → Core
 core-of b =
@@ -27,7 +31,7 @@ core-of b =
       mode = field 2 2 b;
       version = byte 4 b;
       format = byte 5 b;
-      size = field 56 8 b;
+      size = field size-place 8 b;
       forkoff = byte 82 b;
       aformat = byte 83 b;
     }

@@ -3,9 +3,13 @@ ghost use mathlib.Core.Path.{_≡_};
 ghost use Prim.Native.Nat.{_≤_};
 ghost use lib.ListN.{length};
 ghost use Rattle.edition.specs.Edition.{v4, Sane};
-ghost use Rattle.dinode.specs.Core.{core-of, inode-size, version-ok, directory-ok, attributes-ok, inode-code, directory-code, attributes-code, tested, tested-code, directory-fork, attributes-fork};
+ghost use Rattle.dinode.specs.Core.{core-of, inode-size, version-ok, directory-ok, attributes-ok};
+ghost use Rattle.dinode.specs.Core.{inode-code, directory-code, attributes-code, tested, tested-code, directory-fork, attributes-fork};
 use edition::Edition;
 use edition::V4;
+
+// Where the size field lies.
+pub const SIZE_PLACE: usize = 56;
 
 // The fields that are handed out.
 pub struct Core {
@@ -53,7 +57,7 @@ fn fields(b: &[u8]) -> Core
     let mode = be::be16(b, 2);
     let version = be::be8(b, 4);
     let format = be::be8(b, 5);
-    let size = be::be64(b, 56);
+    let size = be::be64(b, SIZE_PLACE);
     let forkoff = be::be8(b, 82);
     let aformat = be::be8(b, 83);
     Core {
@@ -68,7 +72,7 @@ fn fields(b: &[u8]) -> Core
 }
 
 // Tests 1 to 3: 0, or the number of the first that fails.
-pub fn code(e: Edition, b: &[u8]) -> usize
+fn code(e: Edition, b: &[u8]) -> usize
     requires { ⌜ Sane e ⌝ }
     ensures { λ r. ⌜ r ≡ inode-code e (now (b .entry)) ⌝ }
 {
@@ -115,7 +119,7 @@ fn attributes(b: &[u8]) -> bool
 }
 
 // Tests 1 to 3 of a directory's inode.
-pub fn code_of_directory(e: Edition, b: &[u8]) -> usize
+fn code_of_directory(e: Edition, b: &[u8]) -> usize
     requires { ⌜ Sane e ⌝ }
     ensures { λ r. ⌜ r ≡ directory-code e (now (b .entry)) ⌝ }
 {
@@ -130,7 +134,7 @@ pub fn code_of_directory(e: Edition, b: &[u8]) -> usize
 }
 
 // Tests 1 to 3 of an inode with attributes.
-pub fn code_of_attributes(e: Edition, b: &[u8]) -> usize
+fn code_of_attributes(e: Edition, b: &[u8]) -> usize
     requires { ⌜ Sane e ⌝ }
     ensures { λ r. ⌜ r ≡ attributes-code e (now (b .entry)) ⌝ }
 {

@@ -6,70 +6,96 @@ use mathlib.Core.Bool.{Bool, true, false, not}
 use mathlib.Core.Path.{_≡_, refl, sym, _∙_, ap, ap₂}
 use mathlib.Core.List.{List}
 use lib.Dec.{eqb}
-use lib.ListN.{length, take, drop}
+use lib.ListN.{length, take, drop, length-take, length-drop}
 use borrow.Author.Tests.{eqb-true, eqb-false, eq-eqb, ne-eqb, not-true, not-false}
-use Rattle.be.specs.Bytes.{byte, field}
+use Rattle.be.specs.Bytes.{byte}
 use Rattle.be.proofs.Bools.{by-cases}
 use Rattle.edition.specs.declared.Edition.{Edition}
 use Rattle.edition.specs.Edition.{block-size, Sane}
-use Rattle.dinode.specs.Core.{directory-code, data-length, data-fork}
+use Rattle.dinode.specs.declared.Fork.{Fork}
+use Rattle.dinode.specs.declared.Fork.the-variants.{At, Refused}
+use Rattle.dinode.specs.Core.{size-place, directory-code, directory-fork, data-length, data-fork}
 use Rattle.dinode.proofs.Sound.{sound-size, sound-fits, directory-sound}
 use Rattle.dir_sf.specs.Fork.{fork-verdict}
-use Rattle.dir_sf.specs.Inode.{verdict}
+use Rattle.dir_sf.specs.Inode.{size-of, verdict}
 
 pub least : (k : ℕ) → (k ≡ 0 → ⊥) → 1 ≤ k
 least zero z = absurd (z refl)
 least (suc k) z = omega arith
 
+-- what is told of the data fork: where it lies, or which test fails
+module _ (e : Edition) (b : List ℕ) (x : Fork) (told : x ≡ directory-fork e b) where
+  pub fork-there : (s n : ℕ) → x ≡ At s n → (directory-code e b ≡ 0) × (s ≡ e .literal) × (n ≡ data-length e b)
+  unfolding directory-fork
+  fork-there s n h =
+      by-cases (eqb (directory-code e b) 0) (λ q. let g = rw q at told in (eqb-true _ _ q, cc, cc))
+      (λ q. let g = rw q at told in let z : _≡_ {A = ℕ} 0 1 = cc in absurd (omega arith))
+
+  pub fork-refused : (n : ℕ) → x ≡ Refused n → (n ≡ directory-code e b) × (directory-code e b ≡ 0 → ⊥)
+  unfolding directory-fork
+  fork-refused n h =
+      by-cases (eqb (directory-code e b) 0) (λ q. let g = rw q at told in let z : _≡_ {A = ℕ} 0 1 = cc in absurd (omega arith))
+      (λ q. let g = rw q at told in (cc, eqb-false _ _ q))
+
 module _ (e : Edition) (sane : Sane e) (b : List ℕ) (h : directory-code e b ≡ 0) where
   sized : (256 ≤ length b) × (length b ≤ 2048)
   sized = sound-size e b (directory-sound e b h)
 
-  pub core-in : 82 < length b
-  core-in = omega (arith, sized)
-
-  pub size-in : 56 + 8 ≤ length b
+  pub size-in : size-place + 8 ≤ length b
   size-in = omega (arith, sized)
 
-  pub long-whole : (k : ℕ) → k ≡ byte 82 b → k ≡ 0 → length b - e .literal ≡ data-length e b
+  -- the length of the fork, by its two cases
+  pub bounds : (8 ≤ data-length e b) × (data-length e b ≤ 1948) × (e .literal + data-length e b ≤ length b)
   unfolding data-length
-  long-whole k q z = rw (eq-eqb _ _ (sym q ∙ z)) refl
-
-  pub long-part : (k : ℕ) → k ≡ byte 82 b → (k ≡ 0 → ⊥) → 8 * k ≡ data-length e b
-  unfolding data-length
-  long-part k q z = rw (ne-eqb _ _ (λ y. z (q ∙ y)), q) refl
-
-  pub core-long : e .literal ≤ length b
-  core-long = omega (arith, sized, sane .literal-most)
-
-  -- the length of the fork, once more, by its two cases
-  bounds : (8 ≤ data-length e b) × (data-length e b ≤ 1948) × (e .literal + data-length e b ≤ length b)
   bounds =
       let f : e .literal + 8 * byte 82 b ≤ length b = sound-fits e b (directory-sound e b h) in
       by-cases (eqb (byte 82 b) 0)
-      (λ q. let e₀ = long-whole (byte 82 b) refl (eqb-true _ _ q) in (omega (arith, sized, sane .literal-most), omega (arith, sized, sane .literal-least), omega (arith, sized, sane .literal-most)))
+      (λ q. rw q (omega (arith, sized, sane .literal-most), omega (arith, sized, sane .literal-least), omega (arith, sized, sane .literal-most)))
       (λ q.
-      let e₀ = long-part (byte 82 b) refl (eqb-false _ _ q) in
       let p : 1 ≤ byte 82 b = least (byte 82 b) (eqb-false _ _ q) in
-      (omega arith, omega (arith, sized, sane .literal-least), omega arith))
+      rw q (omega arith, omega (arith, sized, sane .literal-least), omega arith))
 
-  pub bounded : (r : ℕ) → r ≡ data-length e b → (r ≡ data-length e b) × (8 ≤ r) × (r ≤ 1948) × (e .literal + r ≤ length b)
-  bounded r e₀ = (e₀, omega (arith, bounds), omega (arith, bounds), omega (arith, bounds))
+  -- how long it is, as it is told
+  module _ (x : Fork) (told : x ≡ directory-fork e b) where
+    pub long-is : (s n : ℕ) → x ≡ At s n → (n ≡ data-length e b) × (8 ≤ n) × (n ≤ 1948) × (e .literal + n ≤ length b)
+    long-is s n k =
+        let q : n ≡ data-length e b = fork-there e b x told s n k .2 in
+        (q, omega (arith, bounds), omega (arith, bounds), omega (arith, bounds))
+
+    pub long-not : (n : ℕ) → x ≡ Refused n → (n ≡ data-length e b) × (8 ≤ n) × (n ≤ 1948) × (e .literal + n ≤ length b)
+    long-not n k = absurd (fork-refused e b x told n k .1 h)
 
 pub told-not : (e : Edition) (told : ℕ) (b : List ℕ) (t : Bool) → t ≡ block-size told → not t ≡ true → _≡_ {A = ℕ} 1 (verdict e told b)
 unfolding verdict
 told-not e told b t h f = sym (rw (sym h ∙ not-true t f) refl)
 
-pub code-not : (e : Edition) (told c : ℕ) (b : List ℕ) (t : Bool) → t ≡ block-size told → not t ≡ false → c ≡ directory-code e b → (c ≡ 0 → ⊥) → c ≡ verdict e told b
-unfolding verdict
-code-not e told c b t h f q z = q ∙ sym (rw (sym h ∙ not-false t f, ne-eqb _ _ (λ y. z (q ∙ y))) refl)
+-- the tests go on where the fork lies
+module _ (e : Edition) (told : ℕ) (b : List ℕ) (x : Fork) (f : x ≡ directory-fork e b) where
+  pub code-not : (c : ℕ) (t : Bool) → t ≡ block-size told → not t ≡ false → x ≡ Refused c → c ≡ verdict e told b
+  unfolding verdict
+  code-not c t h g k =
+      let r = fork-refused e b x f c k in
+      r .0 ∙ sym (rw (sym h ∙ not-false t g, ne-eqb _ _ (r .1)) refl)
 
-pub tests-all : (e : Edition) (told c r n z : ℕ) (b : List ℕ) (t : Bool) → t ≡ block-size told → not t ≡ false → c ≡ directory-code e b → c ≡ 0 → n ≡ data-length e b → z ≡ field 56 8 b
-    → r ≡ fork-verdict e told (take (e .literal + n - e .literal) (drop (e .literal) b)) z → r ≡ verdict e told b
-unfolding verdict data-fork
-tests-all e told c r n z b t h f q y m x s =
-    let l : e .literal + n - e .literal ≡ data-length e b = omega arith in
-    s ∙ ap₂ (λ (j i : ℕ). fork-verdict e told (take j (drop (e .literal) b)) i) l x ∙ sym (rw (sym h ∙ not-false t f, eq-eqb _ _ (sym q ∙ y)) refl)
+  module _ (s n : ℕ) (k : x ≡ At s n) where
+    pub fork-in : Sane e → (s + n ≤ length b) × (length b ≤ 2048) × (8 ≤ n)
+    fork-in sane =
+        let g = fork-there e b x f s n k in
+        (omega (arith, bounds e sane b (g .0), g .1, g .2), sized e sane b (g .0) .1, omega (arith, bounds e sane b (g .0), g .2))
+
+    pub size-there : Sane e → size-place + 8 ≤ length b
+    size-there sane = size-in e sane b (fork-there e b x f s n k .0)
+
+    pub fork-lent : Sane e → 2 ≤ length (take (s + n - s) (drop s b))
+    fork-lent sane = simp (length-take, length-drop) (omega (arith, fork-in sane))
+
+    pub tests-all : (r z : ℕ) (t : Bool) → t ≡ block-size told → not t ≡ false → z ≡ size-of b
+        → r ≡ fork-verdict e told (take (s + n - s) (drop s b)) z → r ≡ verdict e told b
+    unfolding verdict data-fork
+    tests-all r z t h g q y =
+        let w = fork-there e b x f s n k in
+        let l : s + n - s ≡ data-length e b = omega (arith, w .2) in
+        y ∙ rw (l, w .1, q) (sym (rw (sym h ∙ not-false t g, eq-eqb _ _ (w .0)) refl))
 
 -- of the edition that was made
 pub test-made : (e f : Edition) (told : ℕ) (b : List ℕ) (r : ℕ) → r ≡ verdict e told b → e ≡ f → r ≡ verdict f told b

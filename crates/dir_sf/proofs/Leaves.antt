@@ -12,7 +12,8 @@ use Rattle.be.specs.Bytes.{field}
 use Rattle.be.proofs.Bools.{by-cases}
 use Rattle.records.proofs.Starts.{start-fits}
 use Rattle.edition.specs.declared.Edition.{Edition}
-use Rattle.dir_sf.specs.Entry.{width-of, size-at, enough}
+use Rattle.dir_sf.specs.Entry.{width-of, size-at}
+use Rattle.dir_sf.specs.Inner.{enough}
 use Rattle.dir_sf.proofs.Run.{enough-lies, long-at-is}
 
 pub width-least : (wides : ℕ) → 4 ≤ width-of wides

@@ -12,4 +12,6 @@ pub mod Walks
 pub mod Tags
 pub mod Stored
 pub mod Whole
+pub mod StepNames
+pub mod V4Laws
 pub mod SmallCodes

@@ -10,8 +10,9 @@ use Rattle.be.specs.Bytes.{byte, field, put}
 use Rattle.records.specs.Records.{start}
 use Rattle.records.proofs.Turns.{run-inside}
 use Rattle.edition.specs.declared.Edition.{Edition}
-use Rattle.dir_sf.specs.Entry.{SfEntry, width-of, entries-in, size-at, enough, entries-bytes}
-use Rattle.dir_sf.specs.Fork.{Readable, count-of, stored-wides, used-width, parent, entries, place-of}
+use Rattle.dir_sf.specs.Entry.{SfEntry, width-of, entries-in, size-at, entries-bytes}
+use Rattle.dir_sf.specs.Fork.{count-of, stored-wides, used-width, parent, entries, place-of}
+use Rattle.dir_sf.specs.Inner.{enough, Readable}
 use Rattle.dir_sf.proofs.Run.{Run, run-at, run-left, run-on, run-one, enough-fewer, entries-take, entries-drop, length-entries-in}
 
 -- the header, as it is read

@@ -19,9 +19,10 @@ use Rattle.name.specs.Name.{legal-name, same-name}
 use Rattle.dir.specs.declared.Looked.the-variants.{Found, Absent, Refused}
 use Rattle.dir.specs.declared.Target.{Target}
 use Rattle.dir.specs.Target.{target, no-target, kept-of}
-use Rattle.dir_sf.specs.Entry.{SfEntry, width-of, size-at, entry-at, entries-in, enough}
-use Rattle.dir_sf.specs.Fork.{Readable, entries, holds, count-of}
-use Rattle.dir_sf.specs.Change.{Hits, seek, target-in, target-for}
+use Rattle.dir_sf.specs.Entry.{SfEntry, width-of, size-at, entry-at, entries-in}
+use Rattle.dir_sf.specs.Fork.{entries, holds, count-of}
+use Rattle.dir_sf.specs.Change.{target-in, target-for}
+use Rattle.dir_sf.specs.Inner.{enough, Readable, Hits, seek}
 use Rattle.dir_sf.specs.Inode.{looked}
 use Rattle.dir_sf.proofs.Names.{absent-target}
 use Rattle.dir_sf.proofs.Tests.{seek-holds}

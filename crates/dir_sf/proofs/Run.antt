@@ -13,7 +13,8 @@ use Rattle.records.proofs.Starts.{start-fewer, places-done, length-records, rec
 use Rattle.records.proofs.Turns as turns
 use Rattle.edition.specs.declared.Edition.{Edition}
 use Rattle.dir.specs.Target.{target}
-use Rattle.dir_sf.specs.Entry.{size-at, entry-at, entries-in, filled, enough}
+use Rattle.dir_sf.specs.Entry.{size-at, entry-at, entries-in, filled}
+use Rattle.dir_sf.specs.Inner.{enough}
 
 -- i of the k entries from `at` on are passed, and the next one starts at p; all of them lie in u
 abbrev pub Run : Edition → ℕ → List ℕ → ℕ → ℕ → ℕ → ℕ → Type 0

@@ -10,8 +10,8 @@ use lib.ListN.{take, drop, getD}
 use Rattle.records.specs.Records.{start}
 use Rattle.edition.specs.declared.Edition.{Edition}
 use Rattle.name.specs.Name.{same-name}
-use Rattle.dir_sf.specs.Entry.{SfEntry, size-at, entry-at, entries-in, enough}
-use Rattle.dir_sf.specs.Change.{seek}
+use Rattle.dir_sf.specs.Entry.{SfEntry, size-at, entry-at, entries-in}
+use Rattle.dir_sf.specs.Inner.{enough, seek}
 use Rattle.dir_sf.proofs.Run.{Run, run-start, run-on, run-rest, run-over, run-whole, name-at-is}
 
 pub record Seek (e : Edition) (w : ℕ) (u : List ℕ) (at k : ℕ) (name : List ℕ) (i p : ℕ) : Type 0 where

@@ -12,25 +12,25 @@ use borrow.Author.Tests.{eqb-true, eq-eqb, ne-eqb, leb-true}
 use Rattle.refusal.specs.Refusal.{ASKED, FIXED, ABSENT}
 use Rattle.be.specs.Lists.{same}
 use Rattle.be.specs.Codes.{_unless_then_}
-use Rattle.be.specs.Bytes.{field}
 use Rattle.be.proofs.Bools.{and-left, and-right, by-cases}
 use Rattle.be.proofs.Codes.{passes, both}
 use Rattle.edition.specs.declared.Edition.{Edition}
 use Rattle.edition.specs.Edition.{block-size, Sane}
-use Rattle.dinode.specs.Core.{directory-code, data-length, data-fork}
+use Rattle.dinode.specs.Core.{size-place, directory-code, data-length, data-fork}
 use Rattle.dir.specs.declared.Looked.{Looked}
 use Rattle.dir.specs.declared.Looked.the-variants.{Found, Absent, Refused}
 use Rattle.dir.specs.declared.Target.{Target}
 use Rattle.dir.specs.Target.{no-target}
 use Rattle.dir.specs.Answers.{looked-code, looked-target, looked-compared}
 use Rattle.name.specs.Name.{legal-name, dot, dotdot}
-use Rattle.dir_sf.specs.Entry.{SfEntry, width-of, enough, filled, tags-ok, wides-of}
-use Rattle.dir_sf.specs.Fork.{Readable, count-of, stored-wides, used-width, parent, entries, holds, span-ok, tile-ok, names-ok, numbers-ok, once-ok, used-verdict, fork-verdict}
+use Rattle.dir_sf.specs.Entry.{SfEntry, width-of, filled, tags-ok, wides-of}
+use Rattle.dir_sf.specs.Fork.{count-of, stored-wides, used-width, parent, entries, holds, span-ok, tile-ok, names-ok, numbers-ok, once-ok, used-verdict, fork-verdict}
 use Rattle.dir_sf.specs.Change.{lookup-request, target-for}
-use Rattle.dir_sf.specs.Inode.{verdict, used, looked, lookup, lookup-code, lookup-target, Lookup-promise}
+use Rattle.dir_sf.specs.Inner.{enough, Readable}
+use Rattle.dir_sf.specs.Inode.{size-of, verdict, used, looked, lookup, lookup-code, lookup-target, Lookup-promise}
 use Rattle.dir_sf.proofs.Leaves.{width-least}
 use Rattle.dir_sf.proofs.Run.{filled-enough}
-use Rattle.dir_sf.proofs.Inodes.{bounded, size-in}
+use Rattle.dir_sf.proofs.Inodes.{bounds, size-in}
 
 pub wides-known : (e : Edition) (told : ℕ) (u : List ℕ) → used-verdict e told u ≡ 0 → stored-wides u ≡ wides-of (parent u) (entries e u)
 unfolding used-verdict
@@ -63,7 +63,7 @@ names-known e told u a =
     passes (names-ok e (entries e u)) 5 _ (t₅ .1) .0
 
 module _ (e : Edition) (sane : Sane e) (told : ℕ) (b : List ℕ) (h : verdict e told b ≡ 0) where
-  parts : (block-size told ≡ true) × (directory-code e b ≡ 0) × (fork-verdict e told (data-fork e b) (field 56 8 b) ≡ 0)
+  parts : (block-size told ≡ true) × (directory-code e b ≡ 0) × (fork-verdict e told (data-fork e b) (size-of b) ≡ 0)
   unfolding verdict
   parts =
       let a = passes (block-size told) 0 _ h in
@@ -76,38 +76,38 @@ module _ (e : Edition) (sane : Sane e) (told : ℕ) (b : List ℕ) (h : verdict 
   pub is-told : block-size told ≡ true
   is-told = parts .0
 
-  fork-parts : (span-ok (data-fork e b) (field 56 8 b) ≡ true) × (used-verdict e told (used e b) ≡ 0)
+  fork-parts : (span-ok (data-fork e b) (size-of b) ≡ true) × (used-verdict e told (used e b) ≡ 0)
   unfolding fork-verdict used
-  fork-parts = passes (span-ok (data-fork e b) (field 56 8 b)) 3 _ (parts .2)
+  fork-parts = passes (span-ok (data-fork e b) (size-of b)) 3 _ (parts .2)
 
   pub used-passes : used-verdict e told (used e b) ≡ 0
   used-passes = fork-parts .1
 
   fork-is-long : length (data-fork e b) ≡ data-length e b
   unfolding data-fork
-  fork-is-long = simp (length-take, length-drop) (omega (arith, bounded e sane b is-directory (data-length e b) refl))
+  fork-is-long = simp (length-take, length-drop) (omega (arith, bounds e sane b is-directory))
 
-  span : (2 + used-width (data-fork e b) ≤ field 56 8 b) × (field 56 8 b ≤ data-length e b)
+  span : (2 + used-width (data-fork e b) ≤ size-of b) × (size-of b ≤ data-length e b)
   unfolding span-ok
   span =
       let s = fork-parts .0 in
-      let m : field 56 8 b ≤ length (data-fork e b) = leb-true _ _ (and-right (leb (2 + used-width (data-fork e b)) (field 56 8 b)) _ s) in
+      let m : size-of b ≤ length (data-fork e b) = leb-true _ _ (and-right (leb (2 + used-width (data-fork e b)) (size-of b)) _ s) in
       (leb-true _ _ (and-left _ _ s), omega (arith, fork-is-long))
 
-  pub size-at : 56 + 8 ≤ length b
+  pub size-at : size-place + 8 ≤ length b
   size-at = size-in e sane b is-directory
 
-  pub used-bounds : (r : ℕ) → r ≡ field 56 8 b
-      → (r ≡ field 56 8 b) × (r ≤ data-length e b) × (data-length e b ≤ 1948) × (e .literal + data-length e b ≤ length b)
-  used-bounds r q = let k = bounded e sane b is-directory (data-length e b) refl in (q, omega (arith, span), k .2, k .3)
+  pub used-bounds : (r : ℕ) → r ≡ size-of b
+      → (r ≡ size-of b) × (r ≤ data-length e b) × (data-length e b ≤ 1948) × (e .literal + data-length e b ≤ length b)
+  used-bounds r q = let k = bounds e sane b is-directory in (q, omega (arith, span), k .1, k .2)
 
-  pub used-is : (z : ℕ) → z ≡ field 56 8 b → take (e .literal + z - e .literal) (drop (e .literal) b) ≡ used e b
+  pub used-is : (z : ℕ) → z ≡ size-of b → take (e .literal + z - e .literal) (drop (e .literal) b) ≡ used e b
   unfolding used data-fork
   used-is z q =
-      let l : e .literal + z - e .literal ≡ field 56 8 b = omega arith in
-      rw (l, take-take (field 56 8 b) (data-length e b) (drop (e .literal) b) (span .1)) refl
+      let l : e .literal + z - e .literal ≡ size-of b = omega arith in
+      rw (l, take-take (size-of b) (data-length e b) (drop (e .literal) b) (span .1)) refl
 
-  pub used-long : length (used e b) ≡ field 56 8 b
+  pub used-long : length (used e b) ≡ size-of b
   unfolding used
   used-long = simp length-take (omega (arith, fork-is-long, span))
 
@@ -117,7 +117,7 @@ module _ (e : Edition) (sane : Sane e) (told : ℕ) (b : List ℕ) (h : verdict 
 
   same-width : used-width (used e b) ≡ used-width (data-fork e b)
   unfolding used-width stored-wides used
-  same-width = ap width-of (getD-take (field 56 8 b) (data-fork e b) 1 0 (omega (arith, span, wide-enough)))
+  same-width = ap width-of (getD-take (size-of b) (data-fork e b) 1 0 (omega (arith, span, wide-enough)))
 
   pub used-header : 2 + used-width (used e b) ≤ length (used e b)
   used-header = omega (arith, same-width, used-long, span)
@@ -138,7 +138,7 @@ pub lookup-refused : (e : Edition) (told c : ℕ) (b n : List ℕ) → c ≡ ver
 unfolding lookup
 lookup-refused e told c b n h f = sym (rw (ne-eqb (verdict e told b) 0 (λ q. f (h ∙ q)), ← h) refl)
 
-pub lookup-looked : (e : Edition) (sane : Sane e) (told c z : ℕ) (b n : List ℕ) (r : Looked) → c ≡ verdict e told b → c ≡ 0 → z ≡ field 56 8 b
+pub lookup-looked : (e : Edition) (sane : Sane e) (told c z : ℕ) (b n : List ℕ) (r : Looked) → c ≡ verdict e told b → c ≡ 0 → z ≡ size-of b
     → r ≡ looked e n (parent (take (e .literal + z - e .literal) (drop (e .literal) b))) (entries e (take (e .literal + z - e .literal) (drop (e .literal) b))) → r ≡ lookup e told b n
 unfolding lookup
 lookup-looked e sane told c z b n r h f q k =
@@ -149,7 +149,7 @@ pub tested-zero : (e : Edition) (told c : ℕ) (b : List ℕ) → c ≡ verdict 
 tested-zero e told c b h f = sym h ∙ f
 
 -- the used bytes, as they are lent
-pub lent-readable : (e : Edition) (sane : Sane e) (told c z : ℕ) (b : List ℕ) → c ≡ verdict e told b → c ≡ 0 → z ≡ field 56 8 b
+pub lent-readable : (e : Edition) (sane : Sane e) (told c z : ℕ) (b : List ℕ) → c ≡ verdict e told b → c ≡ 0 → z ≡ size-of b
     → Readable e (take (e .literal + z - e .literal) (drop (e .literal) b))
 lent-readable e sane told c z b h f q = rw (used-is e sane told b (sym h ∙ f) z q) (used-readable e sane told b (sym h ∙ f))
 

@@ -11,16 +11,16 @@ use lib.ListN.{length, take, drop, getD, length-take, length-drop}
 use borrow.Author.Tests.{le-leb, lt-leb, lt-ltb, le-ltb, ltb-true, ltb-false, eq-eqb, ne-eqb, not-true, not-false}
 use Rattle.be.specs.Lists.{every}
 use Rattle.be.specs.Bytes.{field}
-use Rattle.be.proofs.Bools.{by-cases, and-false}
+use Rattle.be.proofs.Bools.{by-cases, and-true, and-false}
 use Rattle.records.specs.Records.{start, places}
 use Rattle.records.proofs.Starts.{tiled-over}
 use Rattle.records.proofs.Turns.{run-inside}
 use Rattle.edition.specs.declared.Edition.{Edition}
 use Rattle.edition.specs.Edition.{entry-size, Sane}
 use Rattle.name.specs.Name.{legal-name, legal-number, fixed-name, same-name}
-use Rattle.dir_sf.specs.Entry.{SfEntry, size-at, entry-at, entries-in, filled, enough, next-tag, tags-ok, end-tag, in-block, is-wide, wides-of}
-use Rattle.dir_sf.specs.Fork.{tiles, name-ok, names-ok, numbers-ok, once-ok, holds}
-use Rattle.dir_sf.specs.Change.{seek}
+use Rattle.dir_sf.specs.Entry.{SfEntry, size-at, entry-at, entries-in, filled, next-tag, tags-ok, end-tag, in-block, is-wide, wides-of}
+use Rattle.dir_sf.specs.Fork.{name-ok, names-ok, numbers-ok, once-ok, holds}
+use Rattle.dir_sf.specs.Inner.{enough, tiles, seek}
 use Rattle.dir_sf.proofs.Run.{Run, length-entries-in, run-start, run-left, run-on, run-rest, run-over, run-whole, long-at-is, name-at-is, tag-at-is, inode-at-is}
 
 -- ---- TILE
@@ -190,14 +190,11 @@ module _ (e : Edition) (w : ℕ) (u : List ℕ) (at k i p n j : ℕ) (t : Bool) 
       → Every e number-ok w u at k (i + 1) (p + 3 + n + v)
   numbered-on v s h a e₀ b c f = every-on e number-ok w u at k i p n v s h a e₀ (sym (number-is a b c) ∙ not-false t f)
 
-pub numbered-parent : (parent : ℕ) (xs : List SfEntry) (t : Bool) → t ≡ legal-number parent → not t ≡ true → false ≡ numbers-ok parent xs
+-- NUMBER covers the parent
+pub numbered-done : (e : Edition) (w : ℕ) (u : List ℕ) (at k i p parent : ℕ) (t : Bool) → Every e number-ok w u at k i p → k ≤ i → t ≡ legal-number parent
+    → t ≡ numbers-ok parent (entries-in e w u k at)
 unfolding numbers-ok
-numbered-parent parent xs t h f = sym (rw (sym h ∙ not-true t f) refl)
-
-pub numbered-done : (e : Edition) (w : ℕ) (u : List ℕ) (at k i p parent : ℕ) (t : Bool) → Every e number-ok w u at k i p → k ≤ i → t ≡ legal-number parent → not t ≡ false
-    → true ≡ numbers-ok parent (entries-in e w u k at)
-unfolding numbers-ok
-numbered-done e w u at k i p parent t s h a b = sym (rw (sym a ∙ not-false t b) (every-done e number-ok w u at k i p s h))
+numbered-done e w u at k i p parent t s h a = a ∙ sym (rw (every-done e number-ok w u at k i p s h) (and-true (legal-number parent)))
 
 -- ---- wide numbers counted
 

@@ -12,8 +12,9 @@ use borrow.Author.Tests.{le-leb, lt-leb, eq-eqb, ne-eqb, not-true, not-false}
 use Rattle.be.specs.Bytes.{field}
 use Rattle.be.proofs.Bools.{by-cases, and-left}
 use Rattle.edition.specs.declared.Edition.{Edition}
-use Rattle.dir_sf.specs.Entry.{width-of, entries-in, enough, wides-of}
-use Rattle.dir_sf.specs.Fork.{count-of, stored-wides, used-width, parent, entries, tiles, span-ok, tile-ok, names-ok, numbers-ok, once-ok, used-verdict, fork-verdict}
+use Rattle.dir_sf.specs.Entry.{width-of, entries-in, wides-of}
+use Rattle.dir_sf.specs.Fork.{count-of, stored-wides, used-width, parent, entries, span-ok, tile-ok, names-ok, numbers-ok, once-ok, used-verdict, fork-verdict}
+use Rattle.dir_sf.specs.Inner.{enough, tiles}
 use Rattle.dir_sf.proofs.Run.{filled-enough}
 use Rattle.dir_sf.proofs.Listed.{entries-is, parent-is}
 

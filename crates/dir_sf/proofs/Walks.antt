@@ -18,15 +18,15 @@ use Rattle.edition.specs.Edition.{Sane}
 use Rattle.dir.specs.declared.Walked.{Walked}
 use Rattle.dir.specs.declared.Seen.the-variants.{Live, End}
 use Rattle.dir.specs.declared.Walked.the-variants.{Stepped, Refused}
-use Rattle.dir_sf.specs.Entry.{width-of, size-at, entry-at, enough}
+use Rattle.dir_sf.specs.Entry.{width-of, size-at, entry-at}
 use Rattle.dir_sf.specs.Fork.{count-of, stored-wides, used-width, place-of}
 use Rattle.dir_sf.specs.Walk.{end-step, entry-step, place-in, step-in, step-code, step-next, step-seen, walk-step, Step-promise}
-use Rattle.dir_sf.specs.WalkPass.{at-end, at-entry, walked-over, walked-in}
+use Rattle.dir_sf.specs.Inner.{enough, at-end, at-entry, walked-over, walked-in}
 use Rattle.dir.specs.declared.Target.{Target}
 use Rattle.dir.specs.Target.{target}
 use Rattle.dir.specs.Answers.{walked-code, walked-next, walked-seen}
 use Rattle.dinode.specs.Core.{data-length}
-use Rattle.dir_sf.specs.Inode.{verdict, used}
+use Rattle.dir_sf.specs.Inode.{size-of, verdict, used}
 use Rattle.dir_sf.proofs.Tested.{used-is}
 use Rattle.dir_sf.proofs.Leaves.{one-in}
 use Rattle.dir_sf.proofs.Listed.{list-enough}
@@ -129,7 +129,7 @@ step-walked e told b place v =
     by-cases (stands size (count-of u) (2 + used-width u) place)
     (λ q. by-cases (eqb place (start size (count-of u) (2 + used-width u))) (λ r. rw (v, q, r) refl) (λ r. rw (v, q, r) refl)) (λ q. rw (v, q) refl)
 
-pub step-stepped : (e : Edition) (sane : Sane e) (told c z : ℕ) (b : List ℕ) (place : ℕ) (r : Walked) → c ≡ verdict e told b → c ≡ 0 → z ≡ field 56 8 b
+pub step-stepped : (e : Edition) (sane : Sane e) (told c z : ℕ) (b : List ℕ) (place : ℕ) (r : Walked) → c ≡ verdict e told b → c ≡ 0 → z ≡ size-of b
     → r ≡ walked-in e (take (e .literal + z - e .literal) (drop (e .literal) b)) place → r ≡ walk-step e told b place
 step-stepped e sane told c z b place r h f q k =
     let v : verdict e told b ≡ 0 = sym h ∙ f in
@@ -148,7 +148,7 @@ module _ (e : Edition) (told : ℕ) (b : List ℕ) (place : ℕ) where
   unfolding walk-step step-next
   next-is = by-cases (eqb (step-code e told b place) 0) (λ q. rw q refl) (λ q. rw q refl)
 
-  seen-is : walked-seen (walk-step e told b place) ≡ step-seen e told b place
+  pub seen-is : walked-seen (walk-step e told b place) ≡ step-seen e told b place
   unfolding walk-step step-seen
   seen-is = by-cases (eqb (step-code e told b place) 0) (λ q. rw q refl) (λ q. rw q refl)
 

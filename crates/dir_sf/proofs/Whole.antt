@@ -18,7 +18,7 @@ use Rattle.dir_sf.specs.Entry.{SfEntry, size-at, next-tag, tags-ok}
 use Rattle.dir_sf.specs.Fork.{count-of, used-width, place-of}
 use Rattle.dir_sf.specs.Inode.{used, verdict}
 use Rattle.dir_sf.specs.Walk.{end-step, entry-step, step-in, step-code, step-seen, walk-step, after-step, walk, meets}
-use Rattle.dir_sf.specs.WalkPass.{at-end, at-entry, walked-over, walked-in}
+use Rattle.dir_sf.specs.Inner.{at-end, at-entry, walked-over, walked-in}
 use Rattle.dir.specs.declared.Seen.{Seen}
 use Rattle.dir.specs.declared.Seen.the-variants.{Live, Gap, End}
 use Rattle.dir_sf.specs.Laws.{Walk-whole, Walk-ends, Tags-rise, Walk-no-gap}

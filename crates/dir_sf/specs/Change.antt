@@ -1,11 +1,10 @@
 -- Lookup, insert and removal, of an accepted fork's parent and entries: what a request itself comes to, and what it changes.
 -- Assumes nothing.
 use Prim.Native.Nat.{ℕ, suc, _+_}
-use mathlib.Core.Bool.{Bool, not, cond, _&&_, _||_}
-use mathlib.Core.Path.{_≡_}
-use mathlib.Core.List.{List, [], _∷_, _++_}
+use mathlib.Core.Bool.{Bool, true, false, not, cond, _&&_, _||_}
+use mathlib.Core.List.{List, [], _∷_}
 use lib.Dec.{eqb, leb, ltb}
-use lib.ListN.{length, take, drop}
+use lib.ListN.{length}
 use Rattle.refusal.specs.Refusal.{ASKED, FIXED, ABSENT, EXISTS, NOROOM, NARROW}
 use Rattle.be.specs.Lists.{same, without-first}
 use Rattle.be.specs.Codes.{_unless_then_}
@@ -14,9 +13,10 @@ use Rattle.edition.specs.Edition.{entry-size}
 use Rattle.name.specs.Name.{legal-name, same-name, fixed-name, dot, dotdot}
 use Rattle.dir.specs.declared.Target.{Target}
 use Rattle.dir.specs.Target.{target, no-target, legal-target, kept-of}
-use Rattle.dir_sf.specs.declared.Hit.{Hit}
+use Rattle.dir_sf.specs.declared.FreeTag.{FreeTag}
+use Rattle.dir_sf.specs.declared.FreeTag.the-variants.{At, Nowhere}
 use Rattle.dir_sf.specs.Entry.{SfEntry, entry, is-wide, wides-of, next-tag, end-tag, in-block}
-use Rattle.dir_sf.specs.Fork.{entries, place-of, lay, holds}
+use Rattle.dir_sf.specs.Fork.{lay, holds}
 
 -- ---- lookup
 
@@ -24,19 +24,6 @@ use Rattle.dir_sf.specs.Fork.{entries, place-of, lay, holds}
 unfoldable pub target-in : Edition → List ℕ → List SfEntry → Target
 target-in e n [] = no-target
 target-in e n (x ∷ xs) = cond (same-name e n (x .name)) (x .target) (target-in e n xs)
-
--- how many entries stand before the first of the name (inner: no public promise cites it)
-unfoldable pub seek : Edition → List ℕ → List SfEntry → ℕ
-seek e n [] = 0
-seek e n (x ∷ xs) = let r = seek e n xs in cond (same-name e n (x .name)) 0 (suc r)
-
--- what the search for a name in the used bytes finds: whether an entry bears it, how many stand before that entry, where it starts, and what it stands for
--- (inner)
-pub record Hits (e : Edition) (n u : List ℕ) (r : Hit) : Type 0 where
-  pub held-is : r .held ≡ holds e n (entries e u)
-  pub index-is : r .index ≡ seek e n (entries e u)
-  pub at-is : r .at ≡ place-of e (r .index) u
-  pub target-is : r .target ≡ target-in e n (entries e u)
 
 -- 11 ASKED, 12 FIXED ("." looked up in a short form), 13 ABSENT
 unfoldable pub lookup-request : Edition → List ℕ → List SfEntry → ℕ
@@ -51,43 +38,44 @@ target-for e n p xs = cond (same n dotdot) (kept-of e (target p 2)) (target-in e
 
 -- ---- insert
 
--- the start of the lowest gap in the tags, from low up, that holds long; 0 where there is none
-unfoldable pub gap-tag : Edition → ℕ → ℕ → List SfEntry → ℕ
-gap-tag e long low [] = 0
+-- the start of the lowest gap in the tags, from low up, that holds long, if there is one
+unfoldable pub gap-tag : Edition → ℕ → ℕ → List SfEntry → FreeTag
+gap-tag e long low [] = Nowhere
 gap-tag e long low (x ∷ xs) =
     let r = gap-tag e long (next-tag e x) xs in
-    cond (leb (low + long) (x .tag)) low r
+    cond (leb (low + long) (x .tag)) (At low) r
 
 -- the tag of a new entry with a name of n bytes: it follows the last entry if the TILE limit still holds; otherwise the
--- start of the lowest gap that holds E, if the limit for the larger count holds; 0 where there is no such tag
-unfoldable pub tag-for : Edition → ℕ → ℕ → List SfEntry → ℕ
+-- start of the lowest gap that holds E, if the limit for the larger count holds
+unfoldable pub tag-for : Edition → ℕ → ℕ → List SfEntry → FreeTag
 tag-for e told n xs =
     let long = entry-size e n in
     let end = end-tag e (e .first) xs in
     let k = suc (length xs) in
-    cond (in-block told (end + long) k) end (cond (in-block told end k) (gap-tag e long (e .first) xs) 0)
+    cond (in-block told (end + long) k) (At end) (cond (in-block told end k) (gap-tag e long (e .first) xs) Nowhere)
 
 -- the list stays in tag order
 unfoldable pub placed : SfEntry → List SfEntry → List SfEntry
 placed y [] = y ∷ []
 placed y (x ∷ xs) = let r = placed y xs in cond (ltb (y .tag) (x .tag)) (y ∷ x ∷ xs) (x ∷ r)
 
--- how many entries stand before a new one with tag t (inner)
-unfoldable pub rank : ℕ → List SfEntry → ℕ
-rank t [] = 0
-rank t (x ∷ xs) = let r = rank t xs in cond (ltb t (x .tag)) 0 (suc r)
-
--- the list with an entry put in, j before it (inner)
-unfoldable pub with-nth : ℕ → SfEntry → List SfEntry → List SfEntry
-with-nth j y xs = take j xs ++ (y ∷ drop j xs)
+-- the new entry goes in by its tag
+unfoldable pub put-by : FreeTag → List ℕ → Target → List SfEntry → List SfEntry
+put-by (At tag) n t xs = placed (entry tag n t) xs
+put-by Nowhere n t xs = xs
 
 unfoldable pub inserted : Edition → ℕ → List ℕ → Target → List SfEntry → List SfEntry
-inserted e told n t xs = placed (entry (tag-for e told (length n) xs) n (kept-of e t)) xs
+inserted e told n t xs = put-by (tag-for e told (length n) xs) n (kept-of e t) xs
+
+-- there is such a tag
+unfoldable pub is-free : FreeTag → Bool
+is-free (At tag) = true
+is-free Nowhere = false
 
 -- 15 NOROOM: no such tag, or the new size passes the fork
 unfoldable pub has-room : Edition → ℕ → ℕ → List ℕ → Target → ℕ → List SfEntry → Bool
 has-room e told fork n t p xs =
-    not (eqb (tag-for e told (length n) xs) 0) && leb (length (lay e p (inserted e told n t xs))) fork
+    is-free (tag-for e told (length n) xs) && leb (length (lay e p (inserted e told n t xs))) fork
 
 -- 11 ASKED, 12 FIXED, 14 EXISTS, 15 NOROOM
 unfoldable pub insert-request : Edition → ℕ → ℕ → List ℕ → Target → ℕ → List SfEntry → ℕ
@@ -102,10 +90,6 @@ insert-request e told fork n t p xs =
 -- later entries close up, their tags stay
 unfoldable pub removed : Edition → List ℕ → List SfEntry → List SfEntry
 removed e n xs = without-first (λ x. same-name e n (x .name)) xs
-
--- the list without the entry that has j before it (inner)
-unfoldable pub without-nth : ℕ → List SfEntry → List SfEntry
-without-nth j xs = take j xs ++ drop (suc j) xs
 
 -- 16 NARROW: the last wide entry is taken out under a wide parent
 unfoldable pub narrows : ℕ → List SfEntry → List SfEntry → Bool

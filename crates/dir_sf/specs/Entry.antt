@@ -7,7 +7,7 @@ use lib.Dec.{eqb, leb, ltb}
 use lib.ListN.{length}
 use Rattle.be.specs.Lists.{tally}
 use Rattle.be.specs.Bytes.{byte, field, part, to-be}
-use Rattle.records.specs.Records.{read-records, tiled, within, joined}
+use Rattle.records.specs.Records.{read-records, tiled, joined}
 use Rattle.edition.specs.declared.Edition.{Edition}
 use Rattle.edition.specs.Edition.{entry-size}
 use Rattle.dir.specs.declared.Target.{Target}
@@ -44,10 +44,6 @@ entries-in e w u k at = read-records (size-at e w u) (entry-at e w u) k at
 -- TILE: they use exactly the bytes up to the end of u
 unfoldable pub filled : Edition → ℕ → List ℕ → ℕ → ℕ → Bool
 filled e w u k at = tiled (size-at e w u) (length u) k at
-
--- they lie in u (inner)
-unfoldable pub enough : Edition → ℕ → List ℕ → ℕ → ℕ → Bool
-enough e w u k at = within (size-at e w u) (length u) k at
 
 -- ---- laid out
 

@@ -1,8 +1,7 @@
 -- A short-form directory's fork: header, entries, and tests 4 to 10.
 -- f is the fork; u is its used bytes, the first `size` of it.
 -- Assumes nothing.
-use Prim.Native.Nat.{ℕ, _+_, _-_, _≤_}
-use mathlib.Core.Path.{_≡_}
+use Prim.Native.Nat.{ℕ, _+_, _-_}
 use mathlib.Core.Bool.{Bool, true, not, _&&_}
 use mathlib.Core.List.{List, [], _∷_, _++_}
 use lib.Dec.{eqb, leb}
@@ -14,7 +13,7 @@ use Rattle.be.specs.Bytes.{byte, field, to-be}
 use Rattle.records.specs.Records.{start}
 use Rattle.edition.specs.declared.Edition.{Edition}
 use Rattle.name.specs.Name.{legal-name, legal-number, same-name, fixed-name}
-use Rattle.dir_sf.specs.Entry.{SfEntry, width-of, size-at, entries-in, filled, enough, entries-bytes, wides-of, tags-ok, end-tag, in-block}
+use Rattle.dir_sf.specs.Entry.{SfEntry, width-of, size-at, entries-in, filled, entries-bytes, wides-of, tags-ok, end-tag, in-block}
 
 -- Header: count (1), i8count (1), parent
 unfoldable pub count-of : List ℕ → ℕ
@@ -44,12 +43,6 @@ lay e p xs = laid e (length xs) (wides-of p xs) p xs
 unfoldable pub lay-fork : Edition → ℕ → ℕ → List SfEntry → List ℕ
 lay-fork e n p xs = let u = lay e p xs in u ++ replicate (n - length u) 0
 
--- what is known of used bytes that pass the tests: header and entries lie in them, and i8count is right (inner: no public promise cites it)
-pub record Readable (e : Edition) (u : List ℕ) : Type 0 where
-  pub header : 2 + used-width u ≤ length u
-  pub listed : enough e (used-width u) u (count-of u) (2 + used-width u) ≡ true
-  pub wides : stored-wides u ≡ wides-of (parent u) (entries e u)
-
 -- where entry j starts in the used bytes
 unfoldable pub place-of : Edition → ℕ → List ℕ → ℕ
 place-of e j u = start (size-at e (used-width u) u) j (2 + used-width u)
@@ -64,14 +57,6 @@ tile-ok e told u =
     filled e (used-width u) u (count-of u) (2 + used-width u)
     && tags-ok e (e .first) (entries e u)
     && in-block told (end-tag e (e .first) (entries e u)) (count-of u)
-
--- the same of k entries of u from a place on, of all in the list, whose tags start at low: what a walk over them has still to test
--- (inner)
-unfoldable pub tiles : Edition → ℕ → ℕ → ℕ → ℕ → List ℕ → ℕ → ℕ → Bool
-tiles e w told all low u k at =
-    filled e w u k at
-    && tags-ok e low (entries-in e w u k at)
-    && in-block told (end-tag e low (entries-in e w u k at)) all
 
 -- 6 NAME: a stored name is legal, and not "." or ".."
 abbrev pub name-ok : Edition → SfEntry → Bool

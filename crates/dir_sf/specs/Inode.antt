@@ -12,7 +12,7 @@ use Rattle.be.specs.Lists.{same}
 use Rattle.be.specs.Codes.{_unless_then_, _and-then_}
 use Rattle.edition.specs.declared.Edition.{Edition}
 use Rattle.edition.specs.Edition.{block-size}
-use Rattle.dinode.specs.Core.{directory-code, data-fork, data-length}
+use Rattle.dinode.specs.Core.{size-place, directory-code, data-fork, data-length}
 use Rattle.name.specs.Name.{legal-name, dot, dotdot}
 use Rattle.dir.specs.declared.Target.{Target}
 use Rattle.dir.specs.declared.Looked.{Looked}
@@ -25,7 +25,7 @@ use Rattle.dir_sf.specs.Change.{inserted, insert-request, removed, remov
 
 -- the size field
 abbrev pub size-of : List ℕ → ℕ
-size-of b = field 56 8 b
+size-of b = field size-place 8 b
 
 -- the used bytes of the data fork
 unfoldable pub used : Edition → List ℕ → List ℕ
@@ -77,7 +77,7 @@ Lookup-promise e told b n r =
 unfoldable pub with-entries : Edition → List ℕ → List SfEntry → List ℕ
 with-entries e b xs =
     let p = parent (used e b) in
-    written b (write 56 (to-be 8 (length (lay e p xs))) ∷ write (e .literal) (lay-fork e (data-length e b) p xs) ∷ [])
+    written b (write size-place (to-be 8 (length (lay e p xs))) ∷ write (e .literal) (lay-fork e (data-length e b) p xs) ∷ [])
 
 -- a refusal changes no byte
 unfoldable pub insert-bytes : Edition → ℕ → List ℕ → List ℕ → Target → List ℕ

@@ -5,15 +5,16 @@ use mathlib.Core.Bool.{true, false, cond}
 use mathlib.Core.Path.{_≡_}
 use mathlib.Core.List.{List, _∷_, _++_}
 use lib.ListN.{length}
+use Rattle.be.specs.Bytes.{part}
 use Rattle.edition.specs.declared.Edition.{Edition}
 use Rattle.name.specs.Name.{legal-name, fixed-name, dotdot}
 use Rattle.dir.specs.declared.Looked.the-variants.{Found, Absent}
 use Rattle.dir_sf.specs.Entry.{SfEntry}
-use Rattle.dir_sf.specs.Fork.{parent, entries, holds, count-of, used-width}
+use Rattle.dir_sf.specs.Fork.{parent, entries, holds, count-of, used-width, place-of}
 use Rattle.dir_sf.specs.Change.{target-in}
 use Rattle.dir_sf.specs.Inode.{used, verdict, lookup}
 use Rattle.dir.specs.Target.{target, kept-of}
-use Rattle.dir.specs.declared.Seen.the-variants.{Gap}
+use Rattle.dir.specs.declared.Seen.the-variants.{Live, Gap}
 use Rattle.dir_sf.specs.Walk.{step-seen, walk, meets}
 
 -- a lookup gives what is stored: each entry's number and type, by its name
@@ -39,6 +40,16 @@ Walk-whole e = (told : ℕ) (b : List ℕ) (steps : ℕ) → verdict e told b �
 unfoldable pub Walk-ends : Edition → Type 0
 Walk-ends e = (told : ℕ) (b : List ℕ) (steps : ℕ) → verdict e told b ≡ 0 → count-of (used e b) < steps
     → length (walk e told b steps (2 + used-width (used e b))) ≡ length (entries e (used e b)) + 1
+
+-- what a step at a place tells of an entry: what it stands for, and the part of the inode that is its name
+pub record Tells (e : Edition) (told : ℕ) (b : List ℕ) (place : ℕ) (x : SfEntry) : Type 0 where
+  pub seen-is : step-seen e told b place ≡ Live (record { target = x .target; start = e .literal + (place + 3); len = length (x .name) })
+  pub name-is : part (e .literal + (place + 3)) (length (x .name)) b ≡ x .name
+
+-- the step at an entry's place tells of that entry: the part that it hands out is the stored name
+unfoldable pub Walk-names : Edition → Type 0
+Walk-names e = (told : ℕ) (b : List ℕ) (ys zs : List SfEntry) (x : SfEntry) → verdict e told b ≡ 0 → entries e (used e b) ≡ ys ++ (x ∷ zs)
+    → Tells e told b (place-of e (length ys) (used e b)) x
 
 -- stored order is by rising tag
 unfoldable pub Tags-rise : Edition → Type 0

@@ -3,5 +3,5 @@ pub mod Fork
 pub mod Change
 pub mod Inode
 pub mod Walk
-pub mod WalkPass
+pub mod Inner
 pub mod Laws

@@ -8,13 +8,13 @@ ghost use Rattle.records.specs.Records.{start};
 ghost use Rattle.edition.specs.Edition.{v4, Sane};
 ghost use Rattle.name.specs.Name.{legal-name, fixed-name};
 ghost use Rattle.dinode.specs.Core.{directory-code, data-length};
-ghost use Rattle.dir_sf.specs.Entry.{width-of, entries-in, enough, size-at, is-wide, wides-of};
-ghost use Rattle.dir_sf.specs.Fork.{Readable, place-of, count-of, parent, entries, tiles, names-ok, numbers-ok, once-ok, used-width, used-verdict, fork-verdict};
-ghost use Rattle.dir_sf.specs.Change.{Hits, seek};
-ghost use Rattle.dir_sf.specs.Inode.{verdict, looked, lookup, Lookup-promise};
+ghost use Rattle.dir_sf.specs.Entry.{width-of, entries-in, size-at, is-wide, wides-of};
+ghost use Rattle.dir_sf.specs.Fork.{place-of, count-of, parent, entries, names-ok, numbers-ok, once-ok, used-width, used-verdict, fork-verdict};
+ghost use Rattle.dir_sf.specs.Inode.{size-of, verdict, looked, lookup, Lookup-promise};
 ghost use Rattle.dir_sf.specs.Walk.{walk-step, Step-promise};
-ghost use Rattle.dir_sf.specs.WalkPass.{walked-in};
+ghost use Rattle.dir_sf.specs.Inner.{enough, Readable, tiles, Hits, seek, walked-in};
 ghost use Rattle.dir.specs.Target.{target};
+use dinode::Fork;
 use dir::Entry;
 use dir::Looked;
 use dir::Seen;
@@ -67,6 +67,12 @@ pub fn namelen(e: Edition, u: &[u8], p: usize, wides: usize) -> usize
 pub struct Spot {
     pub index: usize,
     pub at: usize,
+}
+
+// The tag of a new entry: where it is free, or nowhere.
+pub enum FreeTag {
+    At(usize),
+    Nowhere,
 }
 
 // The first entry of a name among the k from `at` on; past them all where there is none.
@@ -168,9 +174,6 @@ fn numbered(e: Edition, u: &[u8], parent: u64, at: usize, k: usize, wides: usize
     requires { ⌜ Sane e × (at ≤ length (now u)) × (enough e (width-of wides) (now u) k at ≡ true) ⌝ }
     ensures { λ r. ⌜ r ≡ numbers-ok parent (entries-in e (width-of wides) (now (u .entry)) k at) ⌝ }
 {
-    if !name::number_legal(parent) {
-        return false;
-    }
     let mut i = 0;
     let mut p = at;
     let w = rest(e, wides);
@@ -183,7 +186,7 @@ fn numbered(e: Edition, u: &[u8], parent: u64, at: usize, k: usize, wides: usize
         p = end + w;
         i += 1;
     }
-    true
+    name::number_legal(parent)
 }
 
 // 1 for a number that takes 8 bytes, else 0.
@@ -285,11 +288,10 @@ pub fn fork_long(e: Edition, b: &[u8]) -> usize
     requires { ⌜ Sane e × (directory-code e (now b) ≡ 0) ⌝ }
     ensures { λ r. ⌜ (r ≡ data-length e (now (b .entry))) × (8 ≤ r) × (r ≤ 1948) × (e .literal + r ≤ length (now (b .entry))) ⌝ }
 {
-    let k = be::be8(b, 82);
-    if k == 0 {
-        return b.len() - e.literal;
+    match dinode::fork_of_directory(e, b) {
+        Fork::At(_, len) => len,
+        Fork::Refused(n) => n,
     }
-    8 * k
 }
 
 // Tests 1 to 10: 0, or the number of the first that fails.
@@ -300,14 +302,14 @@ pub fn code(e: Edition, b: &[u8], told: usize) -> usize
     if !edition::block_sized(told) {
         return refusal::SIZE;
     }
-    let c = dinode::code_of_directory(e, b);
-    if c != 0 {
-        return c;
+    match dinode::fork_of_directory(e, b) {
+        Fork::At(start, len) => {
+            let end = start + len;
+            let size = be::be64(b, dinode::SIZE_PLACE) as usize;
+            fork_code(e, &b[start..end], size, told)
+        }
+        Fork::Refused(n) => n,
     }
-    let start = e.literal;
-    let end = start + fork_long(e, b);
-    let size = be::be64(b, 56) as usize;
-    fork_code(e, &b[start..end], size, told)
 }
 
 // Tests the directory in an inode: 0, or the number of the first test that fails.
@@ -320,10 +322,10 @@ pub fn test(b: &[u8], told: usize) -> usize
 // How many bytes of the fork are used, in an inode that passes the tests.
 pub fn used_long(e: Edition, b: &[u8], told: usize) -> usize
     requires { ⌜ Sane e × (verdict e told (now b) ≡ 0) ⌝ }
-    ensures { λ r. ⌜ (r ≡ field 56 8 (now (b .entry))) × (r ≤ data-length e (now (b .entry))) × (data-length e (now (b .entry)) ≤ 1948)
+    ensures { λ r. ⌜ (r ≡ size-of (now (b .entry))) × (r ≤ data-length e (now (b .entry))) × (data-length e (now (b .entry)) ≤ 1948)
         × (e .literal + data-length e (now (b .entry)) ≤ length (now (b .entry))) ⌝ }
 {
-    be::be64(b, 56) as usize
+    be::be64(b, dinode::SIZE_PLACE) as usize
 }
 
 // ---- what is read of used bytes that pass the tests

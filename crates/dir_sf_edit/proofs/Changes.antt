@@ -7,7 +7,7 @@ use mathlib.Core.Path.{_≡_, refl, sym, _∙_, ap, ap₂}
 use mathlib.Core.List.{List, [], _∷_, _++_}
 use lib.ListN.{length, take, drop, replicate, length-take, length-drop}
 use borrow.Author.Tests.{eqb-true, eq-eqb, ne-eqb}
-use Rattle.be.specs.Bytes.{to-be, field, put, written}
+use Rattle.be.specs.Bytes.{to-be, put, written}
 use Rattle.be.specs.Lists.{every}
 use Rattle.be.proofs.Bools.{and-left, and-both}
 use Rattle.be.proofs.Writes.{put-nothing}
@@ -20,14 +20,15 @@ use Rattle.dir.specs.declared.Target.{Target}
 use Rattle.dir.specs.Target.{legal-target, kept-of}
 use Rattle.name.specs.Name.{legal-name, fixed-name}
 use Rattle.name.proofs.Legality.{legal-bounds}
-use Rattle.dinode.specs.Core.{directory-code, data-length}
+use Rattle.dinode.specs.Core.{size-place, directory-code, data-length}
 use Rattle.dir_sf.specs.Entry.{SfEntry, entry, width-of, size-at, entry-at, entries-in, filled, entry-bytes, entries-bytes, wides-of}
-use Rattle.dir_sf.specs.Fork.{Readable, count-of, used-width, parent, entries, holds, lay, lay-fork, tile-ok, name-ok, names-ok, used-verdict}
-use Rattle.dir_sf.specs.Change.{tag-for, placed, inserted, insert-request, removed, remove-request}
-use Rattle.dir_sf.specs.Inode.{verdict, used, insert-code, remove-code, with-entries, insert-bytes, remove-bytes}
+use Rattle.dir_sf.specs.Fork.{count-of, used-width, parent, entries, holds, lay, lay-fork, tile-ok, name-ok, names-ok, used-verdict}
+use Rattle.dir_sf.specs.Change.{tag-for, is-free, placed, inserted, insert-request, removed, remove-request}
+use Rattle.dir_sf.specs.Inner.{Readable}
+use Rattle.dir_sf.specs.Inode.{size-of, verdict, used, insert-code, remove-code, with-entries, insert-bytes, remove-bytes}
 use Rattle.dir_sf_edit.proofs.ReadBack.{length-entry-bytes, length-lay}
 use Rattle.dir_sf_edit.proofs.Keeps.{removed-fits, inserts}
-use Rattle.dir_sf_edit.proofs.Inserts.{every-placed, length-placed}
+use Rattle.dir_sf_edit.proofs.Inserts.{number-of, inserted-is, every-placed, length-placed}
 use Rattle.dir_sf_edit.proofs.Insertions.{lay-few}
 use Rattle.dir_sf.proofs.Listed.{count-is}
 use Rattle.dir_sf.proofs.Tested.{wides-known, names-known, is-directory, used-passes, used-is, used-long, used-header, used-bounds, used-readable}
@@ -38,7 +39,7 @@ pub remove-refused : (e : Edition) (told c : ℕ) (b n : List ℕ) → c ≡ ver
 unfolding remove-code
 remove-refused e told c b n h f = h ∙ sym (rw (ne-eqb (verdict e told b) 0 (λ q. f (h ∙ q))) refl)
 
-pub remove-passed : (e : Edition) (sane : Sane e) (told c z r : ℕ) (b n : List ℕ) → c ≡ verdict e told b → c ≡ 0 → z ≡ field 56 8 b
+pub remove-passed : (e : Edition) (sane : Sane e) (told c z r : ℕ) (b n : List ℕ) → c ≡ verdict e told b → c ≡ 0 → z ≡ size-of b
     → r ≡ remove-request e n (parent (take (e .literal + z - e .literal) (drop (e .literal) b))) (entries e (take (e .literal + z - e .literal) (drop (e .literal) b))) → r ≡ remove-code e told b n
 unfolding remove-code
 remove-passed e sane told c z r b n h f q k =
@@ -94,22 +95,22 @@ fresh-take (x ∷ xs) (suc n) (suc m) h l =
 module _ (e : Edition) (sane : Sane e) (told : ℕ) (b : List ℕ) (v : verdict e told b ≡ 0) (ys : List SfEntry)
     (fits : length (lay e (parent (used e b)) ys) ≤ data-length e b) where
   written-back : (m s : ℕ) (t b₁ : List ℕ) → m ≡ data-length e b → t ≡ put (replicate 2048 0) 0 (lay e (parent (used e b)) ys)
-      → s ≡ length (lay e (parent (used e b)) ys) → b₁ ≡ put (put b 56 (to-be 8 s)) (e .literal) (take m t) → b₁ ≡ with-entries e b ys
+      → s ≡ length (lay e (parent (used e b)) ys) → b₁ ≡ put (put b size-place (to-be 8 s)) (e .literal) (take m t) → b₁ ≡ with-entries e b ys
   unfolding with-entries written lay-fork
   written-back m s t b₁ e₀ f g k =
       let L : List ℕ = lay e (parent (used e b)) ys in
-      let x = used-bounds e sane told b v (field 56 8 b) refl in
+      let x = used-bounds e sane told b v (size-of b) refl in
       let y : take m t ≡ L ++ replicate (data-length e b - length L) 0 =
       ap₂ (λ (i : ℕ) (l : List ℕ). take i l) e₀ f ∙ fresh-take L (data-length e b) 2048 fits (omega arith) in
-      k ∙ ap₂ (λ (i : ℕ) (l : List ℕ). put (put b 56 (to-be 8 i)) (e .literal) l) g y
+      k ∙ ap₂ (λ (i : ℕ) (l : List ℕ). put (put b size-place (to-be 8 i)) (e .literal) l) g y
 
   room : (T : ℕ) → T ≡ 2048 → length (lay e (parent (used e b)) ys) ≤ T
-  room T e₀ = let x = used-bounds e sane told b v (field 56 8 b) refl in omega arith
+  room T e₀ = let x = used-bounds e sane told b v (size-of b) refl in omega arith
 
 -- what was there fits the fork
 pub lay-fits : (e : Edition) (sane : Sane e) (told : ℕ) (b : List ℕ) → verdict e told b ≡ 0 → length (lay e (parent (used e b)) (entries e (used e b))) ≤ data-length e b
 lay-fits e sane told b v =
-    let u = used-bounds e sane told b v (field 56 8 b) refl in
+    let u = used-bounds e sane told b v (size-of b) refl in
     omega (arith, same-long e told (used e b) (used-passes e sane told b v) (used-header e sane told b v), used-long e sane told b v)
 
 -- ---- removal
@@ -138,7 +139,7 @@ module _ (e : Edition) (sane : Sane e) (told : ℕ) (b n : List ℕ) (h : remove
   pub remove-fits : length (lay e (parent (used e b)) (removed e n (entries e (used e b)))) ≤ data-length e b
   remove-fits = omega (arith, removed-fits e n (parent (used e b)) (entries e (used e b)), lay-fits e sane told b remove-passes)
 
-  module _ (z : ℕ) (q : z ≡ field 56 8 b) where
+  module _ (z : ℕ) (q : z ≡ size-of b) where
     same : take (e .literal + z - e .literal) (drop (e .literal) b) ≡ used e b
     same = used-is e sane told b remove-passes z q
 
@@ -155,7 +156,7 @@ module _ (e : Edition) (sane : Sane e) (told : ℕ) (b n : List ℕ) (h : remove
     pub taken-out : (m s : ℕ) (t b₁ : List ℕ) → m ≡ data-length e b
         → t ≡ put (replicate 2048 0) 0 (lay e (parent (take (e .literal + z - e .literal) (drop (e .literal) b))) (removed e n (entries e (take (e .literal + z - e .literal) (drop (e .literal) b)))))
         → s ≡ length (lay e (parent (take (e .literal + z - e .literal) (drop (e .literal) b))) (removed e n (entries e (take (e .literal + z - e .literal) (drop (e .literal) b)))))
-        → b₁ ≡ put (put b 56 (to-be 8 s)) (e .literal) (take m t) → b₁ ≡ with-entries e b (removed e n (entries e (used e b)))
+        → b₁ ≡ put (put b size-place (to-be 8 s)) (e .literal) (take m t) → b₁ ≡ with-entries e b (removed e n (entries e (used e b)))
     taken-out m s t b₁ e₀ f g k =
         written-back e sane told b remove-passes (removed e n (entries e (used e b))) remove-fits m s t b₁ e₀ (rw same at f) (rw same at g) k
 
@@ -174,7 +175,7 @@ pub insert-refused : (e : Edition) (told c : ℕ) (b n : List ℕ) (to : Target)
 unfolding insert-code
 insert-refused e told c b n to h f = h ∙ sym (rw (ne-eqb (verdict e told b) 0 (λ q. f (h ∙ q))) refl)
 
-pub insert-passed : (e : Edition) (sane : Sane e) (told c z fork r : ℕ) (b n : List ℕ) (to : Target) → c ≡ verdict e told b → c ≡ 0 → z ≡ field 56 8 b → fork ≡ data-length e b
+pub insert-passed : (e : Edition) (sane : Sane e) (told c z fork r : ℕ) (b n : List ℕ) (to : Target) → c ≡ verdict e told b → c ≡ 0 → z ≡ size-of b → fork ≡ data-length e b
     → r ≡ insert-request e told fork n to (parent (take (e .literal + z - e .literal) (drop (e .literal) b))) (entries e (take (e .literal + z - e .literal) (drop (e .literal) b)))
     → r ≡ insert-code e told b n to
 unfolding insert-code
@@ -185,7 +186,7 @@ insert-passed e sane told c z fork r b n to h f q g k =
 pub tested-dir : (e : Edition) (sane : Sane e) (told c : ℕ) (b : List ℕ) → c ≡ verdict e told b → c ≡ 0 → directory-code e b ≡ 0
 tested-dir e sane told c b h f = is-directory e sane told b (sym h ∙ f)
 
-pub lent-whole : (e : Edition) (sane : Sane e) (told c z : ℕ) (b : List ℕ) → c ≡ verdict e told b → c ≡ 0 → z ≡ field 56 8 b
+pub lent-whole : (e : Edition) (sane : Sane e) (told c z : ℕ) (b : List ℕ) → c ≡ verdict e told b → c ≡ 0 → z ≡ size-of b
     → length (lay e (parent (take (e .literal + z - e .literal) (drop (e .literal) b))) (entries e (take (e .literal + z - e .literal) (drop (e .literal) b))))
     ≡ length (take (e .literal + z - e .literal) (drop (e .literal) b))
 lent-whole e sane told c z b h f q =
@@ -207,7 +208,7 @@ module _ (e : Edition) (sane : Sane e) (told : ℕ) (b n : List ℕ) (to : Targe
   insert-dir = is-directory e sane told b insert-passes
 
   all-tests : (legal-name e n ≡ true) × (legal-target e to ≡ true) × (fixed-name n ≡ false) × (holds e n (entries e (used e b)) ≡ false)
-      × ((tag-for e told (length n) (entries e (used e b)) ≡ 0 → ⊥)) × (length (lay e (parent (used e b)) (inserted e told n to (entries e (used e b)))) ≤ data-length e b)
+      × (is-free (tag-for e told (length n) (entries e (used e b))) ≡ true) × (length (lay e (parent (used e b)) (inserted e told n to (entries e (used e b)))) ≤ data-length e b)
   all-tests = inserts e told (parent (used e b)) n to (entries e (used e b)) (data-length e b) (insert-parts .1)
 
   pub insert-short : length n < 256
@@ -217,20 +218,24 @@ module _ (e : Edition) (sane : Sane e) (told : ℕ) (b n : List ℕ) (to : Targe
   insert-fits = all-tests .5
 
   few-entries : count-of (used e b) < 255
-  unfolding inserted names-ok
+  unfolding names-ok
   few-entries =
-      let y : SfEntry = entry (tag-for e told (length n) (entries e (used e b))) n (kept-of e to) in
-      let u = used-bounds e sane told b insert-passes (field 56 8 b) refl in
+      let y : SfEntry = entry (number-of (tag-for e told (length n) (entries e (used e b)))) n (kept-of e to) in
+      let fits : length (lay e (parent (used e b)) (placed y (entries e (used e b)))) ≤ data-length e b = rw (inserted-is e told n to (entries e (used e b)) (all-tests .4)) at insert-fits in
+      let u = used-bounds e sane told b insert-passes (size-of b) refl in
       let k : every (name-ok e) (placed y (entries e (used e b))) ≡ true =
       every-placed (name-ok e) y (entries e (used e b)) (and-both _ _ (all-tests .0) (rw (all-tests .2) refl)) (names-known e told (used e b) (used-passes e sane told b insert-passes)) in
-      omega (arith, lay-few e (parent (used e b)) (placed y (entries e (used e b))) k, length-placed y (entries e (used e b)), count-is e (used e b), insert-fits)
+      omega (arith, lay-few e (parent (used e b)) (placed y (entries e (used e b))) k, length-placed y (entries e (used e b)), count-is e (used e b))
 
-  module _ (z : ℕ) (q : z ≡ field 56 8 b) where
+  module _ (z : ℕ) (q : z ≡ size-of b) where
     lent : take (e .literal + z - e .literal) (drop (e .literal) b) ≡ used e b
     lent = used-is e sane told b insert-passes z q
 
     pub insert-readable : Readable e (take (e .literal + z - e .literal) (drop (e .literal) b))
     insert-readable = rw lent (used-readable e sane told b insert-passes)
+
+    pub insert-free : is-free (tag-for e told (length n) (entries e (take (e .literal + z - e .literal) (drop (e .literal) b)))) ≡ true
+    insert-free = rw lent (all-tests .4)
 
     pub insert-few : count-of (take (e .literal + z - e .literal) (drop (e .literal) b)) < 255
     insert-few = rw lent few-entries
@@ -242,7 +247,7 @@ module _ (e : Edition) (sane : Sane e) (told : ℕ) (b n : List ℕ) (to : Targe
     pub put-in-is : (m s : ℕ) (t b₁ : List ℕ) → m ≡ data-length e b
         → t ≡ put (replicate 2048 0) 0 (lay e (parent (take (e .literal + z - e .literal) (drop (e .literal) b))) (inserted e told n to (entries e (take (e .literal + z - e .literal) (drop (e .literal) b)))))
         → s ≡ length (lay e (parent (take (e .literal + z - e .literal) (drop (e .literal) b))) (inserted e told n to (entries e (take (e .literal + z - e .literal) (drop (e .literal) b)))))
-        → b₁ ≡ put (put b 56 (to-be 8 s)) (e .literal) (take m t) → b₁ ≡ with-entries e b (inserted e told n to (entries e (used e b)))
+        → b₁ ≡ put (put b size-place (to-be 8 s)) (e .literal) (take m t) → b₁ ≡ with-entries e b (inserted e told n to (entries e (used e b)))
     put-in-is m s t b₁ e₀ f g k =
         written-back e sane told b insert-passes (inserted e told n to (entries e (used e b))) insert-fits m s t b₁ e₀ (rw lent at f) (rw lent at g) k
 

@@ -13,7 +13,8 @@ use Rattle.records.proofs.Joined.{joined-append}
 use Rattle.edition.specs.declared.Edition.{Edition}
 use Rattle.dir.specs.declared.Target.{Target}
 use Rattle.dir.specs.Target.{target}
-use Rattle.dir_sf.specs.Entry.{SfEntry, entry, entry-at, entries-in, enough, entry-bytes, entries-bytes}
+use Rattle.dir_sf.specs.Entry.{SfEntry, entry, entry-at, entries-in, entry-bytes, entries-bytes}
+use Rattle.dir_sf.specs.Inner.{enough}
 use Rattle.dir_sf_edit.proofs.ReadBack.{length-entry-bytes}
 use Rattle.dir_sf.proofs.Leaves.{one-in}
 use Rattle.dir_sf.proofs.Run.{Run, run-start, run-on, run-passed, run-one, entries-take, name-at-is, tag-at-is, target-at-is}

@@ -7,19 +7,23 @@ use mathlib.Core.Path.{_≡_, refl, sym, _∙_, ap, ap₂, subst}
 use mathlib.Core.List.{List, [], _∷_}
 use lib.Dec.{ltb}
 use lib.ListN.{length, length-append}
-use borrow.Author.Tests.{le-leb, lt-leb, ne-eqb, not-true, not-false}
+use borrow.Author.Tests.{le-leb, lt-leb, not-true, not-false}
 use Rattle.refusal.specs.Refusal.{ASKED, FIXED, EXISTS, NOROOM}
 use Rattle.be.specs.Lists.{tally, every}
 use Rattle.be.specs.Bytes.{byte, put}
-use Rattle.be.proofs.Bools.{by-cases, and-left, every-head, every-tail}
+use Rattle.be.proofs.Bools.{by-cases, clash, and-left, every-head, every-tail}
 use Rattle.edition.specs.declared.Edition.{Edition}
 use Rattle.dir.specs.declared.Target.{Target}
 use Rattle.dir.specs.Target.{legal-target, kept-of}
 use Rattle.name.specs.Name.{legal-name, fixed-name}
 use Rattle.name.proofs.Legality.{legal-bounds}
+use Rattle.dir_sf.specs.declared.FreeTag.{FreeTag}
+use Rattle.dir_sf.specs.declared.FreeTag.the-variants.{At, Nowhere}
 use Rattle.dir_sf.specs.Entry.{SfEntry, entry, width-of, entry-bytes, entries-bytes, is-wide, wides-of}
-use Rattle.dir_sf.specs.Fork.{Readable, laid, lay, count-of, stored-wides, parent, entries, holds, name-ok, names-ok}
-use Rattle.dir_sf.specs.Change.{rank, placed, with-nth, tag-for, inserted, has-room, insert-request}
+use Rattle.dir_sf.specs.Fork.{laid, lay, count-of, stored-wides, parent, entries, holds, name-ok, names-ok}
+use Rattle.dir_sf.specs.Change.{placed, tag-for, is-free, put-by, inserted, has-room, insert-request}
+use Rattle.dir_sf.specs.Inner.{Readable}
+use Rattle.dir_sf_edit.specs.Inner.{rank, with-nth}
 use Rattle.dir_sf.proofs.Leaves.{narrow, broad, width-least}
 use Rattle.dir_sf.proofs.Listed.{count-is}
 use Rattle.dir_sf_edit.proofs.ReadBack.{length-entry-bytes, length-lay}
@@ -143,44 +147,51 @@ module _ (e : Edition) (told fork : ℕ) (n : List ℕ) (to : Target) (p : ℕ) 
           unfolding insert-request
           last = rw (sym h₁ ∙ not-false t₁ g₁, sym h₂ ∙ not-false t₂ g₂, sym h₃ ∙ g₃, sym h₄ ∙ g₄) refl
 
-          module _ (s tag : ℕ) (l : s ≡ length n) (ht : tag ≡ tag-for e told s xs) where
-            tag-is : tag-for e told (length n) xs ≡ tag
+          module _ (s : ℕ) (free : FreeTag) (l : s ≡ length n) (ht : free ≡ tag-for e told s xs) where
+            tag-is : tag-for e told (length n) xs ≡ free
             tag-is = ap (λ (z : ℕ). tag-for e told z xs) (sym l) ∙ sym ht
 
-            pub insert-no-tag : tag ≡ 0 → _≡_ {A = ℕ} NOROOM (insert-request e told fork n to p xs)
-            unfolding has-room
+            pub insert-no-tag : free ≡ Nowhere → _≡_ {A = ℕ} NOROOM (insert-request e told fork n to p xs)
+            unfolding has-room is-free
             insert-no-tag f = sym (last ∙ rw (tag-is ∙ f) refl)
 
-            module _ (f : tag ≡ 0 → ⊥) (x : Target) (hx : x ≡ kept-of e to) (z : ℕ) (hz : z ≡ length (lay e p (placed (entry tag n x) xs))) where
+            module _ (tag : ℕ) (f : free ≡ At tag) (x : Target) (hx : x ≡ kept-of e to) (z : ℕ) (hz : z ≡ length (lay e p (placed (entry tag n x) xs))) where
               size-is : length (lay e p (inserted e told n to xs)) ≡ z
-              unfolding inserted
-              size-is = ap₂ (λ (k : ℕ) (y : Target). length (lay e p (placed (entry k n y) xs))) tag-is (sym hx) ∙ sym hz
+              unfolding inserted put-by
+              size-is = ap₂ (λ (k : FreeTag) (y : Target). length (lay e p (put-by k n y xs))) (tag-is ∙ f) (sym hx) ∙ sym hz
 
               pub insert-no-fit : fork < z → _≡_ {A = ℕ} NOROOM (insert-request e told fork n to p xs)
-              unfolding has-room
-              insert-no-fit h = sym (last ∙ rw (tag-is, ne-eqb tag 0 f, size-is, lt-leb z fork h) refl)
+              unfolding has-room is-free
+              insert-no-fit h = sym (last ∙ rw (tag-is ∙ f, size-is, lt-leb z fork h) refl)
 
               pub insert-done : z ≤ fork → _≡_ {A = ℕ} 0 (insert-request e told fork n to p xs)
-              unfolding has-room
-              insert-done h = sym (last ∙ rw (tag-is, ne-eqb tag 0 f, size-is, le-leb z fork h) refl)
+              unfolding has-room is-free
+              insert-done h = sym (last ∙ rw (tag-is ∙ f, size-is, le-leb z fork h) refl)
+
+-- where there is a tag, it is somewhere
+pub somewhere : (free t : FreeTag) → free ≡ t → free ≡ Nowhere → is-free t ≡ true → ⊥
+unfolding is-free
+somewhere free t h f k = clash (sym (ap is-free (sym h ∙ f)) ∙ k) refl
 
 -- ---- the directory with the entry in
 
-module _ (e : Edition) (u name : List ℕ) (r : Readable e u) (told wides one s tag : ℕ) (to x : Target) (index : ℕ) (b : wides ≡ byte 1 u) (g : one ≡ cond (is-wide (to .inode)) 1 0) (hx : x ≡ kept-of e to)
-    (n : s ≡ length name) (ht : tag ≡ tag-for e told s (entries e u)) (hi : index ≡ rank tag (entries e u)) where
+module _ (e : Edition) (u name : List ℕ) (r : Readable e u) (told wides one s tag : ℕ) (free : FreeTag) (to x : Target) (index : ℕ) (b : wides ≡ byte 1 u) (g : one ≡ cond (is-wide (to .inode)) 1 0) (hx : x ≡ kept-of e to)
+    (n : s ≡ length name) (ht : free ≡ tag-for e told s (entries e u)) (hf : free ≡ At tag) (hi : index ≡ rank tag (entries e u)) where
+  is-placed : inserted e told name to (entries e u) ≡ placed (entry tag name (kept-of e to)) (entries e u)
+  unfolding inserted put-by
+  is-placed = ap (λ (f : FreeTag). put-by f name (kept-of e to) (entries e u)) (ap (λ (z : ℕ). tag-for e told z (entries e u)) (sym n) ∙ sym ht ∙ hf)
+
   new-is : inserted e told name to (entries e u) ≡ with-nth index (entry tag name x) (entries e u)
-  unfolding inserted
   new-is =
-      ap₂ (λ (z : ℕ) (y : Target). placed (entry z name y) (entries e u)) (ap (λ (z : ℕ). tag-for e told z (entries e u)) (sym n) ∙ sym ht) (sym hx)
+      is-placed ∙ ap (λ (y : Target). placed (entry tag name y) (entries e u)) (sym hx)
       ∙ placed-nth (entry tag name x) (entries e u) ∙ ap (λ (z : ℕ). with-nth z (entry tag name x) (entries e u)) (sym hi)
 
   new-count : length (inserted e told name to (entries e u)) ≡ count-of u + 1
-  unfolding inserted
-  new-count = length-placed _ (entries e u) ∙ omega (arith, count-is e u)
+  new-count = ap length is-placed ∙ length-placed _ (entries e u) ∙ omega (arith, count-is e u)
 
   new-wides : wides-of (parent u) (inserted e told name to (entries e u)) ≡ wides + one
-  unfolding inserted stored-wides
-  new-wides = omega (arith, placed-wide (parent u) (entry (tag-for e told (length name) (entries e u)) name (kept-of e to)) (entries e u), r .wides)
+  unfolding stored-wides
+  new-wides = ap (wides-of (parent u)) is-placed ∙ omega (arith, placed-wide (parent u) (entry tag name (kept-of e to)) (entries e u), r .wides)
 
   grow-is : laid e (count-of u + 1) (wides + one) (parent u) (with-nth index (entry tag name x) (entries e u)) ≡ lay e (parent u) (inserted e told name to (entries e u))
   unfolding lay

@@ -13,18 +13,37 @@ use Rattle.edition.specs.declared.Edition.{Edition}
 use Rattle.edition.specs.Edition.{entry-size}
 use Rattle.name.proofs.Same.{same-name-sym, same-name-trans}
 use Rattle.name.specs.Name.{same-name}
-use Rattle.be.proofs.Bools.{by-cases, every-head, every-tail, every-cons, neither}
-use Rattle.dir_sf.specs.Entry.{SfEntry, next-tag, tags-ok, end-tag}
+use Rattle.dir.specs.declared.Target.{Target}
+use Rattle.dir.specs.Target.{kept-of}
+use Rattle.be.proofs.Bools.{by-cases, clash, every-head, every-tail, every-cons, neither}
+use Rattle.dir_sf.specs.declared.FreeTag.{FreeTag}
+use Rattle.dir_sf.specs.declared.FreeTag.the-variants.{At, Nowhere}
+use Rattle.dir_sf.specs.Entry.{SfEntry, entry, next-tag, tags-ok, end-tag}
 use Rattle.dir_sf.specs.Fork.{holds, once-ok}
-use Rattle.dir_sf.specs.Change.{target-in, gap-tag, placed}
+use Rattle.dir_sf.specs.Change.{target-in, gap-tag, tag-for, put-by, is-free, placed, inserted}
 use Rattle.dir_sf.proofs.Names.{fails, once-head, once-tail, once-cons}
 use Rattle.dir_sf_edit.proofs.Accepted.{low-le-end}
 use Rattle.dir_sf.proofs.Tags.{tagged, untagged}
 
--- an edition's first tag is a multiple of 8, and not 0
+-- an edition's first tag is a multiple of 8
 pub record Tags (e : Edition) : Type 0 where
   pub first-eights : e .first % 8 ≡ 0
-  pub first-least : 1 ≤ e .first
+
+-- ---- the tag that there is
+
+pub number-of : FreeTag → ℕ
+number-of (At tag) = tag
+number-of Nowhere = 0
+
+pub free-at : (f : FreeTag) → is-free f ≡ true → f ≡ At (number-of f)
+unfolding is-free number-of
+free-at (At tag) h = refl
+free-at Nowhere h = absurd (clash h refl)
+
+pub inserted-is : (e : Edition) (told : ℕ) (n : List ℕ) (to : Target) (xs : List SfEntry) → is-free (tag-for e told (length n) xs) ≡ true
+    → inserted e told n to xs ≡ placed (entry (number-of (tag-for e told (length n) xs)) n (kept-of e to)) xs
+unfolding inserted put-by
+inserted-is e told n to xs h = ap (λ (f : FreeTag). put-by f n (kept-of e to) xs) (free-at (tag-for e told (length n) xs) h)
 
 -- ---- the new entry among the others
 
@@ -133,17 +152,18 @@ module _ (e : Edition) (y : SfEntry) where
       )
 
   -- in the lowest gap that holds it
-  pub placed-in-gap : (low : ℕ) (xs : List SfEntry) → low % 8 ≡ 0 → tags-ok e low xs ≡ true → 1 ≤ y .tag
-      → gap-tag e (entry-size e (length (y .name))) low xs ≡ y .tag
+  pub placed-in-gap : (low : ℕ) (xs : List SfEntry) → low % 8 ≡ 0 → tags-ok e low xs ≡ true
+      → gap-tag e (entry-size e (length (y .name))) low xs ≡ At (y .tag)
       → (tags-ok e low (placed y xs) ≡ true) × (end-tag e low (placed y xs) ≡ end-tag e low xs) × (low ≤ y .tag)
   unfolding placed end-tag gap-tag next-tag
-  placed-in-gap low [] m t p q = absurd (omega arith)
-  placed-in-gap low (x ∷ xs) m t p q =
+  placed-in-gap low [] m t q = absurd (let z : _≡_ {A = ℕ} 0 1 = cc in omega arith)
+  placed-in-gap low (x ∷ xs) m t q =
       let long : ℕ = entry-size e (length (y .name)) in
       let g = tagged e low x xs t in
       by-cases (leb (low + long) (x .tag))
       (λ l.
-      let at : low ≡ y .tag = rw l at q in
+      let a : At low ≡ At (y .tag) = rw l at q in
+      let at : low ≡ y .tag = cc in
       let le : low + long ≤ x .tag = leb-true _ _ l in
       let lt : y .tag < x .tag = omega (arith, next-more e y) in
       let nx : next-tag e y ≤ x .tag = omega arith in (
@@ -153,7 +173,7 @@ module _ (e : Edition) (y : SfEntry) where
         omega arith,
       ))
       (λ l.
-      let i = placed-in-gap (next-tag e x) xs (next-eights e x (g .eights)) (g .rest) p (rw l at q) in
+      let i = placed-in-gap (next-tag e x) xs (next-eights e x (g .eights)) (g .rest) (rw l at q) in
       let ge : x .tag ≤ y .tag = omega (arith, i .2, g .grows) in (
         rw (le-ltb (y .tag) (x .tag) ge) (untagged e low x (placed y xs) (g .eights) (g .least) (i .0)),
         rw (le-ltb (y .tag) (x .tag) ge) (i .1),

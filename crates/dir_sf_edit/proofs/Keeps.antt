@@ -7,8 +7,7 @@ use mathlib.Core.Path.{_≡_, refl, sym, _∙_, ap, ap₂}
 use mathlib.Core.List.{List, [], _∷_}
 use lib.Dec.{eqb, leb, ltb}
 use lib.ListN.{length, length-append}
-use borrow.Author.Tests.{leb-true, eqb-true, eqb-false, eq-eqb, not-true, lt-ltb}
-use Rattle.dir_sf.proofs.Inodes.{least}
+use borrow.Author.Tests.{leb-true, eqb-true, eq-eqb, not-true, lt-ltb}
 use Rattle.be.proofs.Bools.{and-left, and-right, and-both, by-cases}
 use Rattle.be.proofs.Codes.{passes}
 use Rattle.edition.specs.declared.Edition.{Edition}
@@ -17,30 +16,31 @@ use Rattle.dir.specs.declared.Target.{Target}
 use Rattle.dir.specs.Target.{legal-target, kept-of}
 use Rattle.dir.proofs.FileTypes.{target-number, target-type, kept-fits}
 use Rattle.name.specs.Name.{legal-name, legal-number, same-name, fixed-name}
+use Rattle.dir_sf.specs.declared.FreeTag.the-variants.{At, Nowhere}
 use Rattle.dir_sf.specs.Entry.{SfEntry, entry, width-of, entries-bytes, is-wide, wides-of, next-tag, tags-ok, end-tag, in-block}
 use Rattle.dir_sf.specs.Fork.{name-ok, names-ok, numbers-ok, holds, lay, lay-fork, fork-verdict}
-use Rattle.dir_sf.specs.Change.{gap-tag, tag-for, placed, inserted, has-room, insert-request, removed, remove-request}
+use Rattle.dir_sf.specs.Change.{gap-tag, tag-for, is-free, placed, inserted, has-room, insert-request, removed, remove-request}
 use Rattle.dir_sf_edit.proofs.ReadBack.{length-entry-bytes, length-lay}
 use Rattle.dir_sf_edit.proofs.Accepted.{Good, laid-accepted}
 use Rattle.dir_sf_edit.proofs.Removes.{removed-good}
-use Rattle.dir_sf_edit.proofs.Inserts.{Tags, every-placed, length-placed, tally-placed, placed-once, placed-last, placed-in-gap, end-eights}
+use Rattle.dir_sf_edit.proofs.Inserts.{Tags, number-of, free-at, inserted-is, every-placed, length-placed, tally-placed, placed-once, placed-last, placed-in-gap, end-eights}
 
 -- what an insert that is done has passed
 module _ (e : Edition) (told p : ℕ) (n : List ℕ) (to : Target) (xs : List SfEntry) (fork : ℕ) (done : insert-request e told fork n to p xs ≡ 0) where
   pub inserts : (legal-name e n ≡ true) × (legal-target e to ≡ true) × (fixed-name n ≡ false) × (holds e n xs ≡ false)
-      × ((tag-for e told (length n) xs ≡ 0 → ⊥)) × (length (lay e p (inserted e told n to xs)) ≤ fork)
+      × (is-free (tag-for e told (length n) xs) ≡ true) × (length (lay e p (inserted e told n to xs)) ≤ fork)
   unfolding insert-request has-room
   inserts =
       let a = passes (legal-name e n && legal-target e to) 10 _ done in
       let b = passes (not (fixed-name n)) 11 _ (a .1) in
       let c = passes (not (holds e n xs)) 13 _ (b .1) in
-      let d = passes (not (eqb (tag-for e told (length n) xs) 0) && leb (length (lay e p (inserted e told n to xs))) fork) 14 _ (c .1) in (
+      let d = passes (is-free (tag-for e told (length n) xs) && leb (length (lay e p (inserted e told n to xs))) fork) 14 _ (c .1) in (
         and-left _ _ (a .0),
         and-right (legal-name e n) _ (a .0),
         not-true _ (b .0),
         not-true _ (c .0),
-        eqb-false _ _ (not-true _ (and-left _ _ (d .0))),
-        leb-true _ _ (and-right (not (eqb (tag-for e told (length n) xs) 0)) _ (d .0)),
+        and-left _ _ (d .0),
+        leb-true _ _ (and-right (is-free (tag-for e told (length n) xs)) _ (d .0)),
       )
 
 module _ (e : Edition) (ok : Tags e) (told p : ℕ) (n : List ℕ) (to : Target) (xs : List SfEntry) (g : Good e told p xs) where
@@ -58,31 +58,33 @@ module _ (e : Edition) (ok : Tags e) (told p : ℕ) (n : List ℕ) (to : Target)
       (r .0, rw (m, length-placed y xs) h)
 
   in-gap : (y : SfEntry) → y .name ≡ n → in-block told (end-tag e (e .first) xs) (suc (length xs)) ≡ true
-      → gap-tag e (entry-size e (length n)) (e .first) xs ≡ y .tag → (y .tag ≡ 0 → ⊥) → Fits-in y
-  in-gap y q h t z =
-      let t' : gap-tag e (entry-size e (length (y .name))) (e .first) xs ≡ y .tag = rw q t in
-      let r = placed-in-gap e y (e .first) xs (ok .first-eights) (g .tags) (least (y .tag) z) t' in
+      → gap-tag e (entry-size e (length n)) (e .first) xs ≡ At (y .tag) → Fits-in y
+  in-gap y q h t =
+      let t' : gap-tag e (entry-size e (length (y .name))) (e .first) xs ≡ At (y .tag) = rw q t in
+      let r = placed-in-gap e y (e .first) xs (ok .first-eights) (g .tags) t' in
       (r .0, rw (r .1, length-placed y xs) h)
 
-  tag-fits : (y : SfEntry) → y .name ≡ n → y .tag ≡ tag-for e told (length n) xs → (y .tag ≡ 0 → ⊥) → Fits-in y
+  tag-fits : (y : SfEntry) → y .name ≡ n → tag-for e told (length n) xs ≡ At (y .tag) → Fits-in y
   unfolding tag-for
-  tag-fits y q t z =
+  tag-fits y q t =
       by-cases (in-block told (end-tag e (e .first) xs + entry-size e (length n)) (suc (length xs)))
-      (λ a. at-end y q a (rw a at t))
+      (λ a. let k : At (end-tag e (e .first) xs) ≡ At (y .tag) = rw a at t in at-end y q a (cc))
       (λ a.
       by-cases (in-block told (end-tag e (e .first) xs) (suc (length xs)))
-      (λ b. in-gap y q b (sym (rw (a, b) at t)) z)
-      (λ b. absurd (z (rw (a, b) at t))))
+      (λ b. in-gap y q b (rw (a, b) at t))
+      (λ b. let k : Nowhere ≡ At (y .tag) = rw (a, b) at t in let z : _≡_ {A = ℕ} 0 1 = cc in absurd (omega arith)))
 
   module _ (fork : ℕ) (sane : Sane e) (done : insert-request e told fork n to p xs ≡ 0) where
     -- good before, good after
     pub inserted-good : Good e told p (inserted e told n to xs)
-    unfolding inserted names-ok numbers-ok wides-of
+    unfolding names-ok numbers-ok wides-of
     inserted-good =
-        let y : SfEntry = entry (tag-for e told (length n) xs) n (kept-of e to) in
+        let free : is-free (tag-for e told (length n) xs) ≡ true = inserts e told p n to xs fork done .4 in
+        let y : SfEntry = entry (number-of (tag-for e told (length n) xs)) n (kept-of e to) in
         let legal : legal-target e to ≡ true = inserts e told p n to xs fork done .1 in
-        let f = tag-fits y refl refl (inserts e told p n to xs fork done .4) in
-        record {
+        let f = tag-fits y refl (free-at (tag-for e told (length n) xs) free) in
+        rw (inserted-is e told n to xs free)
+        (record {
           tags = f .0;
           within = f .1;
           names = every-placed (name-ok e) y xs (and-both _ _ (inserts e told p n to xs fork done .0) (rw (inserts e told p n to xs fork done .2) refl)) (g .names);
@@ -90,7 +92,7 @@ module _ (e : Edition) (ok : Tags e) (told p : ℕ) (n : List ℕ) (to : Target)
           once = placed-once e y xs (inserts e told p n to xs fork done .3) (g .once);
           kinds = every-placed (λ x. ltb (x .target .kind) (256 ^ e .ftype)) y xs (lt-ltb _ _ (kept-fits e sane to (target-type e to legal))) (g .kinds);
           parent-fits = λ z. g .parent-fits (omega (arith, tally-placed (λ x. is-wide (x .target .inode)) y xs));
-        }
+        })
 
     -- 01's law: the fork that is left is accepted
     pub insert-accepted : told ≤ 65536

@@ -16,21 +16,21 @@ use Rattle.name.specs.Name.{same-name}
 use Rattle.dinode.specs.Core.{data-length}
 use Rattle.dir_sf.specs.Entry.{SfEntry, entry}
 use Rattle.dir_sf.specs.Fork.{parent, entries, holds, lay}
-use Rattle.dir_sf.specs.Change.{target-in, tag-for, inserted, removed}
+use Rattle.dir_sf.specs.Change.{target-in, tag-for, is-free, placed, inserted, removed}
 use Rattle.dir_sf.specs.Inode.{used, verdict, insert-code, remove-code, with-entries, insert-bytes, remove-bytes}
 use Rattle.dir_sf.proofs.Tested.{is-told, used-passes, used-header}
 use Rattle.dir_sf_edit.specs.Laws.{Insert-accepted, Remove-accepted, Differs, Insert-names, Remove-names, Put-back}
 use Rattle.dir_sf_edit.proofs.ReadBack.{lay-entries, lay-parent}
 use Rattle.dir_sf_edit.proofs.Accepted.{Good, good-fit, good-parent, used-good, laid-accepted}
 use Rattle.dir_sf_edit.proofs.Removes.{removed-good, removed-target, removed-held}
-use Rattle.dir_sf_edit.proofs.Inserts.{Tags, placed-holds, placed-target}
+use Rattle.dir_sf_edit.proofs.Inserts.{Tags, number-of, inserted-is, placed-holds, placed-target}
 use Rattle.dir_sf_edit.proofs.Keeps.{inserts, inserted-good}
 use Rattle.dir_sf_edit.proofs.Changes.{insert-passes, insert-answers, insert-fits, remove-passes, remove-answers, remove-fits, lay-fits}
 use Rattle.dir_sf_edit.proofs.Untouched.{fork-kept, used-after, verdict-after, used-bytes}
 use Rattle.dir_sf_edit.proofs.PutBack.{back-in}
 
 tags-of : (e : Edition) → Sane e → Tags e
-tags-of e s = record { first-eights = omega (arith, s .first-after, s .header-eights); first-least = omega (arith, s .first-after) }
+tags-of e s = record { first-eights = omega (arith, s .first-after, s .header-eights) }
 
 module _ (e : Edition) (sane : Sane e) (told : ℕ) (b : List ℕ) (by : bytes b ≡ true) (v : verdict e told b ≡ 0) where
   small : told ≤ 65536
@@ -83,11 +83,15 @@ module _ (e : Edition) (sane : Sane e) (told : ℕ) (b n : List ℕ) (to : Targe
   absent : holds e n (entries e (used e b)) ≡ false
   absent = inserts e told (parent (used e b)) n to (entries e (used e b)) (data-length e b) (insert-answers e sane told b n to done) .3
 
+  free : is-free (tag-for e told (length n) (entries e (used e b))) ≡ true
+  free = inserts e told (parent (used e b)) n to (entries e (used e b)) (data-length e b) (insert-answers e sane told b n to done) .4
+
   insert-tells : Differs e b (insert-bytes e told b n to) n true (kept-of e to)
-  unfolding new inserted
+  unfolding new
   insert-tells =
-      let y : SfEntry = entry (tag-for e told (length n) (entries e (used e b))) n (kept-of e to) in
-      let r : entries e (used e (insert-bytes e told b n to)) ≡ new = ap (λ (c : List ℕ). entries e (used e c)) is-with ∙ read e sane told b by v new new-good new-fits in
+      let y : SfEntry = entry (number-of (tag-for e told (length n) (entries e (used e b)))) n (kept-of e to) in
+      let r : entries e (used e (insert-bytes e told b n to)) ≡ placed y (entries e (used e b)) =
+      ap (λ (c : List ℕ). entries e (used e c)) is-with ∙ read e sane told b by v new new-good new-fits ∙ inserted-is e told n to (entries e (used e b)) free in
       record {
         same-parent = ap (λ (c : List ℕ). parent (used e c)) is-with ∙ read-parent e sane told b by v new new-good new-fits;
         names = λ m. ap (holds e m) r ∙ placed-holds e m y (entries e (used e b)) ∙ or-cond (same-name e m n) (holds e m (entries e (used e b)));
@@ -138,7 +142,7 @@ module _ (e : Edition) (sane : Sane e) (told : ℕ) (b n : List ℕ) (by : bytes
   goes-back kind t =
       let f : data-length e (remove-bytes e told b n) ≡ data-length e b = ap (data-length e) was-with ∙ fork-kept e sane told b u left left-fits in
       rw (remove-keeps, now-read, now-parent, f)
-      (back-in e (tags-of e sane) told (parent (used e b)) (data-length e b) n kind t (entries e (used e b)) (good e sane told b by u) (remove-answers e sane told b n done) (lay-fits e sane told b u))
+      (back-in e told (parent (used e b)) (data-length e b) n kind t (entries e (used e b)) (good e sane told b by u) (remove-answers e sane told b n done) (lay-fits e sane told b u))
 
 -- ---- the laws
 

@@ -15,7 +15,7 @@ use Rattle.edition.specs.declared.Edition.{Edition}
 use Rattle.dir.specs.declared.Target.{Target}
 use Rattle.dir_sf.specs.Entry.{SfEntry, entry, width-of, entry-bytes, entries-bytes}
 use Rattle.dir_sf.specs.Fork.{laid, count-of, parent, entries}
-use Rattle.dir_sf.specs.Change.{without-nth, with-nth}
+use Rattle.dir_sf_edit.specs.Inner.{without-nth, with-nth}
 use Rattle.dir_sf_edit.proofs.ReadBack.{length-entry-bytes}
 
 pub header-put : (b b₁ b₂ b₃ : List ℕ) (k wides p : ℕ) → k < 256 → wides < 256 → b₁ ≡ put b 0 (to-be 1 k) → b₂ ≡ put b₁ 1 (to-be 1 wides)

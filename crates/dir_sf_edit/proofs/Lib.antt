@@ -13,3 +13,4 @@ pub mod Changes
 pub mod Untouched
 pub mod PutBack
 pub mod Kept
+pub mod V4Laws

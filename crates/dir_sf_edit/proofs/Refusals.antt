@@ -15,8 +15,10 @@ use Rattle.edition.specs.declared.Edition.{Edition}
 use Rattle.dir.specs.declared.Target.{Target}
 use Rattle.name.specs.Name.{legal-name, same-name, fixed-name}
 use Rattle.dir_sf.specs.Entry.{SfEntry, is-wide, wides-of}
-use Rattle.dir_sf.specs.Fork.{Readable, laid, lay, count-of, stored-wides, parent, entries, holds}
-use Rattle.dir_sf.specs.Change.{target-in, seek, without-nth, removed, narrows, remove-request}
+use Rattle.dir_sf.specs.Fork.{laid, lay, count-of, stored-wides, parent, entries, holds}
+use Rattle.dir_sf.specs.Change.{target-in, removed, narrows, remove-request}
+use Rattle.dir_sf.specs.Inner.{Readable, seek}
+use Rattle.dir_sf_edit.specs.Inner.{without-nth}
 use Rattle.dir_sf_edit.proofs.Removes.{removed-length, removed-wide}
 use Rattle.dir_sf.proofs.Listed.{count-is}
 

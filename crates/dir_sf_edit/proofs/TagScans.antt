@@ -13,9 +13,13 @@ use Rattle.be.specs.Bytes.{byte, field}
 use Rattle.records.specs.Records.{start}
 use Rattle.edition.specs.declared.Edition.{Edition}
 use Rattle.edition.specs.Edition.{entry-size, Sane}
-use Rattle.dir_sf.specs.Entry.{SfEntry, width-of, size-at, entry-at, entries-in, enough, next-tag, end-tag, in-block}
-use Rattle.dir_sf.specs.Change.{gap-tag, tag-for, rank}
+use Rattle.dir_sf.specs.declared.FreeTag.{FreeTag}
+use Rattle.dir_sf.specs.declared.FreeTag.the-variants.{At, Nowhere}
+use Rattle.dir_sf.specs.Entry.{SfEntry, width-of, size-at, entry-at, entries-in, next-tag, end-tag, in-block}
+use Rattle.dir_sf.specs.Change.{gap-tag, tag-for}
 use Rattle.dir_sf.specs.Fork.{count-of, entries, place-of}
+use Rattle.dir_sf.specs.Inner.{enough}
+use Rattle.dir_sf_edit.specs.Inner.{rank}
 use Rattle.dir_sf.proofs.Listed.{entries-is, place-is, count-is}
 use Rattle.dir_sf.proofs.Leaves.{one-in}
 use Rattle.dir_sf.proofs.Run.{Run, run-start, run-on, run-one, run-rest, run-over, run-whole, tag-at-is, name-at-is}
@@ -61,7 +65,7 @@ ends-done e w u at k i p low s h = sym (s .rest ∙ ap (end-tag e low) (run-over
 
 -- ---- the lowest gap
 
-pub gap-here : (e : Edition) (long low : ℕ) (x : SfEntry) (xs : List SfEntry) → low + long ≤ x .tag → gap-tag e long low (x ∷ xs) ≡ low
+pub gap-here : (e : Edition) (long low : ℕ) (x : SfEntry) (xs : List SfEntry) → low + long ≤ x .tag → gap-tag e long low (x ∷ xs) ≡ At low
 unfolding gap-tag
 gap-here e long low x xs h = rw (le-leb _ _ h) refl
 
@@ -69,7 +73,7 @@ gap-later : (e : Edition) (long low : ℕ) (x : SfEntry) (xs : List SfEntry) →
 unfolding gap-tag
 gap-later e long low x xs h = rw (lt-leb _ _ h) refl
 
-gap-none : (e : Edition) (long low : ℕ) → gap-tag e long low [] ≡ 0
+gap-none : (e : Edition) (long low : ℕ) → gap-tag e long low [] ≡ Nowhere
 unfolding gap-tag
 gap-none e long low = refl
 
@@ -82,7 +86,7 @@ pub gaps-start : (e : Edition) (w long : ℕ) (u : List ℕ) (at k : ℕ) → Sa
 gaps-start e w long u at k sane f = record { run = run-start e w u at k f; small = omega (arith, sane .first-after, sane .header-most); rest = ap (gap-tag e long (e .first)) (run-whole e w u at k) }
 
 pub gaps-found : (e : Edition) (w long : ℕ) (u : List ℕ) (at k i p low n tag : ℕ) → Gaps e w long u at k i p low → i < k → n ≡ getD u p 0 → tag ≡ field (p + 1) 2 u → low + long ≤ tag
-    → low ≡ gap-tag e long (e .first) (entries-in e w u k at)
+    → At low ≡ gap-tag e long (e .first) (entries-in e w u k at)
 gaps-found e w long u at k i p low n tag s h a c l =
     let t : entry-at e w u p .tag ≡ tag = tag-at-is e w u p ∙ sym c in
     sym (s .rest ∙ ap (gap-tag e long low) (run-rest e w u at k i p n (e .ftype + w) (s .run) h a refl) ∙ gap-here e long low _ _ (omega arith))
@@ -98,7 +102,7 @@ gaps-on e w long u at k i p low n v tag e₀ s h a b c l g f m =
           ∙ ap (λ (y : ℕ). gap-tag e long y (entries-in e w u (k - (i + 1)) (p + 3 + n + v))) (next-is e w u p n tag e₀ (one-in e w p u (run-one e w u at k i p (s .run) h)) a c f);
     }
 
-pub gaps-done : (e : Edition) (w long : ℕ) (u : List ℕ) (at k i p low : ℕ) → Gaps e w long u at k i p low → k ≤ i → _≡_ {A = ℕ} 0 (gap-tag e long (e .first) (entries-in e w u k at))
+pub gaps-done : (e : Edition) (w long : ℕ) (u : List ℕ) (at k i p low : ℕ) → Gaps e w long u at k i p low → k ≤ i → Nowhere ≡ gap-tag e long (e .first) (entries-in e w u k at)
 gaps-done e w long u at k i p low s h = sym (s .rest ∙ ap (gap-tag e long low) (run-over e w u k i p h) ∙ gap-none e long low)
 
 -- ---- where a tag stands
@@ -163,17 +167,17 @@ module _ (e : Edition) (u : List ℕ) (told n k wides w long end : ℕ) (a : k �
       let q : z + 8 * (suc (length (entries e u)) + 2) + 8 ≡ z + 8 * (k + 1 + 2) + 8 = omega (arith, count-is e u) in
       ap (λ (x : ℕ). leb x told) q
 
-  pub tag-last : end + long + 8 * (k + 1 + 2) + 8 ≤ told → end ≡ tag-for e told n (entries e u)
+  pub tag-last : end + long + 8 * (k + 1 + 2) + 8 ≤ told → At end ≡ tag-for e told n (entries e u)
   unfolding tag-for
   tag-last h = rw (← l, ends, limit (end + long), le-leb _ _ h) refl
 
-  pub tag-gap : (r : ℕ) → told < end + long + 8 * (k + 1 + 2) + 8 → end + 8 * (k + 1 + 2) + 8 ≤ told
+  pub tag-gap : (r : FreeTag) → told < end + long + 8 * (k + 1 + 2) + 8 → end + 8 * (k + 1 + 2) + 8 ≤ told
       → r ≡ gap-tag e long (e .first) (entries-in e (width-of wides) u k (2 + w)) → r ≡ tag-for e told n (entries e u)
   unfolding tag-for
   tag-gap r h m q =
       rw (← l, ends, limit (end + long), lt-leb _ _ h, limit end, le-leb _ _ m) (q ∙ ap (gap-tag e long (e .first)) (sym (entries-is e u k wides w a b c)))
 
-  pub tag-none : told < end + 8 * (k + 1 + 2) + 8 → _≡_ {A = ℕ} 0 (tag-for e told n (entries e u))
+  pub tag-none : told < end + 8 * (k + 1 + 2) + 8 → Nowhere ≡ tag-for e told n (entries e u)
   unfolding tag-for
   tag-none m =
       let h : told < end + long + 8 * (k + 1 + 2) + 8 = omega arith in

@@ -12,11 +12,11 @@ use Rattle.be.proofs.Parts.{field-1, bytes-take, bytes-drop}
 use Rattle.be.proofs.Writes.{length-put, part-before, part-behind, part-inside, field-put}
 use Rattle.edition.specs.declared.Edition.{Edition}
 use Rattle.edition.specs.Edition.{Sane}
-use Rattle.dinode.specs.Core.{magic-ok, attr-start, kind-ok, directory-ok, inode-code, directory-code, data-length, data-fork}
+use Rattle.dinode.specs.Core.{size-place, magic-ok, attr-start, kind-ok, directory-ok, inode-code, directory-code, data-length, data-fork}
 use Rattle.dinode.proofs.Sound.{sound-size, directory-sound}
 use Rattle.dir_sf.specs.Entry.{SfEntry}
 use Rattle.dir_sf.specs.Fork.{parent, lay, lay-fork, fork-verdict}
-use Rattle.dir_sf.specs.Inode.{used, verdict, with-entries}
+use Rattle.dir_sf.specs.Inode.{size-of, used, verdict, with-entries}
 use Rattle.dir_sf.proofs.Tested.{is-directory, is-told, used-bounds}
 use Rattle.dir_sf_edit.proofs.ReadBack.{length-lay-fork, lay-used}
 
@@ -37,7 +37,7 @@ module _ (e : Edition) (sane : Sane e) (told : ℕ) (b : List ℕ) (v : verdict 
   F : List ℕ
   F = lay-fork e (data-length e b) (parent (used e b)) ys
 
-  two : with-entries e b ys ≡ put (put b 56 (to-be 8 L)) (e .literal) F
+  two : with-entries e b ys ≡ put (put b size-place (to-be 8 L)) (e .literal) F
   unfolding with-entries written L F
   two = refl
 
@@ -45,28 +45,28 @@ module _ (e : Edition) (sane : Sane e) (told : ℕ) (b : List ℕ) (v : verdict 
   bounds = sound-size e b (directory-sound e b (is-directory e sane told b v))
 
   inside : e .literal + data-length e b ≤ length b
-  inside = used-bounds e sane told b v (field 56 8 b) refl .3
+  inside = used-bounds e sane told b v (size-of b) refl .3
 
   fork-long : length F ≡ data-length e b
   unfolding F
   fork-long = length-lay-fork e (parent (used e b)) ys (data-length e b) fits
 
   long : length (with-entries e b ys) ≡ length b
-  long = ap length two ∙ length-put (put b 56 (to-be 8 L)) (e .literal) F ∙ length-put b 56 (to-be 8 L)
+  long = ap length two ∙ length-put (put b size-place (to-be 8 L)) (e .literal) F ∙ length-put b size-place (to-be 8 L)
 
-  low : (o n : ℕ) → o + n ≤ 56 → field o n (with-entries e b ys) ≡ field o n b
+  low : (o n : ℕ) → o + n ≤ size-place → field o n (with-entries e b ys) ≡ field o n b
   low o n h =
       ap (field o n) two
-      ∙ ap be (part-before (put b 56 (to-be 8 L)) o n (e .literal) F (omega (arith, sane .literal-least)) ∙ part-before b o n 56 (to-be 8 L) h)
+      ∙ ap be (part-before (put b size-place (to-be 8 L)) o n (e .literal) F (omega (arith, sane .literal-least)) ∙ part-before b o n size-place (to-be 8 L) h)
 
-  low-byte : (o : ℕ) → o < 56 → byte o (with-entries e b ys) ≡ byte o b
+  low-byte : (o : ℕ) → o < size-place → byte o (with-entries e b ys) ≡ byte o b
   low-byte o h = sym (field-1 (with-entries e b ys) o) ∙ low o 1 (omega arith) ∙ field-1 b o
 
   forkoff : byte 82 (with-entries e b ys) ≡ byte 82 b
   forkoff =
       sym (field-1 (with-entries e b ys) 82) ∙ ap (field 82 1) two
-      ∙ ap be (part-before (put b 56 (to-be 8 L)) 82 1 (e .literal) F (omega (arith, sane .literal-least))
-      ∙ part-behind b 82 1 56 (to-be 8 L) (omega (arith, length-to-be 8 L)))
+      ∙ ap be (part-before (put b size-place (to-be 8 L)) 82 1 (e .literal) F (omega (arith, sane .literal-least))
+      ∙ part-behind b 82 1 size-place (to-be 8 L) (omega (arith, length-to-be 8 L)))
       ∙ field-1 b 82
 
   same-dir : directory-code e (with-entries e b ys) ≡ 0
@@ -77,18 +77,18 @@ module _ (e : Edition) (sane : Sane e) (told : ℕ) (b : List ℕ) (v : verdict 
   pub fork-kept : data-length e (with-entries e b ys) ≡ data-length e b
   fork-kept = same-length e b (with-entries e b ys) long forkoff
 
-  size-written : field 56 8 (with-entries e b ys) ≡ L
+  size-written : size-of (with-entries e b ys) ≡ L
   unfolding L
   size-written =
-      let x = used-bounds e sane told b v (field 56 8 b) refl in
-      ap (field 56 8) two ∙ ap be (part-before (put b 56 (to-be 8 L)) 56 8 (e .literal) F (omega (arith, sane .literal-least)))
-      ∙ field-put b 56 8 L (omega (arith, bounds)) (omega arith)
+      let x = used-bounds e sane told b v (size-of b) refl in
+      ap size-of two ∙ ap be (part-before (put b size-place (to-be 8 L)) size-place 8 (e .literal) F (omega (arith, sane .literal-least)))
+      ∙ field-put b size-place 8 L (omega (arith, bounds)) (omega arith)
 
   fork-written : data-fork e (with-entries e b ys) ≡ F
   unfolding data-fork
   fork-written =
-      let b₁ : List ℕ = put b 56 (to-be 8 L) in
-      let h : e .literal + length F ≤ length b₁ = omega (arith, inside, fork-long, length-put b 56 (to-be 8 L)) in
+      let b₁ : List ℕ = put b size-place (to-be 8 L) in
+      let h : e .literal + length F ≤ length b₁ = omega (arith, inside, fork-long, length-put b size-place (to-be 8 L)) in
       ap₂ (λ (k : ℕ) (l : List ℕ). part (e .literal) k l) (fork-kept ∙ sym fork-long) two ∙ part-inside b₁ (e .literal) F h
 
   -- the used bytes are the directory laid out
@@ -105,4 +105,4 @@ module _ (e : Edition) (sane : Sane e) (told : ℕ) (b : List ℕ) (v : verdict 
 -- bytes of the inode are bytes of the fork
 pub used-bytes : (e : Edition) (b : List ℕ) → bytes b ≡ true → bytes (used e b) ≡ true
 unfolding used data-fork
-used-bytes e b h = bytes-take (field 56 8 b) (part (e .literal) (data-length e b) b) (bytes-take (data-length e b) (drop (e .literal) b) (bytes-drop (e .literal) b h))
+used-bytes e b h = bytes-take (size-of b) (part (e .literal) (data-length e b) b) (bytes-take (data-length e b) (drop (e .literal) b) (bytes-drop (e .literal) b h))

@@ -8,12 +8,16 @@ ghost use lib.ListN.{length, take, drop};
 ghost use Rattle.be.specs.Bytes.{byte, put, to-be};
 ghost use Rattle.records.specs.Records.{start};
 ghost use Rattle.edition.specs.Edition.{v4, Sane};
+ghost use Rattle.dinode.specs.Core.{size-place};
 ghost use Rattle.dir.specs.Target.{target};
-ghost use Rattle.dir_sf.specs.Entry.{entry, width-of, entry-at, entries-in, enough, size-at, entry-bytes, entries-bytes, is-wide, end-tag};
-ghost use Rattle.dir_sf.specs.Fork.{Readable, place-of, laid, lay, holds, count-of, parent, entries};
-ghost use Rattle.dir_sf.specs.Change.{rank, gap-tag, tag-for, placed, with-nth, inserted, insert-request, without-nth, removed, remove-request};
+ghost use Rattle.dir_sf.specs.Entry.{entry, width-of, entry-at, entries-in, size-at, entry-bytes, entries-bytes, is-wide, end-tag};
+ghost use Rattle.dir_sf.specs.Fork.{place-of, laid, lay, holds, count-of, parent, entries};
+ghost use Rattle.dir_sf.specs.Change.{gap-tag, tag-for, is-free, placed, inserted, insert-request, removed, remove-request};
+ghost use Rattle.dir_sf.specs.Inner.{enough, Readable};
+ghost use Rattle.dir_sf_edit.specs.Inner.{rank, with-nth, without-nth};
 ghost use Rattle.dir_sf.specs.Inode.{used, insert-code, remove-code, with-entries, insert-bytes, remove-bytes};
 use dir::Target;
+use dir_sf::FreeTag;
 use dir_sf::Spot;
 use edition::Edition;
 use edition::V4;
@@ -35,7 +39,8 @@ fn put_number(b: &mut [u8], o: usize, v: u64, wides: usize)
 // Stores what stands behind an entry's name, and gives where it ends.
 fn put_rest(e: Edition, b: &mut [u8], o: usize, to: Target, wides: usize) -> usize
     requires { ⌜ Sane e × (o + (e .ftype + width-of wides) ≤ length (now b)) ⌝ }
-    ensures { λ r. ⌜ (now (b .exit) ≡ put (now (b .entry)) o (to-be (e .ftype) (to .kind) ++ to-be (width-of wides) (to .inode))) × (r ≡ o + (e .ftype + width-of wides)) ⌝ }
+    ensures { λ r. ⌜ (now (b .exit) ≡ put (now (b .entry)) o (to-be (e .ftype) (to .kind) ++ to-be (width-of wides) (to .inode)))
+        × (r ≡ o + (e .ftype + width-of wides)) ⌝ }
 {
     dir::put_kind(e, b, o, to.kind);
     put_number(b, o + e.ftype, to.inode, wides);
@@ -73,7 +78,8 @@ fn copy_entry<'a, 'b>(
     wides: usize,
     after: usize,
 ) -> usize
-    requires { ⌜ Sane e × (enough e (width-of wides) (now u) 1 p ≡ true) × (o + (3 + byte p (now u) + (e .ftype + width-of after)) ≤ length (now b)) ⌝ }
+    requires { ⌜ Sane e × (enough e (width-of wides) (now u) 1 p ≡ true)
+        × (o + (3 + byte p (now u) + (e .ftype + width-of after)) ≤ length (now b)) ⌝ }
     ensures { λ r. ⌜ (now (b .exit) ≡ put (now (b .entry)) o (entry-bytes e (width-of after) (entry-at e (width-of wides) (now (u .entry)) p)))
         × (r ≡ o + (3 + byte p (now (u .entry)) + (e .ftype + width-of after))) ⌝ }
 {
@@ -97,7 +103,8 @@ fn copy_entries<'a, 'b>(
 ) -> usize
     requires { ⌜ Sane e × (at ≤ length (now u)) × (enough e (width-of wides) (now u) k at ≡ true)
         × (to + length (entries-bytes e (width-of after) (entries-in e (width-of wides) (now u) k at)) ≤ length (now b)) ⌝ }
-    ensures { λ r. ⌜ (now (b .exit) ≡ put (now (b .entry)) to (entries-bytes e (width-of after) (entries-in e (width-of wides) (now (u .entry)) k at)))
+    ensures { λ r. ⌜ (now (b .exit)
+        ≡ put (now (b .entry)) to (entries-bytes e (width-of after) (entries-in e (width-of wides) (now (u .entry)) k at)))
         × (r ≡ to + length (entries-bytes e (width-of after) (entries-in e (width-of wides) (now (u .entry)) k at))) ⌝ }
 {
     let mut i = 0;
@@ -186,9 +193,9 @@ fn copy_others<'a, 'b>(
 // Writes a size and the data fork back: the first n bytes of t.
 fn write_back<'a, 'b>(e: Edition, b: &'a mut [u8], t: &'b [u8], n: usize, size: usize)
     requires { ⌜ Sane e × (n ≤ length (now t)) × (e .literal + n ≤ length (now b)) ⌝ }
-    ensures { λ _. ⌜ now (b .exit) ≡ put (put (now (b .entry)) 56 (to-be 8 size)) (e .literal) (take n (now (t .entry))) ⌝ }
+    ensures { λ _. ⌜ now (b .exit) ≡ put (put (now (b .entry)) size-place (to-be 8 size)) (e .literal) (take n (now (t .entry))) ⌝ }
 {
-    be::put64(b, 56, size as u64);
+    be::put64(b, dinode::SIZE_PLACE, size as u64);
     be::copy_into(b, e.literal, &t[..n]);
 }
 
@@ -205,7 +212,9 @@ fn lay_without<'a, 'b>(
 ) -> usize
     requires { ⌜ Sane e × Readable e (now u) × (index < count-of (now u)) × (at ≡ place-of e index (now u)) × (after < 256)
         × (length (laid e (count-of (now u) - 1) after (parent (now u)) (without-nth index (entries e (now u)))) ≤ length (now t)) ⌝ }
-    ensures { λ r. ⌜ (now (t .exit) ≡ put (now (t .entry)) 0 (laid e (count-of (now (u .entry)) - 1) after (parent (now (u .entry))) (without-nth index (entries e (now (u .entry))))))
+    ensures { λ r. ⌜ (now (t .exit)
+        ≡ put (now (t .entry)) 0 (laid e (count-of (now (u .entry)) - 1) after (parent (now (u .entry)))
+        (without-nth index (entries e (now (u .entry))))))
         × (r ≡ length (laid e (count-of (now (u .entry)) - 1) after (parent (now (u .entry))) (without-nth index (entries e (now (u .entry)))))) ⌝ }
 {
     let m = lay_first(e, t, u, index, be::be8(u, 0) - 1, after);
@@ -217,7 +226,8 @@ fn lay_without<'a, 'b>(
 fn shrink<'a, 'b, 'c>(e: Edition, t: &'a mut [u8], u: &'b [u8], name: &'c [u8]) -> usize
     requires { ⌜ Sane e × Readable e (now u) × (holds e (now name) (entries e (now u)) ≡ true)
         × (length (lay e (parent (now u)) (removed e (now name) (entries e (now u)))) ≤ length (now t)) ⌝ }
-    ensures { λ r. ⌜ (now (t .exit) ≡ put (now (t .entry)) 0 (lay e (parent (now (u .entry))) (removed e (now (name .entry)) (entries e (now (u .entry))))))
+    ensures { λ r. ⌜ (now (t .exit)
+        ≡ put (now (t .entry)) 0 (lay e (parent (now (u .entry))) (removed e (now (name .entry)) (entries e (now (u .entry))))))
         × (r ≡ length (lay e (parent (now (u .entry))) (removed e (now (name .entry)) (entries e (now (u .entry)))))) ⌝ }
 {
     let h = dir_sf::seek_name(e, u, name);
@@ -287,7 +297,8 @@ fn take_out<'a, 'b>(e: Edition, b: &'a mut [u8], told: usize, name: &'b [u8])
 
 fn remove_from<'a, 'b>(e: Edition, b: &'a mut [u8], told: usize, name: &'b [u8]) -> usize
     requires { ⌜ Sane e ⌝ }
-    ensures { λ r. ⌜ (r ≡ remove-code e told (now (b .entry)) (now (name .entry))) × (now (b .exit) ≡ remove-bytes e told (now (b .entry)) (now (name .entry))) ⌝ }
+    ensures { λ r. ⌜ (r ≡ remove-code e told (now (b .entry)) (now (name .entry)))
+        × (now (b .exit) ≡ remove-bytes e told (now (b .entry)) (now (name .entry))) ⌝ }
 {
     let c = remove_answer(e, &b[..], told, name);
     if c != 0 {
@@ -299,7 +310,8 @@ fn remove_from<'a, 'b>(e: Edition, b: &'a mut [u8], told: usize, name: &'b [u8])
 
 // Removes the entry of a name: 0, or why not.
 pub fn remove<'a, 'b>(b: &'a mut [u8], told: usize, name: &'b [u8]) -> usize
-    ensures { λ r. ⌜ (r ≡ remove-code v4 told (now (b .entry)) (now (name .entry))) × (now (b .exit) ≡ remove-bytes v4 told (now (b .entry)) (now (name .entry))) ⌝ }
+    ensures { λ r. ⌜ (r ≡ remove-code v4 told (now (b .entry)) (now (name .entry)))
+        × (now (b .exit) ≡ remove-bytes v4 told (now (b .entry)) (now (name .entry))) ⌝ }
 {
     remove_from(V4::edition(), b, told, name)
 }
@@ -325,8 +337,8 @@ fn end_of(e: Edition, u: &[u8], at: usize, k: usize, wides: usize) -> usize
     low
 }
 
-// The start of the lowest gap in the tags that holds `long`; 0 where there is none.
-fn gap_of(e: Edition, u: &[u8], at: usize, k: usize, wides: usize, long: usize) -> usize
+// The start of the lowest gap in the tags that holds `long`, if there is one.
+fn gap_of(e: Edition, u: &[u8], at: usize, k: usize, wides: usize, long: usize) -> FreeTag
     requires { ⌜ Sane e × (at ≤ length (now u)) × (enough e (width-of wides) (now u) k at ≡ true) × (long < 280) ⌝ }
     ensures { λ r. ⌜ r ≡ gap-tag e long (e .first) (entries-in e (width-of wides) (now (u .entry)) k at) ⌝ }
 {
@@ -338,13 +350,13 @@ fn gap_of(e: Edition, u: &[u8], at: usize, k: usize, wides: usize, long: usize) 
         let n = dir_sf::namelen(e, u, p, wides);
         let tag = be::be16(u, p + 1);
         if low + long <= tag {
-            return low;
+            return FreeTag::At(low);
         }
         low = tag + edition::entry_size(e, n);
         p = p + 3 + n + w;
         i += 1;
     }
-    0
+    FreeTag::Nowhere
 }
 
 // Where an entry with a tag goes: how many are before it, and where the next one starts.
@@ -367,8 +379,8 @@ fn rank_of(e: Edition, u: &[u8], at: usize, k: usize, wides: usize, tag: usize) 
     Spot { index: i, at: p }
 }
 
-// The tag of a new entry with a name of n bytes; 0 where there is none.
-fn tag_of(e: Edition, u: &[u8], n: usize, told: usize) -> usize
+// The tag of a new entry with a name of n bytes.
+fn tag_of(e: Edition, u: &[u8], n: usize, told: usize) -> FreeTag
     requires { ⌜ Sane e × Readable e (now u) × (n < 256) ⌝ }
     ensures { λ r. ⌜ r ≡ tag-for e told n (entries e (now (u .entry))) ⌝ }
 {
@@ -378,12 +390,12 @@ fn tag_of(e: Edition, u: &[u8], n: usize, told: usize) -> usize
     let long = edition::entry_size(e, n);
     let end = end_of(e, u, at, k, wides);
     if end + long + 8 * (k + 1 + 2) + 8 <= told {
-        return end;
+        return FreeTag::At(end);
     }
     if end + 8 * (k + 1 + 2) + 8 <= told {
         return gap_of(e, u, at, k, wides, long);
     }
-    0
+    FreeTag::Nowhere
 }
 
 // Where an entry with a tag goes among those in u.
@@ -408,10 +420,14 @@ fn lay_with<'a, 'b, 'c>(
     tag: usize,
     to: Target,
 ) -> usize
-    requires { ⌜ Sane e × Readable e (now u) × (index ≤ count-of (now u)) × (at ≡ place-of e index (now u)) × (count-of (now u) < 255) × (after < 256) × (length (now name) < 256)
-        × (length (laid e (count-of (now u) + 1) after (parent (now u)) (with-nth index (entry tag (now name) to) (entries e (now u)))) ≤ length (now t)) ⌝ }
-    ensures { λ r. ⌜ (now (t .exit) ≡ put (now (t .entry)) 0 (laid e (count-of (now (u .entry)) + 1) after (parent (now (u .entry))) (with-nth index (entry tag (now (name .entry)) to) (entries e (now (u .entry))))))
-        × (r ≡ length (laid e (count-of (now (u .entry)) + 1) after (parent (now (u .entry))) (with-nth index (entry tag (now (name .entry)) to) (entries e (now (u .entry)))))) ⌝ }
+    requires { ⌜ Sane e × Readable e (now u) × (index ≤ count-of (now u)) × (at ≡ place-of e index (now u))
+        × (count-of (now u) < 255) × (after < 256) × (length (now name) < 256)
+        × (length (laid e (count-of (now u) + 1) after (parent (now u))
+        (with-nth index (entry tag (now name) to) (entries e (now u)))) ≤ length (now t)) ⌝ }
+    ensures { λ r. ⌜ (now (t .exit) ≡ put (now (t .entry)) 0 (laid e (count-of (now (u .entry)) + 1) after (parent (now (u .entry)))
+        (with-nth index (entry tag (now (name .entry)) to) (entries e (now (u .entry))))))
+        × (r ≡ length (laid e (count-of (now (u .entry)) + 1) after (parent (now (u .entry)))
+        (with-nth index (entry tag (now (name .entry)) to) (entries e (now (u .entry)))))) ⌝ }
 {
     let m = lay_first(e, t, u, index, be::be8(u, 0) + 1, after);
     let q = put_entry(e, t, m, name, tag, to, after);
@@ -461,14 +477,15 @@ fn insertion_code<'a, 'b>(
     if h.held {
         return refusal::EXISTS;
     }
-    let tag = tag_of(e, u, name.len(), told);
-    if tag == 0 {
-        return refusal::NOROOM;
+    match tag_of(e, u, name.len(), told) {
+        FreeTag::At(tag) => {
+            if fork < grown(e, u, name, tag, dir::kept(e, to)) {
+                return refusal::NOROOM;
+            }
+            0
+        }
+        FreeTag::Nowhere => refusal::NOROOM,
     }
-    if fork < grown(e, u, name, tag, dir::kept(e, to)) {
-        return refusal::NOROOM;
-    }
-    0
 }
 
 // What an insert answers.
@@ -486,7 +503,7 @@ fn insert_answer<'a, 'b>(e: Edition, b: &'a [u8], told: usize, name: &'b [u8], t
     insertion_code(e, &b[start..end], told, fork, name, to)
 }
 
-// Lays out the directory in u with a new entry. Gives its size.
+// Lays out the directory in u with a new entry, for which there is a tag. Gives its size.
 fn grow<'a, 'b, 'c>(
     e: Edition,
     t: &'a mut [u8],
@@ -496,20 +513,27 @@ fn grow<'a, 'b, 'c>(
     to: Target,
 ) -> usize
     requires { ⌜ Sane e × Readable e (now u) × (length (now name) < 256) × (count-of (now u) < 255)
+        × (is-free (tag-for e told (length (now name)) (entries e (now u))) ≡ true)
         × (length (lay e (parent (now u)) (inserted e told (now name) to (entries e (now u)))) ≤ length (now t)) ⌝ }
-    ensures { λ r. ⌜ (now (t .exit) ≡ put (now (t .entry)) 0 (lay e (parent (now (u .entry))) (inserted e told (now (name .entry)) to (entries e (now (u .entry))))))
+    ensures { λ r. ⌜ (now (t .exit)
+        ≡ put (now (t .entry)) 0 (lay e (parent (now (u .entry))) (inserted e told (now (name .entry)) to (entries e (now (u .entry))))))
         × (r ≡ length (lay e (parent (now (u .entry))) (inserted e told (now (name .entry)) to (entries e (now (u .entry)))))) ⌝ }
 {
-    let tag = tag_of(e, u, name.len(), told);
-    let s = spot_of(e, u, tag);
-    let after = be::be8(u, 1) + dir_sf::one_if_wide(to.inode);
-    lay_with(e, t, u, s.index, s.at, after, name, tag, dir::kept(e, to))
+    match tag_of(e, u, name.len(), told) {
+        FreeTag::At(tag) => {
+            let s = spot_of(e, u, tag);
+            let after = be::be8(u, 1) + dir_sf::one_if_wide(to.inode);
+            lay_with(e, t, u, s.index, s.at, after, name, tag, dir::kept(e, to))
+        }
+        FreeTag::Nowhere => 0,
+    }
 }
 
 // Puts a new entry in.
 fn put_in<'a, 'b>(e: Edition, b: &'a mut [u8], told: usize, name: &'b [u8], to: Target)
     requires { ⌜ Sane e × (insert-code e told (now b) (now name) to ≡ 0) ⌝ }
-    ensures { λ _. ⌜ now (b .exit) ≡ with-entries e (now (b .entry)) (inserted e told (now (name .entry)) to (entries e (used e (now (b .entry))))) ⌝ }
+    ensures { λ _. ⌜ now (b .exit)
+        ≡ with-entries e (now (b .entry)) (inserted e told (now (name .entry)) to (entries e (used e (now (b .entry))))) ⌝ }
 {
     let n = dir_sf::fork_long(e, &b[..]);
     let start = e.literal;

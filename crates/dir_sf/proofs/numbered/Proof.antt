@@ -2,7 +2,7 @@ use Prim.Native.Nat.{_-_}
 use borrow.Author.Needs.{needs}
 use Rattle.dir_sf.specs.Entry.{width-of}
 use Rattle.dir_sf.proofs.Run.{run-one}
-use Rattle.dir_sf.proofs.Tests.{Every, number-ok, every-start, numbered-stop, numbered-on, numbered-done, numbered-parent}
+use Rattle.dir_sf.proofs.Tests.{Every, number-ok, every-start, numbered-stop, numbered-on, numbered-done}
 use Rattle.dir_sf.proofs.numbered.Statement.{statement}
 use Rattle.dir_sf.proofs.numbered.Tie as tie
 
@@ -19,8 +19,6 @@ numbered-spec =
     Inv-loop
     μ-loop
     (λ c κs. search needs)
-    (λ c. search (needs, numbered-parent))
-    (λ c κs. search needs)
     (λ c. search (needs, every-start))
     (λ c κs. search (needs, run-one))
     (λ c. search needs)
@@ -33,4 +31,5 @@ numbered-spec =
     (λ c. search needs)
     (λ c. search needs)
     (λ c. search (needs, numbered-on))
+    (λ c κs. search needs)
     (λ c. search (needs, numbered-done)))

@@ -1,5 +1,5 @@
 use borrow.Author.Needs.{needs}
-use Rattle.dir_sf_edit.proofs.Changes.{insert-passes, insert-dir, insert-readable, insert-short, insert-few, insert-room, put-in-is}
+use Rattle.dir_sf_edit.proofs.Changes.{insert-passes, insert-dir, insert-readable, insert-short, insert-few, insert-free, insert-room, put-in-is}
 use Rattle.dir_sf_edit.proofs.put_in.Statement.{statement}
 use Rattle.dir_sf_edit.proofs.put_in.Tie as tie
 
@@ -14,7 +14,7 @@ put-in-spec =
     (λ c. search needs)
     (λ c. search needs)
     (λ c. search needs)
-    (λ c κs. (search needs, search (needs, insert-readable), search (needs, insert-short), search (needs, insert-few), search (needs, insert-room)))
+    (λ c κs. (search needs, search (needs, insert-readable), search (needs, insert-short), search (needs, insert-few), search (needs, insert-free), search (needs, insert-room)))
     (λ c. search needs)
     (λ c κs. search needs)
     (λ c. search needs)
