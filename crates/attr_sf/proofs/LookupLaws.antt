@@ -26,7 +26,7 @@ use Rattle.attr_sf.proofs.InodeTests.{inode-passed, fork-passed, fork-l
 use Rattle.attr_sf.proofs.Seeking.{at-never, found-inside}
 use Rattle.attr_sf.proofs.OtherEntries.{others-none}
 use Rattle.attr_sf.proofs.AroundEntry.{splits}
-use Rattle.attr_sf.proofs.EntryParts.{parts-law, part-at-is}
+use Rattle.attr_sf.proofs.EntryParts.{parts-law}
 
 unfoldable pub value-among : List Entry → List ℕ
 value-among [] = []
@@ -111,8 +111,7 @@ module _ (e : Edition) (b name : List ℕ) (flags : ℕ) (a : asked-code e b nam
       → part-of b (lookup e b name flags) ≡ entry-at (attr-fork e b) (key-place (attr-fork e b) name flags) .value
   unfolding lookup found-in
   looked-found q =
-      let r = attr-at (attr-start e b) (attr-fork e b) (key-place (attr-fork e b) name flags) in
-      rw (a, q) (part-at-is b (r .«value_start») (r .«value_len») ∙ parts-law e b (key-place (attr-fork e b) name flags) .1)
+      rw (a, q) (parts-law e b (key-place (attr-fork e b) name flags) .1)
 
   looked-none : held (attr-fork e b) name flags ≡ false → lookup e b name flags ≡ Refused ABSENT
   unfolding lookup found-in

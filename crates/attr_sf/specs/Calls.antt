@@ -71,9 +71,9 @@ abbrev pub place-code : Place → ℕ
 place-code (At a n) = 0
 place-code (Refused k) = k
 
--- and the part of the inode that is handed back: an empty part, the first zero bytes, when valuelen is 0 or the request is refused
+-- and the part of the inode that is handed back: a found value in place, also when valuelen is 0; a refused request's empty part is the first zero bytes
 abbrev pub start-of : Place → ℕ
-start-of (At a n) = cond (eqb n 0) 0 a
+start-of (At a n) = a
 start-of (Refused k) = 0
 
 abbrev pub length-of : Place → ℕ

@@ -328,19 +328,14 @@ pub fn lookup<'a, 'b>(b: &'a [u8], name: &'b [u8], flags: usize) -> Place
     look(V4::edition(), b, name, flags)
 }
 
-// The value in place: a part of the inode, its first zero bytes where there is no value or the lookup is refused.
+// The value in place, a part of the inode; its first zero bytes where the lookup is refused, which lookup's number tells apart from an empty value.
 pub fn value<'a, 'b>(b: &'a [u8], name: &'b [u8], flags: usize) -> &'a [u8]
     ensures contents { λ r. ⌜ now r ≡ part-of (now (b .entry)) (lookup v4 (now (b .entry)) (now (name .entry)) flags) ⌝ }
     ensures place { λ r. ⌜ (r .ptr .0 ≡ b .entry .ptr .0) × (r .ptr .1 ≡ b .entry .ptr .1 + start-of (lookup v4 (now (b .entry)) (now (name .entry)) flags)) ⌝ }
     ensures long { λ r. ⌜ length (now r) ≡ length-of (lookup v4 (now (b .entry)) (now (name .entry)) flags) ⌝ }
 {
     match lookup(b, name, flags) {
-        Place::At(at, len) => {
-            if len == 0 {
-                return &b[0..0];
-            }
-            &b[at..at + len]
-        }
+        Place::At(at, len) => &b[at..at + len],
         Place::Refused(_) => &b[0..0],
     }
 }

@@ -2,7 +2,6 @@ use native.Mathlib.Omega.{arith}
 use native.Mathlib.Nat.{add-sub-cancel-left}
 use mathlib.Core.Path.{refl, sym, _∙_}
 use denote.Ref.{now}
-use borrow.Author.Tests.{ne-eqb}
 use borrow.Author.Needs.{needs}
 use Rattle.be.proofs.Parts.{part-length}
 use Rattle.attr_sf.proofs.LookupLaws.{looked-inside}
@@ -18,22 +17,18 @@ value-spec =
     (tie.spec
     (λ c κs. search needs)
     (λ c. search needs)
+    (λ c. omega (arith, looked-inside _ _ _ _ (sym (c .before .at .given .1) ∙ c .before .before .before .lookup .ensures .0)))
     (λ c. search needs)
     (λ c. search needs)
-    (λ c. search needs)
-    (λ c. rw (← (sym (c .before .before .before .at .given .1) ∙ c .before .before .before .before .before .lookup .ensures .0), c .before .if1 .taken) (refl, ((refl, search needs), refl)))
-    (λ c. omega (arith, looked-inside _ _ _ _ (sym (c .before .before .at .given .1) ∙ c .before .before .before .before .lookup .ensures .0)))
-    (λ c. search needs)
-    (λ c. search needs)
-    (λ c. omega (arith, looked-inside _ _ _ _ (sym (c .before .before .at .given .1) ∙ c .before .before .before .before .lookup .ensures .0)))
+    (λ c. omega (arith, looked-inside _ _ _ _ (sym (c .before .at .given .1) ∙ c .before .before .before .lookup .ensures .0)))
     enum-told
     (λ c. search needs)
     (λ c. search needs)
     (λ c. search needs)
     (λ c.
-    let b = now (c .before .before .before .before .before .before .before .before .args .b) in
-    let a = c .before .before .before .at .given .0 .0 in
-    let n = c .before .before .before .at .given .0 .1 .0 in
-    rw (← (sym (c .before .before .before .at .given .1) ∙ c .before .before .before .before .before .lookup .ensures .0), ne-eqb n 0 (c .before .if1 .left), add-sub-cancel-left a n)
-    (refl, ((refl, search needs), part-length a n b (looked-inside _ _ _ _ (sym (c .before .before .before .at .given .1) ∙ c .before .before .before .before .before .lookup .ensures .0)))))
+    let b = now (c .before .before .before .before .before .before .before .args .b) in
+    let a = c .before .before .at .given .0 .0 in
+    let n = c .before .before .at .given .0 .1 .0 in
+    rw (← (sym (c .before .before .at .given .1) ∙ c .before .before .before .before .lookup .ensures .0), add-sub-cancel-left a n)
+    (refl, ((refl, search needs), part-length a n b (looked-inside _ _ _ _ (sym (c .before .before .at .given .1) ∙ c .before .before .before .before .lookup .ensures .0)))))
     (λ c. rw (← (sym (c .before .enum-told .given .1) ∙ c .before .before .before .lookup .ensures .0)) (refl, ((refl, search needs), refl))))
