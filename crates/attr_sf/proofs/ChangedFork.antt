@@ -12,10 +12,10 @@ use borrow.Author.Tests.{lt-ltb, le-ltb, le-leb, lt-leb}
 use Rattle.be.specs.Bytes.{part, put, to-be}
 use Rattle.records.proofs.Joined.{joined-append}
 use Rattle.attr_sf.specs.declared.Plan.{Plan}
-use Rattle.attr_sf.specs.Plan.{plan-of}
+use Rattle.attr_sf.specs.Inner.{plan-of, fork-changed}
 use Rattle.attr_sf.specs.Entry.{entry, others, entry-bytes, run}
 use Rattle.attr_sf.specs.Fork.{header, totsize, count, stored, size-at, key-place, fork-verdict, fork-with, fits}
-use Rattle.attr_sf.specs.Calls.{held, held-request, set-entries, has-room, room-request, fork-changed}
+use Rattle.attr_sf.specs.Calls.{held, held-request, set-entries, has-room, room-request}
 use Rattle.attr_sf.proofs.ForkTests.{long, end-inside}
 use Rattle.attr_sf.proofs.ReadBack.{bytes-length}
 use Rattle.attr_sf.proofs.ForkWrites.{zeros, close-writes, append-writes, head-writes}
