@@ -105,7 +105,7 @@ module _ (b : List ℕ) where
       by-cases (eqb p (data-end b)) (λ m. eqb-true p (data-end b) m)
       (λ m.
       let z : Stepped (step-over v4 (record-at p (records v4 b))) ≡ Stepped (step-end q) = rw (k, m) at h in
-      let y : step-over v4 (record-at p (records v4 b)) ≡ step-end q = cc in absurd (seen-not-end _ q y)))
+      let y : step-over v4 (record-at p (records v4 b)) ≡ step-end q = cc in absurd (seen-not-end (record-at p (records v4 b)) q y)))
       (λ k. let z : Refused (step-code v4 b p) ≡ Stepped (step-end q) = rw k at h in let o : _≡_ {A = ℕ} 0 1 = cc in absurd (omega arith))
 
   module _ (w : Walks v4 b) where
