@@ -5,25 +5,22 @@ use native.Mathlib.Omega.{arith}
 use mathlib.Core.Bool.{true, false, cond}
 use mathlib.Core.Path.{_≡_, sym, _∙_, ap}
 use mathlib.Core.List.{List, [], _∷_, _++_, append-nil}
-use lib.Dec.{ltb}
+use lib.Dec.{leb, ltb}
 use lib.Seq.{length-take-le}
-use lib.ListN.{length, take, drop, replicate, length-append}
+use lib.ListN.{length, take, drop, length-append}
 use borrow.Author.Tests.{lt-ltb, le-ltb, le-leb, lt-leb}
-use Rattle.be.specs.Bytes.{part, put, to-be}
+use Rattle.be.specs.Bytes.{put, to-be}
+use Rattle.be.proofs.Bools.{and-false}
 use Rattle.records.proofs.Joined.{joined-append}
 use Rattle.attr_sf.specs.declared.Plan.{Plan}
-use Rattle.attr_sf.specs.Plan.{plan-of}
+use Rattle.attr_sf.specs.Inner.{plan-of, closed, fork-changed, Fork-removal, Fork-set}
 use Rattle.attr_sf.specs.Entry.{entry, others, entry-bytes, run}
 use Rattle.attr_sf.specs.Fork.{header, totsize, count, stored, size-at, key-place, fork-verdict, fork-with, fits}
-use Rattle.attr_sf.specs.Calls.{held, held-request, set-entries, has-room, room-request, fork-changed}
+use Rattle.attr_sf.specs.Calls.{held, held-request, set-entries, has-room, room-request}
 use Rattle.attr_sf.proofs.ForkTests.{long, end-inside}
 use Rattle.attr_sf.proofs.ReadBack.{bytes-length}
 use Rattle.attr_sf.proofs.ForkWrites.{zeros, close-writes, append-writes, head-writes}
 use Rattle.attr_sf.proofs.AroundEntry.{Apart, layout}
-
--- the fork after the entry's bytes are taken out
-abbrev pub closed : List ℕ → ℕ → ℕ → ℕ → List ℕ
-closed f end p s = put (put f p (part (p + s) (end - (p + s)) f)) (end - s) (replicate (length f - (end - s)) 0)
 
 module _ (f name : List ℕ) (flags : ℕ) (z : fork-verdict f ≡ 0) (P : Plan) (q : P ≡ plan-of f name flags) where
   p-at : P .at ≡ key-place f name flags
@@ -102,14 +99,16 @@ module _ (f name : List ℕ) (flags : ℕ) (z : fork-verdict f ≡ 0) (P : Plan)
     unfolding has-room
     room-value h = rw (lt-leb (length value) 255 h)
 
-    room-count : length value ≤ 255 → 254 < P .kept → has-room f name flags value ≡ false
+    room-count : 254 < P .kept → has-room f name flags value ≡ false
     unfolding has-room fits
-    room-count h k = rw (le-leb (length value) 255 h, lt-leb (length (set-entries name flags value (stored f))) 255 (omega (arith, set-number)))
+    room-count k = rw (lt-leb (length (set-entries name flags value (stored f))) 255 (omega (arith, set-number))) (and-false (leb (length value) 255))
 
-    room-total : length value ≤ 255 → P .kept ≤ 254 → length f < P .end - P .size + 3 + length name + length value → has-room f name flags value ≡ false
+    room-total : length f < P .end - P .size + 3 + length name + length value → has-room f name flags value ≡ false
     unfolding has-room fits
-    room-total h k t =
-        rw (le-leb (length value) 255 h, le-leb (length (set-entries name flags value (stored f))) 255 (omega (arith, set-number)), lt-leb (header + length (run (set-entries name flags value (stored f)))) (length f) (omega (arith, set-total)))
+    room-total t =
+        let o : leb (header + length (run (set-entries name flags value (stored f)))) (length f) ≡ false =
+        lt-leb (header + length (run (set-entries name flags value (stored f)))) (length f) (omega (arith, set-total)) in
+        rw (o, and-false (leb (length (set-entries name flags value (stored f))) 255)) (and-false (leb (length value) 255))
 
     room-is : length value ≤ 255 → P .kept ≤ 254 → P .end - P .size + 3 + length name + length value ≤ length f → has-room f name flags value ≡ true
     unfolding has-room fits
@@ -137,44 +136,39 @@ module _ (f name : List ℕ) (flags : ℕ) (z : fork-verdict f ≡ 0) {P : Plan}
   pub planned : (P ≡ plan-of f name flags) × ((P .at + P .size ≤ P .end) × (P .end ≤ length f))
   planned = (q, plan-inside f name flags z P q)
 
-  pub remove-not : P .end ≤ P .at → (13 ≡ held-request f name flags) × (f ≡ fork-changed f (held-request f name flags) (others name flags (stored f)))
+  pub remove-not : P .end ≤ P .at → Fork-removal f name flags 13 f
   unfolding held-request fork-changed
   remove-not h = let k = held-not f name flags z P q h in (rw k, rw k)
 
   pub remove-done : {c g : List ℕ} → P .at < P .end → c ≡ closed f (P .end) (P .at) (P .size)
       → g ≡ put (put c 0 (to-be 2 (P .end - P .size))) 2 (to-be 1 (P .kept))
-      → (0 ≡ held-request f name flags) × (g ≡ fork-changed f (held-request f name flags) (others name flags (stored f)))
+      → Fork-removal f name flags 0 g
   unfolding held-request fork-changed
   remove-done h a b =
       let k = held-is f name flags z P q h in
       (rw k, rw k (b ∙ ap (λ (x : List ℕ). put (put x 0 (to-be 2 (P .end - P .size))) 2 (to-be 1 (P .kept))) a ∙ remove-writes f name flags z P q))
 
   module _ (value : List ℕ) where
-    refused-by : has-room f name flags value ≡ false
-        → (15 ≡ room-request f name flags value) × (f ≡ fork-changed f (room-request f name flags value) (set-entries name flags value (stored f)))
+    refused-by : has-room f name flags value ≡ false → Fork-set f name flags value 15 f
     unfolding room-request fork-changed
     refused-by h = (rw h, rw h)
 
-    pub set-value : 255 < length value
-        → (15 ≡ room-request f name flags value) × (f ≡ fork-changed f (room-request f name flags value) (set-entries name flags value (stored f)))
+    pub set-value : 255 < length value → Fork-set f name flags value 15 f
     set-value h = refused-by (room-value f name flags z P q value h)
 
-    module _ (h : length value ≤ 255) where
-      pub set-count : 254 < P .kept
-          → (15 ≡ room-request f name flags value) × (f ≡ fork-changed f (room-request f name flags value) (set-entries name flags value (stored f)))
-      set-count k = refused-by (room-count f name flags z P q value h k)
+    pub set-count : 254 < P .kept → Fork-set f name flags value 15 f
+    set-count k = refused-by (room-count f name flags z P q value k)
 
-      module _ (k : P .kept ≤ 254) where
-        pub set-total-over : length f < P .end - P .size + 3 + length name + length value
-            → (15 ≡ room-request f name flags value) × (f ≡ fork-changed f (room-request f name flags value) (set-entries name flags value (stored f)))
-        set-total-over t = refused-by (room-total f name flags z P q value h k t)
+    pub set-total-over : length f < P .end - P .size + 3 + length name + length value → Fork-set f name flags value 15 f
+    set-total-over t = refused-by (room-total f name flags z P q value t)
 
-        pub set-done : {c d g : List ℕ} → P .end - P .size + 3 + length name + length value ≤ length f → c ≡ closed f (P .end) (P .at) (P .size)
-            → d ≡ put c (P .end - P .size) (entry-bytes (entry flags name value))
-            → g ≡ put (put d 0 (to-be 2 (P .end - P .size + 3 + length name + length value))) 2 (to-be 1 (P .kept + 1))
-            → (0 ≡ room-request f name flags value) × (g ≡ fork-changed f (room-request f name flags value) (set-entries name flags value (stored f)))
-        unfolding room-request fork-changed
-        set-done t a b w =
-            let r = room-is f name flags z P q value h k t in
-            let y = b ∙ ap (λ (x : List ℕ). put x (P .end - P .size) (entry-bytes (entry flags name value))) a in
-            (rw r, rw r (w ∙ ap (λ (x : List ℕ). put (put x 0 (to-be 2 (P .end - P .size + 3 + length name + length value))) 2 (to-be 1 (P .kept + 1))) y ∙ set-writes f name flags z P q value t))
+    pub set-done : {c d g : List ℕ} → length value ≤ 255 → P .kept ≤ 254 → P .end - P .size + 3 + length name + length value ≤ length f
+        → c ≡ closed f (P .end) (P .at) (P .size)
+        → d ≡ put c (P .end - P .size) (entry-bytes (entry flags name value))
+        → g ≡ put (put d 0 (to-be 2 (P .end - P .size + 3 + length name + length value))) 2 (to-be 1 (P .kept + 1))
+        → Fork-set f name flags value 0 g
+    unfolding room-request fork-changed
+    set-done h k t a b w =
+        let r = room-is f name flags z P q value h k t in
+        let y = b ∙ ap (λ (x : List ℕ). put x (P .end - P .size) (entry-bytes (entry flags name value))) a in
+        (rw r, rw r (w ∙ ap (λ (x : List ℕ). put (put x 0 (to-be 2 (P .end - P .size + 3 + length name + length value))) 2 (to-be 1 (P .kept + 1))) y ∙ set-writes f name flags z P q value t))

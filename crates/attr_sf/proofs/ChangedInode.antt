@@ -19,7 +19,8 @@ use Rattle.dinode.specs.Core.{attr-start, attr-fork}
 use Rattle.dinode.specs.declared.Fork.the-variants.{At, Refused}
 use Rattle.attr_sf.specs.Entry.{Entry, others}
 use Rattle.attr_sf.specs.Fork.{stored}
-use Rattle.attr_sf.specs.Calls.{asked-code, fork-if, held-request, lookup-code, room-request, set-entries, set-code, fork-changed, changed, remove-bytes, set-bytes}
+use Rattle.attr_sf.specs.Calls.{asked-code, held-request, lookup-code, room-request, set-entries, set-code, changed, remove-bytes, set-bytes}
+use Rattle.attr_sf.specs.Inner.{fork-if, fork-changed}
 use Rattle.attr_sf.proofs.InodeTests.{lent-fork, if-passed, if-refused}
 
 -- the part from a place on was lent, and came back

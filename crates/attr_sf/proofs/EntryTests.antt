@@ -6,7 +6,8 @@ use mathlib.Core.Path.{_≡_, refl, _∙_}
 use mathlib.Core.List.{List}
 use Rattle.be.specs.Lists.{every}
 use Rattle.records.proofs.Turns.{Rest, rest-all, rest-next, every-fails, every-on, every-and, every-done}
-use Rattle.attr_sf.specs.Fork.{header, size-at, entry-at, entries, name-legal-of, flags-legal-of, own-verdict}
+use Rattle.attr_sf.specs.Fork.{header, size-at, entry-at, entries, name-legal-of, flags-legal-of}
+use Rattle.attr_sf.specs.Inner.{own-verdict}
 
 -- the entries before at have legal names, and legal flags where flagged says so
 pub record Passed (f : List ℕ) (n left at : ℕ) (flagged : Bool) : Type 0 where

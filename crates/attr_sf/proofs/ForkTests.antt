@@ -13,7 +13,8 @@ use Rattle.be.specs.Bytes.{byte, field}
 use Rattle.be.proofs.Bools.{by-cases, and-left, and-right}
 use Rattle.records.specs.Records.{start, tiled}
 use Rattle.attr_sf.specs.Entry.{distinct}
-use Rattle.attr_sf.specs.Fork.{header, totsize, count, stored, size-at, entries, name-legal-of, flags-legal-of, own-verdict, span-ok, tile-ok, names-ok, flags-ok, once-ok, fork-verdict}
+use Rattle.attr_sf.specs.Fork.{header, totsize, count, stored, size-at, entries, name-legal-of, flags-legal-of, span-ok, tile-ok, names-ok, flags-ok, once-ok, fork-verdict}
+use Rattle.attr_sf.specs.Inner.{own-verdict}
 
 module _ (f : List ℕ) where
   pub span-short : length f < header → 4 ≡ fork-verdict f

@@ -22,7 +22,8 @@ use Rattle.dinode.specs.declared.Fork.the-variants.{At, Refused}
 use Rattle.dinode.proofs.Sound.{attributes-sound, sound-size, sound-fits}
 use Rattle.attr_sf.specs.Entry.{legal-key, legal-flags}
 use Rattle.attr_sf.specs.Fork.{fork-verdict}
-use Rattle.attr_sf.specs.Calls.{verdict, asked-code, fork-if}
+use Rattle.attr_sf.specs.Calls.{verdict, asked-code}
+use Rattle.attr_sf.specs.Inner.{fork-if}
 use Rattle.attr_sf.proofs.FlagsLaw.{flags-low}
 
 -- one test has passed

@@ -23,3 +23,4 @@ pub mod OtherLookups
 pub mod WalkSteps
 pub mod WholeWalk
 pub mod SmallCodes
+pub mod V4Laws

@@ -65,7 +65,7 @@ module _ (name : List ℕ) (flags : ℕ) where
       by-cases (is-key name flags e) (λ q. rw q r) (λ q. rw (q, others-some (is-key (e .name) (e .flags)) es n) r)
 
 -- the same name and flags, seen from the other entry
-key-turned : (name : List ℕ) (flags : ℕ) (value : List ℕ) (e : Entry) → is-key name flags e ≡ false
+pub key-turned : (name : List ℕ) (flags : ℕ) (value : List ℕ) (e : Entry) → is-key name flags e ≡ false
     → is-key (e .name) (e .flags) (entry flags name value) ≡ false
 unfolding is-key
 key-turned name flags value e h =

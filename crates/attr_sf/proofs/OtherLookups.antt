@@ -8,6 +8,7 @@ use borrow.Author.Tests.{ne-eqb}
 use Rattle.be.specs.Lists.{keep}
 use Rattle.be.proofs.Bools.{by-cases, clash, keep-append}
 use Rattle.edition.specs.declared.Edition.{Edition}
+use Rattle.edition.specs.Edition.{Sane}
 use Rattle.dinode.specs.Core.{attr-fork}
 use Rattle.attr_sf.specs.Entry.{Entry, entry, is-key, others}
 use Rattle.attr_sf.specs.Fork.{stored}
@@ -49,7 +50,7 @@ alike e b c m h t a q =
       value = value-by e c m h k ∙ ap value-among q ∙ sym (value-by e b m h a);
     }
 
-pub unmoved-law : Unmoved-law
+pub unmoved-law : (e : Edition) → Sane e → Unmoved-law e
 unmoved-law e sane b name flags value m h d a = (
   λ q.
       let s = set-law e sane b name flags value q in
@@ -66,6 +67,6 @@ unchanged : (e : Edition) (b : List ℕ) (n : ℕ) (xs : List Entry) → (n ≡ 
 unfolding changed
 unchanged e b n xs h = rw (ne-eqb n 0 h)
 
-pub refusal-law : Refusal-law
+pub refusal-law : (e : Edition) → Refusal-law e
 unfolding set-bytes remove-bytes
 refusal-law e b name flags value = (λ h. unchanged e b _ _ h, λ h. unchanged e b _ _ h)

@@ -12,6 +12,8 @@ use Rattle.be.specs.Bytes.{bytes}
 use Rattle.be.proofs.Bools.{by-cases}
 use Rattle.be.proofs.Parts.{bytes-drop, field-lt, field-1}
 use Rattle.be.proofs.Codes.{both}
+use Rattle.edition.specs.declared.Edition.{Edition}
+use Rattle.edition.specs.Edition.{Sane}
 use Rattle.dinode.specs.Core.{attr-start, attr-fork}
 use Rattle.attr_sf.specs.Entry.{Entry, entry-bytes, is-key, others, run}
 use Rattle.attr_sf.specs.Fork.{header, count, stored, fork-verdict, fits, name-legal-of, flags-legal-of}
@@ -51,7 +53,7 @@ others-fit f name flags y z =
     let r : length (run (others name flags (stored f))) ≤ length (run (stored f)) = others-run name flags (stored f) in
     rw (le-leb (length (others name flags (stored f))) 255 (omega (arith, number f name flags z, count-byte f y (long f z))), le-leb (header + length (run (others name flags (stored f)))) (length f) (omega (arith, body-length f name flags z, end-inside f z, end-above f z)))
 
-pub removal-law : Removal-law
+pub removal-law : (e : Edition) → Sane e → Removal-law e
 unfolding lookup-code remove-bytes attr-fork
 removal-law e sane b name flags y q =
     let p = both (asked-code e b name flags) (held-request (attr-fork e b) name flags) q in

@@ -18,7 +18,7 @@ use Rattle.attr_sf.specs.declared.Place.the-variants.{At, Refused}
 use Rattle.attr_sf.specs.declared.Plan.{Plan}
 use Rattle.attr_sf.specs.Fork.{header, totsize, count, size-at, fork-verdict, key-place, seek}
 use Rattle.attr_sf.specs.Calls.{held, found-in, attr-at}
-use Rattle.attr_sf.specs.Plan.{plan-of}
+use Rattle.attr_sf.specs.Inner.{plan-of}
 use Rattle.attr_sf.proofs.Tiling.{three, seek-count, seek-fits, seek-within, value-inside}
 use Rattle.attr_sf.proofs.ForkTests.{all-tiled, all-ends, end-inside}
 

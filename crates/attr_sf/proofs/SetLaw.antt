@@ -10,6 +10,8 @@ use lib.ListN.{length}
 use Rattle.be.specs.Lists.{keep}
 use Rattle.be.proofs.Bools.{and-right, keep-append}
 use Rattle.be.proofs.Codes.{both}
+use Rattle.edition.specs.declared.Edition.{Edition}
+use Rattle.edition.specs.Edition.{Sane}
 use Rattle.dinode.specs.Core.{attr-fork}
 use Rattle.attr_sf.specs.Entry.{Entry, entry, is-key, others}
 use Rattle.attr_sf.specs.Fork.{stored, fork-verdict, fits, name-legal-of, flags-legal-of}
@@ -28,7 +30,7 @@ kept-new name flags value xs =
     keep-append (is-key name flags) (others name flags xs) (entry flags name value ∷ [])
     ∙ rw (keep-none (is-key name flags) (others name flags xs) (others-none name flags xs), key-own flags name value)
 
-pub set-law : Set-law
+pub set-law : (e : Edition) → Sane e → Set-law e
 unfolding set-code room-request has-room set-bytes set-entries value-among code-among
 set-law e sane b name flags value q =
     let p = both (asked-code e b name flags) (room-request (attr-fork e b) name flags value) q in

@@ -21,8 +21,9 @@ use Rattle.attr_sf.specs.declared.Step.{Step}
 use Rattle.attr_sf.specs.declared.Walked.{Walked}
 use Rattle.attr_sf.specs.declared.Walked.the-variants.{Stepped, Refused}
 use Rattle.attr_sf.specs.Fork.{fork-verdict, header, totsize, count, size-at}
-use Rattle.attr_sf.specs.Calls.{verdict, attr-at, fork-if}
-use Rattle.attr_sf.specs.Walk.{live-step, end-step, step-in, walked-in, walk-step, step-code, walked-code}
+use Rattle.attr_sf.specs.Calls.{verdict, attr-at}
+use Rattle.attr_sf.specs.Walk.{live-step, end-step, step-in, walked-in, walk-step, step-code, walked-code, walked-next, walked-seen, step-next, step-seen}
+use Rattle.attr_sf.specs.Inner.{fork-if}
 use Rattle.attr_sf.proofs.ForkTests.{all-ends, end-inside}
 use Rattle.attr_sf.proofs.InodeTests.{lent-fork, if-passed, if-refused}
 
@@ -73,3 +74,16 @@ module _ (e : Edition) (b : List ℕ) (place : ℕ) where
   step-is =
       by-cases (eqb (verdict e b) 0)
       (λ q. by-cases (stands (size-at (attr-fork e b)) (count (attr-fork e b)) header place) (λ h. rw (q, h)) (λ h. rw (q, h))) (λ q. rw q)
+
+  -- and its values
+  pub next-is : walked-next (walk-step e b place) ≡ step-next e b place
+  unfolding walk-step walked-in step-next step-code
+  next-is =
+      by-cases (eqb (verdict e b) 0)
+      (λ q. by-cases (stands (size-at (attr-fork e b)) (count (attr-fork e b)) header place) (λ h. rw (q, h)) (λ h. rw (q, h))) (λ q. rw (q, q))
+
+  pub seen-is : walked-seen (walk-step e b place) ≡ step-seen e b place
+  unfolding walk-step walked-in step-seen step-code
+  seen-is =
+      by-cases (eqb (verdict e b) 0)
+      (λ q. by-cases (stands (size-at (attr-fork e b)) (count (attr-fork e b)) header place) (λ h. rw (q, h)) (λ h. rw (q, h))) (λ q. rw (q, q))

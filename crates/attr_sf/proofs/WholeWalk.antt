@@ -55,5 +55,5 @@ module _ (e : Edition) (b : List ℕ) (t : verdict e b ≡ 0) where
       ap (λ (m : ℕ). walk e b m at) q ∙ walk-on (n + 1 + k) at l
       ∙ ap (λ (x : List Walked). Stepped (live-step (attr-start e b) f at) ∷ x) (walks n (at + size-at f at) k d (λ x s. h x (stands-later (size-at f) x n at s)))
 
-pub walk-law : Walk-law
+pub walk-law : (e : Edition) → Walk-law e
 walk-law e b k t = walks e b t (count (attr-fork e b)) header k (all-ends (attr-fork e b) (fork-passed e b t)) (λ x s. s)

@@ -1,6 +1,7 @@
 -- What the calls on an inode's attributes answer, and the bytes that they leave.
 -- Assumes nothing.
 use Prim.Native.Nat.{ℕ, _+_}
+use mathlib.Core.Path.{_≡_}
 use mathlib.Core.Bool.{Bool, cond, _&&_}
 use mathlib.Core.List.{List, [], _∷_, _++_}
 use lib.Dec.{eqb, leb, ltb}
@@ -9,9 +10,7 @@ use Rattle.refusal.specs.Refusal.{ASKED, ABSENT, NOROOM}
 use Rattle.be.specs.Codes.{_unless_then_, _and-then_}
 use Rattle.be.specs.Bytes.{byte, part, put}
 use Rattle.edition.specs.declared.Edition.{Edition}
-use Rattle.dinode.specs.Core.{attributes-code, attr-start, attr-length, attr-fork}
-use Rattle.dinode.specs.declared.Fork.{Fork}
-use Rattle.dinode.specs.declared.Fork.the-variants.{At as Fork-at, Refused as Fork-refused}
+use Rattle.dinode.specs.Core.{attributes-code, attr-start, attr-fork}
 use Rattle.attr_sf.specs.Entry.{Entry, entry, legal-key, others}
 use Rattle.attr_sf.specs.Fork.{totsize, stored, fork-verdict, key-place, fork-with, fits}
 use Rattle.attr_sf.specs.declared.Attr.{Attr}
@@ -27,10 +26,6 @@ verdict e b = attributes-code e b and-then fork-verdict (attr-fork e b)
 -- 11 ASKED: the caller's name or flags are not legal
 unfoldable pub asked-code : Edition → List ℕ → List ℕ → ℕ → ℕ
 asked-code e b name flags = verdict e b and-then ASKED unless legal-key name flags then 0
-
--- where the attribute fork lies, or the tests' number (inner: no public promise cites it)
-unfoldable pub fork-if : ℕ → Edition → List ℕ → Fork
-fork-if n e b = cond (eqb n 0) (Fork-at (attr-start e b) (attr-length e b)) (Fork-refused n)
 
 -- ---- lookup
 
@@ -56,10 +51,13 @@ attr-at s f at =
       «value_len» = byte (at + 1) f;
     }
 
--- where the value lies in the inode whose attribute fork starts at s
+-- where its value lies
+abbrev pub value-at : ℕ → List ℕ → ℕ → Place
+value-at s f at = At (attr-at s f at .«value_start») (attr-at s f at .«value_len»)
+
+-- where the value asked for lies in the inode whose attribute fork starts at s
 unfoldable pub found-in : ℕ → List ℕ → List ℕ → ℕ → Place
-found-in s f name flags =
-    let a = attr-at s f (key-place f name flags) in cond (held f name flags) (At (a .«value_start») (a .«value_len»)) (Refused ABSENT)
+found-in s f name flags = Refused ABSENT unless held f name flags then value-at s f (key-place f name flags)
 
 -- what a lookup answers: where the value lies in the inode, or the refusal
 unfoldable pub lookup : Edition → List ℕ → List ℕ → ℕ → Place
@@ -71,9 +69,9 @@ abbrev pub place-code : Place → ℕ
 place-code (At a n) = 0
 place-code (Refused k) = k
 
--- and the part of the inode that is handed back: an empty part, the first zero bytes, when valuelen is 0 or the request is refused
+-- and the part of the inode that is handed back: a found value in place, also when valuelen is 0; a refused request's empty part is the first zero bytes
 abbrev pub start-of : Place → ℕ
-start-of (At a n) = cond (eqb n 0) 0 a
+start-of (At a n) = a
 start-of (Refused k) = 0
 
 abbrev pub length-of : Place → ℕ
@@ -82,6 +80,20 @@ length-of (Refused k) = 0
 
 abbrev pub part-of : List ℕ → Place → List ℕ
 part-of b v = part (start-of v) (length-of v) b
+
+-- where the value starts and how long it is, when it is found
+unfoldable pub lookup-start : Edition → List ℕ → List ℕ → ℕ → ℕ
+lookup-start e b name flags =
+    cond (eqb (lookup-code e b name flags) 0) (attr-at (attr-start e b) (attr-fork e b) (key-place (attr-fork e b) name flags) .«value_start») 0
+
+unfoldable pub lookup-length : Edition → List ℕ → List ℕ → ℕ → ℕ
+lookup-length e b name flags =
+    cond (eqb (lookup-code e b name flags) 0) (attr-at (attr-start e b) (attr-fork e b) (key-place (attr-fork e b) name flags) .«value_len») 0
+
+-- what a lookup promises of its answer: the answer itself, and its number and values
+abbrev pub Lookup-promise : Edition → List ℕ → List ℕ → ℕ → Place → Type 0
+Lookup-promise e b name flags r =
+    (r ≡ lookup e b name flags) × (place-code r ≡ lookup-code e b name flags) × (start-of r ≡ lookup-start e b name flags) × (length-of r ≡ lookup-length e b name flags)
 
 -- ---- changes
 
@@ -99,11 +111,7 @@ room-request f name flags value = NOROOM unless has-room f name flags value then
 unfoldable pub set-code : Edition → List ℕ → List ℕ → ℕ → List ℕ → ℕ
 set-code e b name flags value = asked-code e b name flags and-then room-request (attr-fork e b) name flags value
 
--- the fork after a change with this number and these entries (inner: no public promise cites it)
-unfoldable pub fork-changed : List ℕ → ℕ → List Entry → List ℕ
-fork-changed f n xs = cond (eqb n 0) (fork-with f xs) f
-
--- the inode after it: only the attribute fork changes, and a refusal changes nothing
+-- the inode after a change with this number and these entries: only the attribute fork changes, and a refusal changes nothing
 unfoldable pub changed : Edition → List ℕ → ℕ → List Entry → List ℕ
 changed e b n xs = cond (eqb n 0) (put b (attr-start e b) (fork-with (attr-fork e b) xs)) b
 

@@ -66,10 +66,6 @@ names-ok f = every name-legal-of (stored f)
 unfoldable pub flags-ok : List ℕ → Bool
 flags-ok f = every flags-legal-of (stored f)
 
--- 6 and 7 of these entries, by number (inner: no public promise cites it)
-abbrev pub own-verdict : List Entry → ℕ
-own-verdict xs = NAME unless every name-legal-of xs then NUMBER unless every flags-legal-of xs then 0
-
 -- 10 TWICE: same name and flags
 unfoldable pub once-ok : List ℕ → Bool
 once-ok f = distinct (stored f)

@@ -1,22 +1,22 @@
--- What the calls promise beyond their contracts, for every edition of sane sizes. These are claims about the definitions; the proofs are in proofs/.
+-- What the calls promise beyond their contracts, for every edition of sane sizes. These are claims about the definitions; the proofs are in
+-- proofs/, and for V4 in proofs/V4Laws.antt.
 -- Assumes nothing.
 use Prim.Native.Nat.{ℕ, _+_, _-_}
 use mathlib.Core.Path.{_≡_}
 use mathlib.Core.List.{List, [], _∷_, _++_, map}
-use mathlib.Core.Bool.{true, false, _||_}
+use mathlib.Core.Bool.{true, false, cond, _||_}
 use lib.Dec.{eqb}
 use lib.ListN.{length, take, drop, replicate}
 use Rattle.refusal.specs.Refusal.{ABSENT}
 use Rattle.be.specs.Bytes.{bytes, byte, part}
 use Rattle.be.specs.Lists.{some-of}
 use Rattle.records.specs.Records.{places}
-use Rattle.edition.specs.Edition.{Sane}
 use Rattle.edition.specs.declared.Edition.{Edition}
 use Rattle.dinode.specs.Core.{attr-start, attr-fork}
-use Rattle.attr_sf.specs.Entry.{Entry, entry, legal-flags, is-key, others}
+use Rattle.attr_sf.specs.Entry.{Entry, entry, legal-flags, legal-key, is-key, others, run}
 use Rattle.attr_sf.specs.Fork.{header, stored, count, totsize, size-at, entry-at}
 use Rattle.attr_sf.specs.Walk.{walk, live-step, end-step}
-use Rattle.attr_sf.specs.Calls.{verdict, asked-code, attr-at, lookup, place-code, part-of, remove-code, set-code, remove-bytes, set-bytes}
+use Rattle.attr_sf.specs.Calls.{verdict, asked-code, attr-at, value-at, lookup, place-code, part-of, remove-code, set-code, remove-bytes, set-bytes}
 use Rattle.attr_sf.specs.declared.Walked.the-variants.{Stepped}
 use Rattle.attr_sf.specs.declared.Place.the-variants.{Refused}
 
@@ -49,12 +49,12 @@ pub record Set (e : Edition) (b name : List ℕ) (flags : ℕ) (value c : List �
   pub given : part-of c (lookup e c name flags) ≡ value
 
 -- what a slice holds is bytes, always
-abbrev pub Removal-law : Type 0
-Removal-law = (e : Edition) → Sane e → (b name : List ℕ) (flags : ℕ) → bytes b ≡ true
+abbrev pub Removal-law : Edition → Type 0
+Removal-law e = (b name : List ℕ) (flags : ℕ) → bytes b ≡ true
     → remove-code e b name flags ≡ 0 → Removed e b name flags (remove-bytes e b name flags)
 
-abbrev pub Set-law : Type 0
-Set-law = (e : Edition) → Sane e → (b name : List ℕ) (flags : ℕ) (value : List ℕ)
+abbrev pub Set-law : Edition → Type 0
+Set-law e = (b name : List ℕ) (flags : ℕ) (value : List ℕ)
     → set-code e b name flags value ≡ 0 → Set e b name flags value (set-bytes e b name flags value)
 
 -- a set or a removal of one attribute changes no other lookup's answer
@@ -62,49 +62,48 @@ pub record Alike (e : Edition) (b c m : List ℕ) (h : ℕ) : Type 0 where
   pub number : place-code (lookup e c m h) ≡ place-code (lookup e b m h)
   pub value : part-of c (lookup e c m h) ≡ part-of b (lookup e b m h)
 
-abbrev pub Unmoved-law : Type 0
-Unmoved-law = (e : Edition) → Sane e → (b name : List ℕ) (flags : ℕ) (value m : List ℕ) (h : ℕ)
+abbrev pub Unmoved-law : Edition → Type 0
+Unmoved-law e = (b name : List ℕ) (flags : ℕ) (value m : List ℕ) (h : ℕ)
     → is-key name flags (entry h m []) ≡ false → asked-code e b m h ≡ 0
     → (set-code e b name flags value ≡ 0 → Alike e b (set-bytes e b name flags value) m h)
     × (bytes b ≡ true → remove-code e b name flags ≡ 0 → Alike e b (remove-bytes e b name flags) m h)
 
 -- a refusal changes no byte
-abbrev pub Refusal-law : Type 0
-Refusal-law = (e : Edition) (b name : List ℕ) (flags : ℕ) (value : List ℕ)
+abbrev pub Refusal-law : Edition → Type 0
+Refusal-law e = (b name : List ℕ) (flags : ℕ) (value : List ℕ)
     → ((set-code e b name flags value ≡ 0 → ⊥) → set-bytes e b name flags value ≡ b)
     × ((remove-code e b name flags ≡ 0 → ⊥) → remove-bytes e b name flags ≡ b)
 
 -- ---- lookup
 
--- a lookup that finds: the entry with the name and the flags is stored, and the part that is handed back is its value
-pub record Found (e : Edition) (b name : List ℕ) (flags : ℕ) : Type 0 where
-  pub front : List Entry
-  pub mid : Entry
-  pub back : List Entry
-  pub whole : stored (attr-fork e b) ≡ front ++ (mid ∷ back)
-  pub key : is-key name flags mid ≡ true
-  pub value : part-of b (lookup e b name flags) ≡ mid .value
+-- a stored entry x, behind those of front, is found with its own value
+pub record Found (e : Edition) (b : List ℕ) (front : List Entry) (x : Entry) : Type 0 where
+  pub there : place-code (lookup e b (x .name) (x .flags)) ≡ 0
+  -- the part that is handed back is the entry's value, where the entry stands
+  pub value : part-of b (lookup e b (x .name) (x .flags)) ≡ x .value
+  pub place : lookup e b (x .name) (x .flags) ≡ value-at (attr-start e b) (attr-fork e b) (header + length (run front))
 
-abbrev pub Found-law : Type 0
-Found-law = (e : Edition) (b name : List ℕ) (flags : ℕ) → place-code (lookup e b name flags) ≡ 0 → Found e b name flags
+abbrev pub Found-law : Edition → Type 0
+Found-law e = (b : List ℕ) (front : List Entry) (x : Entry) (back : List Entry) → verdict e b ≡ 0
+    → stored (attr-fork e b) ≡ front ++ (x ∷ back) → Found e b front x
 
--- an absent answer means that no stored entry has the name and the flags
-abbrev pub Absent-law : Type 0
-Absent-law = (e : Edition) (b name : List ℕ) (flags : ℕ) → lookup e b name flags ≡ Refused ABSENT
-    → some-of (is-key name flags) (stored (attr-fork e b)) ≡ false
+-- a legal name with legal flags is absent exactly when no stored entry has both
+abbrev pub Absent-law : Edition → Type 0
+Absent-law e = (b name : List ℕ) (flags : ℕ) → verdict e b ≡ 0 → legal-key name flags ≡ true
+    → place-code (lookup e b name flags) ≡ cond (some-of (is-key name flags) (stored (attr-fork e b))) 0 ABSENT
 
 -- ---- the walk
 
 -- from the start it meets every entry once, in stored order, and then the end: entries plus one answers, and no more however long one asks
-abbrev pub Walk-law : Type 0
-Walk-law = (e : Edition) (b : List ℕ) (k : ℕ) → verdict e b ≡ 0
+abbrev pub Walk-law : Edition → Type 0
+Walk-law e = (b : List ℕ) (k : ℕ) → verdict e b ≡ 0
     → walk e b (count (attr-fork e b) + 1 + k) header
     ≡ map (λ (at : ℕ). Stepped (live-step (attr-start e b) (attr-fork e b) at)) (places (size-at (attr-fork e b)) (count (attr-fork e b)) header)
     ++ (Stepped (end-step (totsize (attr-fork e b))) ∷ [])
 
 -- what a step says of an entry: the parts of the inode that it names are the entry's own
-abbrev pub Parts-law : Type 0
-Parts-law = (e : Edition) (b : List ℕ) (at : ℕ)
+abbrev pub Parts-law : Edition → Type 0
+Parts-law e = (b : List ℕ) (at : ℕ)
     → (part (attr-at (attr-start e b) (attr-fork e b) at .«name_start») (attr-at (attr-start e b) (attr-fork e b) at .«name_len») b ≡ entry-at (attr-fork e b) at .name)
     × (part (attr-at (attr-start e b) (attr-fork e b) at .«value_start») (attr-at (attr-start e b) (attr-fork e b) at .«value_len») b ≡ entry-at (attr-fork e b) at .value)
 

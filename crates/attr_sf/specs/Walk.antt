@@ -1,6 +1,7 @@
 -- The walk over an inode's attributes: one step, and the steps one after the other.
 -- Assumes nothing.
 use Prim.Native.Nat.{ℕ, zero, suc, _+_}
+use mathlib.Core.Path.{_≡_}
 use mathlib.Core.Bool.{Bool, true, false, cond}
 use mathlib.Core.List.{List, [], _∷_}
 use lib.Dec.{eqb}
@@ -39,27 +40,40 @@ walked-in s f place = cond (stands (size-at f) (count f) header place) (Stepped 
 unfoldable pub walk-step : Edition → List ℕ → ℕ → Walked
 walk-step e b place = cond (eqb (verdict e b) 0) (walked-in (attr-start e b) (attr-fork e b) place) (Refused (verdict e b))
 
--- a step's number, 0 where it is done
+-- a step's number, 0 where it is done, where the walk then stands, and what it met; a refusal has its number only
 abbrev pub walked-code : Walked → ℕ
 walked-code (Stepped s) = 0
 walked-code (Refused k) = k
 
--- whether a walk goes on after an answer, and from where
+abbrev pub walked-next : Walked → ℕ
+walked-next (Stepped s) = s .next
+walked-next (Refused k) = 0
+
+abbrev pub walked-seen : Walked → Seen
+walked-seen (Stepped s) = s .seen
+walked-seen (Refused k) = End
+
+unfoldable pub step-next : Edition → List ℕ → ℕ → ℕ
+step-next e b place = cond (eqb (step-code e b place) 0) (step-in (attr-start e b) (attr-fork e b) place .next) 0
+
+unfoldable pub step-seen : Edition → List ℕ → ℕ → Seen
+step-seen e b place = cond (eqb (step-code e b place) 0) (step-in (attr-start e b) (attr-fork e b) place .seen) End
+
+-- what a step promises of its answer: the answer itself, and its number and values
+abbrev pub Step-promise : Edition → List ℕ → ℕ → Walked → Type 0
+Step-promise e b place r =
+    (r ≡ walk-step e b place) × (walked-code r ≡ step-code e b place) × (walked-next r ≡ step-next e b place) × (walked-seen r ≡ step-seen e b place)
+
+-- ---- the whole walk
+
+-- a walk goes on after a live entry
 abbrev pub is-live : Seen → Bool
 is-live (Live a) = true
 is-live End = false
-
-abbrev pub goes-on : Walked → Bool
-goes-on (Stepped s) = is-live (s .seen)
-goes-on (Refused k) = false
-
-abbrev pub next-of : Walked → ℕ
-next-of (Stepped s) = s .next
-next-of (Refused k) = 0
 
 -- the answers of a walk from a place on, n of them at most: it goes on as long as it meets entries
 unfoldable pub walk : Edition → List ℕ → ℕ → ℕ → List Walked
 walk e b zero place = []
 walk e b (suc n) place =
     let a = walk-step e b place in
-    let rest = walk e b n (next-of (walk-step e b place)) in a ∷ cond (goes-on a) rest []
+    let rest = walk e b n (walked-next a) in a ∷ cond (is-live (walked-seen a)) rest []

@@ -2,16 +2,18 @@
 ghost use mathlib.Core.Path.{_≡_};
 ghost use mathlib.Core.Bool.{true};
 ghost use Prim.Native.Nat.{_+_, _-_, _≤_, _<_};
-ghost use lib.ListN.{length, replicate};
-ghost use Rattle.be.specs.Bytes.{part, put, to-be};
+ghost use lib.ListN.{length};
+ghost use Rattle.be.specs.Bytes.{put, to-be};
 ghost use Rattle.be.specs.Lists.{some-of};
 ghost use Rattle.records.specs.Records.{tiled, stands};
 ghost use Rattle.edition.specs.Edition.{v4, Sane};
-ghost use Rattle.attr_sf.specs.Entry.{entry, entry-bytes, legal-flags, legal-key, is-key, distinct, others};
-ghost use Rattle.attr_sf.specs.Fork.{header, totsize, stored, size-at, entry-at, entries, name-legal-of, flags-legal-of, own-verdict, fork-verdict, seek, key-place};
-ghost use Rattle.attr_sf.specs.Calls.{verdict, asked-code, fork-if, found-in, lookup, place-code, start-of, length-of, part-of, held-request, lookup-code, remove-code, room-request, set-code, set-entries, fork-changed, remove-bytes, set-bytes};
-ghost use Rattle.attr_sf.specs.Walk.{live-step, walked-in, walk-step, step-code, walked-code};
-ghost use Rattle.attr_sf.specs.Plan.{plan-of};
+ghost use Rattle.attr_sf.specs.Entry.{entry, entry-bytes, legal-flags, legal-key, is-key, distinct};
+ghost use Rattle.attr_sf.specs.Fork.{header, totsize, size-at, entry-at, entries, name-legal-of, flags-legal-of};
+ghost use Rattle.attr_sf.specs.Fork.{fork-verdict, seek, key-place};
+ghost use Rattle.attr_sf.specs.Calls.{verdict, asked-code, found-in, lookup, Lookup-promise, start-of, length-of, part-of};
+ghost use Rattle.attr_sf.specs.Calls.{remove-code, set-code, remove-bytes, set-bytes};
+ghost use Rattle.attr_sf.specs.Walk.{live-step, walked-in, walk-step, Step-promise};
+ghost use Rattle.attr_sf.specs.Inner.{own-verdict, fork-if, plan-of, closed, Fork-removal, Fork-set};
 use dinode::Fork;
 use edition::Edition;
 use edition::V4;
@@ -183,8 +185,10 @@ fn seek_from<'a, 'b>(
 
 // Whether one of n entries from a place on has the name and the flags of the entry at another.
 fn again(f: &[u8], end: usize, n: usize, from: usize, at: usize) -> bool
-    requires { ⌜ (tiled (size-at (now f)) end n from ≡ true) × ((end ≤ length (now f)) × (at + size-at (now f) at ≤ length (now f))) ⌝ }
-    ensures { λ r. ⌜ r ≡ some-of (is-key (entry-at (now (f .entry)) at .name) (entry-at (now (f .entry)) at .flags)) (entries (now (f .entry)) n from) ⌝ }
+    requires { ⌜ (tiled (size-at (now f)) end n from ≡ true)
+        × ((end ≤ length (now f)) × (at + size-at (now f) at ≤ length (now f))) ⌝ }
+    ensures { λ r. ⌜ r ≡ some-of (is-key (entry-at (now (f .entry)) at .name) (entry-at (now (f .entry)) at .flags))
+        (entries (now (f .entry)) n from) ⌝ }
 {
     let start = at + 3;
     let stop = start + be::be8(f, at);
@@ -323,24 +327,20 @@ fn look<'a, 'b>(e: Edition, b: &'a [u8], name: &'b [u8], flags: usize) -> Place
 
 // Looks an attribute up: where its value lies in the inode, or the refusal.
 pub fn lookup<'a, 'b>(b: &'a [u8], name: &'b [u8], flags: usize) -> Place
-    ensures { λ r. ⌜ (r ≡ lookup v4 (now (b .entry)) (now (name .entry)) flags) × (place-code r ≡ lookup-code v4 (now (b .entry)) (now (name .entry)) flags) ⌝ }
+    ensures { λ r. ⌜ Lookup-promise v4 (now (b .entry)) (now (name .entry)) flags r ⌝ }
 {
     look(V4::edition(), b, name, flags)
 }
 
-// The value in place: a part of the inode, its first zero bytes where there is no value or the lookup is refused.
+// The value in place, a part of the inode; its first zero bytes where the lookup is refused: lookup's number tells that from an empty value.
 pub fn value<'a, 'b>(b: &'a [u8], name: &'b [u8], flags: usize) -> &'a [u8]
     ensures contents { λ r. ⌜ now r ≡ part-of (now (b .entry)) (lookup v4 (now (b .entry)) (now (name .entry)) flags) ⌝ }
-    ensures place { λ r. ⌜ (r .ptr .0 ≡ b .entry .ptr .0) × (r .ptr .1 ≡ b .entry .ptr .1 + start-of (lookup v4 (now (b .entry)) (now (name .entry)) flags)) ⌝ }
+    ensures place { λ r. ⌜ (r .ptr .0 ≡ b .entry .ptr .0)
+        × (r .ptr .1 ≡ b .entry .ptr .1 + start-of (lookup v4 (now (b .entry)) (now (name .entry)) flags)) ⌝ }
     ensures long { λ r. ⌜ length (now r) ≡ length-of (lookup v4 (now (b .entry)) (now (name .entry)) flags) ⌝ }
 {
     match lookup(b, name, flags) {
-        Place::At(at, len) => {
-            if len == 0 {
-                return &b[0..0];
-            }
-            &b[at..at + len]
-        }
+        Place::At(at, len) => &b[at..at + len],
         Place::Refused(_) => &b[0..0],
     }
 }
@@ -415,12 +415,13 @@ fn walk_on(e: Edition, b: &[u8], place: usize) -> Walked
 
 // One step of the walk over an inode's attributes, from a place that is counted from the fork's start.
 pub fn step_at(b: &[u8], place: usize) -> Walked
-    ensures { λ r. ⌜ (r ≡ walk-step v4 (now (b .entry)) place) × (walked-code r ≡ step-code v4 (now (b .entry)) place) ⌝ }
+    ensures { λ r. ⌜ Step-promise v4 (now (b .entry)) place r ⌝ }
 {
     walk_on(V4::edition(), b, place)
 }
 
-// What a set or a removal reads first: where the entry asked for starts (the entries' end when there is none), its size (0), how many entries are kept, and the entries' end.
+// What a set or a removal reads first: where the entry asked for starts (the entries' end when there is none), its size (0),
+// how many entries are kept, and the entries' end.
 struct Plan {
     at: usize,
     size: usize,
@@ -430,7 +431,8 @@ struct Plan {
 
 fn plan_in<'a, 'b>(f: &'a [u8], name: &'b [u8], flags: usize) -> Plan
     requires { ⌜ fork-verdict (now f) ≡ 0 ⌝ }
-    ensures { λ r. ⌜ (r ≡ plan-of (now (f .entry)) (now (name .entry)) flags) × ((r .at + r .size ≤ r .end) × (r .end ≤ length (now (f .entry)))) ⌝ }
+    ensures { λ r. ⌜ (r ≡ plan-of (now (f .entry)) (now (name .entry)) flags)
+        × ((r .at + r .size ≤ r .end) × (r .end ≤ length (now (f .entry)))) ⌝ }
 {
     let at = place_in(f, name, flags);
     let end = be::be16(f, 0);
@@ -455,7 +457,7 @@ fn plan_in<'a, 'b>(f: &'a [u8], name: &'b [u8], flags: usize) -> Plan
 // Takes s bytes at a place out of the entries, and zeroes what is unused then.
 fn close(f: &mut [u8], end: usize, at: usize, s: usize)
     requires { ⌜ (at + s ≤ end) × (end ≤ length (now f)) ⌝ }
-    ensures { λ _. ⌜ now (f .exit) ≡ put (put (now (f .entry)) at (part (at + s) (end - (at + s)) (now (f .entry)))) (end - s) (replicate (length (now (f .entry)) - (end - s)) 0) ⌝ }
+    ensures { λ _. ⌜ now (f .exit) ≡ closed (now (f .entry)) end at s ⌝ }
 {
     be::move_down(f, at + s, at, end - (at + s));
     let from = end - s;
@@ -480,7 +482,8 @@ fn write_entry<'a, 'b, 'c>(
     flags: usize,
     value: &'c [u8],
 )
-    requires { ⌜ ((at + 3 + length (now name) + length (now value) ≤ length (now f)) × (flags < 256)) × ((length (now name) < 256) × (length (now value) < 256)) ⌝ }
+    requires { ⌜ ((at + 3 + length (now name) + length (now value) ≤ length (now f)) × (flags < 256))
+        × ((length (now name) < 256) × (length (now value) < 256)) ⌝ }
     ensures { λ _. ⌜ now (f .exit) ≡ put (now (f .entry)) at (entry-bytes (entry flags (now (name .entry)) (now (value .entry)))) ⌝ }
 {
     let k = name.len();
@@ -494,7 +497,7 @@ fn write_entry<'a, 'b, 'c>(
 // Removes an entry from a fork that passes its tests.
 fn remove_in<'a, 'b>(f: &'a mut [u8], name: &'b [u8], flags: usize) -> usize
     requires { ⌜ fork-verdict (now f) ≡ 0 ⌝ }
-    ensures { λ r. ⌜ (r ≡ held-request (now (f .entry)) (now (name .entry)) flags) × (now (f .exit) ≡ fork-changed (now (f .entry)) (held-request (now (f .entry)) (now (name .entry)) flags) (others (now (name .entry)) flags (stored (now (f .entry))))) ⌝ }
+    ensures { λ r. ⌜ Fork-removal (now (f .entry)) (now (name .entry)) flags r (now (f .exit)) ⌝ }
 {
     let p = plan_in(&f[..], name, flags);
     let at = p.at;
@@ -512,7 +515,7 @@ fn remove_in<'a, 'b>(f: &'a mut [u8], name: &'b [u8], flags: usize) -> usize
 // Sets an entry in a fork that passes its tests.
 fn set_in<'a, 'b, 'c>(f: &'a mut [u8], name: &'b [u8], flags: usize, value: &'c [u8]) -> usize
     requires { ⌜ ((fork-verdict (now f) ≡ 0) × (length (now f) < 65536)) × ((length (now name) < 256) × (flags < 256)) ⌝ }
-    ensures { λ r. ⌜ (r ≡ room-request (now (f .entry)) (now (name .entry)) flags (now (value .entry))) × (now (f .exit) ≡ fork-changed (now (f .entry)) (room-request (now (f .entry)) (now (name .entry)) flags (now (value .entry))) (set-entries (now (name .entry)) flags (now (value .entry)) (stored (now (f .entry))))) ⌝ }
+    ensures { λ r. ⌜ Fork-set (now (f .entry)) (now (name .entry)) flags (now (value .entry)) r (now (f .exit)) ⌝ }
 {
     let p = plan_in(&f[..], name, flags);
     let at = p.at;
@@ -538,7 +541,8 @@ fn set_in<'a, 'b, 'c>(f: &'a mut [u8], name: &'b [u8], flags: usize, value: &'c 
 
 fn take_out<'a, 'b>(e: Edition, b: &'a mut [u8], name: &'b [u8], flags: usize) -> usize
     requires { ⌜ Sane e ⌝ }
-    ensures { λ r. ⌜ (r ≡ remove-code e (now (b .entry)) (now (name .entry)) flags) × (now (b .exit) ≡ remove-bytes e (now (b .entry)) (now (name .entry)) flags) ⌝ }
+    ensures { λ r. ⌜ (r ≡ remove-code e (now (b .entry)) (now (name .entry)) flags)
+        × (now (b .exit) ≡ remove-bytes e (now (b .entry)) (now (name .entry)) flags) ⌝ }
 {
     match asked(e, &b[..], name, flags) {
         Fork::At(start, _) => remove_in(&mut b[start..], name, flags),
@@ -548,7 +552,8 @@ fn take_out<'a, 'b>(e: Edition, b: &'a mut [u8], name: &'b [u8], flags: usize) -
 
 // Removes an attribute: 0, or the number of the refusal, which leaves every byte as it was.
 pub fn remove<'a, 'b>(b: &'a mut [u8], name: &'b [u8], flags: usize) -> usize
-    ensures { λ r. ⌜ (r ≡ remove-code v4 (now (b .entry)) (now (name .entry)) flags) × (now (b .exit) ≡ remove-bytes v4 (now (b .entry)) (now (name .entry)) flags) ⌝ }
+    ensures { λ r. ⌜ (r ≡ remove-code v4 (now (b .entry)) (now (name .entry)) flags)
+        × (now (b .exit) ≡ remove-bytes v4 (now (b .entry)) (now (name .entry)) flags) ⌝ }
 {
     take_out(V4::edition(), b, name, flags)
 }
@@ -561,7 +566,8 @@ fn put_in<'a, 'b, 'c>(
     value: &'c [u8],
 ) -> usize
     requires { ⌜ Sane e ⌝ }
-    ensures { λ r. ⌜ (r ≡ set-code e (now (b .entry)) (now (name .entry)) flags (now (value .entry))) × (now (b .exit) ≡ set-bytes e (now (b .entry)) (now (name .entry)) flags (now (value .entry))) ⌝ }
+    ensures { λ r. ⌜ (r ≡ set-code e (now (b .entry)) (now (name .entry)) flags (now (value .entry)))
+        × (now (b .exit) ≡ set-bytes e (now (b .entry)) (now (name .entry)) flags (now (value .entry))) ⌝ }
 {
     match asked(e, &b[..], name, flags) {
         Fork::At(start, _) => set_in(&mut b[start..], name, flags, value),
@@ -569,9 +575,11 @@ fn put_in<'a, 'b, 'c>(
     }
 }
 
-// Sets an attribute: an equal one goes, and the new one stands at the end. 0, or the number of the refusal, which leaves every byte as it was.
+// Sets an attribute: an equal one goes, and the new one stands at the end. 0, or the number of the refusal, which leaves every byte
+// as it was.
 pub fn set<'a, 'b, 'c>(b: &'a mut [u8], name: &'b [u8], flags: usize, value: &'c [u8]) -> usize
-    ensures { λ r. ⌜ (r ≡ set-code v4 (now (b .entry)) (now (name .entry)) flags (now (value .entry))) × (now (b .exit) ≡ set-bytes v4 (now (b .entry)) (now (name .entry)) flags (now (value .entry))) ⌝ }
+    ensures { λ r. ⌜ (r ≡ set-code v4 (now (b .entry)) (now (name .entry)) flags (now (value .entry)))
+        × (now (b .exit) ≡ set-bytes v4 (now (b .entry)) (now (name .entry)) flags (now (value .entry))) ⌝ }
 {
     put_in(V4::edition(), b, name, flags, value)
 }

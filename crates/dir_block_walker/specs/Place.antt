@@ -1,7 +1,7 @@
 -- What a walker meets, and where it then stands.
 -- Assumes nothing.
 use Prim.Native.Nat.{ℕ, zero, suc}
-use mathlib.Core.List.{List}
+use mathlib.Core.List.{List, [], _∷_, _++_}
 use denote.Ref.{now}
 use Rattle.edition.specs.Edition.{v4}
 use Rattle.dir.specs.declared.Walked.{Walked}
@@ -30,3 +30,8 @@ moved w = record { block = w .block; place = place-after (w .place) (met w) }
 unfoldable pub nth-place : List ℕ → ℕ → ℕ
 nth-place b zero = v4 .header
 nth-place b (suc n) = place-after (nth-place b n) (walk-step v4 b (nth-place b n))
+
+-- what a walk over a block meets in its first n steps
+unfoldable pub answers : List ℕ → ℕ → List Walked
+answers b zero = []
+answers b (suc n) = answers b n ++ (walk-step v4 b (nth-place b n) ∷ [])

@@ -5,15 +5,15 @@ use borrow.Author.Needs.{needs}
 use Rattle.edition.specs.declared.Edition.{Edition}
 use Rattle.edition.specs.Edition.{v4}
 use Rattle.attr_sf.specs.declared.Walked.{Walked}
-use Rattle.attr_sf.specs.Walk.{walk-step, step-code, walked-code}
-use Rattle.attr_sf.proofs.WalkSteps.{step-is}
+use Rattle.attr_sf.specs.Walk.{walk-step, walked-code, walked-next, walked-seen, Step-promise}
+use Rattle.attr_sf.proofs.WalkSteps.{step-is, next-is, seen-is}
 use Rattle.attr_sf.proofs.step_at.Statement.{statement}
 use Rattle.attr_sf.proofs.step_at.Tie as tie
 
 -- of the edition that was made
-made : {e : Edition} {r : Walked} (b : List ℕ) (place : ℕ) → r ≡ walk-step e b place → e ≡ v4
-    → (r ≡ walk-step v4 b place) × (walked-code r ≡ step-code v4 b place)
-made b place h q = let k = rw q at h in (k, ap walked-code k ∙ step-is v4 b place)
+made : {e : Edition} {r : Walked} (b : List ℕ) (place : ℕ) → r ≡ walk-step e b place → e ≡ v4 → Step-promise v4 b place r
+made b place h q =
+    let k = rw q at h in (k, ap walked-code k ∙ step-is v4 b place, ap walked-next k ∙ next-is v4 b place, ap walked-seen k ∙ seen-is v4 b place)
 
 pub step-at-spec : {M : Type 1} → statement M
 step-at-spec =

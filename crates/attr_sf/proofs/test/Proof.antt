@@ -5,7 +5,8 @@ use borrow.Author.Needs.{needs}
 use Rattle.edition.specs.declared.Edition.{Edition}
 use Rattle.edition.specs.Edition.{v4}
 use Rattle.dinode.specs.declared.Fork.{Fork}
-use Rattle.attr_sf.specs.Calls.{verdict, fork-if}
+use Rattle.attr_sf.specs.Calls.{verdict}
+use Rattle.attr_sf.specs.Inner.{fork-if}
 use Rattle.attr_sf.proofs.InodeTests.{test-at, test-refused}
 use Rattle.attr_sf.proofs.test.Statement.{statement}
 use Rattle.attr_sf.proofs.test.Tie as tie
