@@ -42,12 +42,7 @@ abbrev pub walked-seen : Walked → Seen
 walked-seen (Stepped s) = s .seen
 walked-seen (Walk-refused k) = End
 
--- a live entry: what its name stands for, where the name starts, and its length
-abbrev pub seen-target : Seen → Target
-seen-target (Live l) = l .target
-seen-target Gap = no-target
-seen-target End = no-target
-
+-- where a live entry's name starts, and its length; 0 where there is none
 abbrev pub seen-start : Seen → ℕ
 seen-start (Live l) = l .start
 seen-start Gap = 0

@@ -74,7 +74,8 @@ fn joined_end(e: Edition, b: &[u8], end: usize, o: usize, u: usize) -> usize
 fn free_entry(e: Edition, b: &mut [u8], end: usize, slot: usize, at: usize, name: &[u8])
     requires { ⌜ Sane e × Ready e (now b) ⌝ }
     requires { ⌜ end ≡ data-end (now b) ⌝ }
-    requires { ⌜ (sought e (now b) (now name) .hit ≡ true) × ((sought e (now b) (now name) .index ≡ slot) × (sought e (now b) (now name) .at ≡ at)) ⌝ }
+    requires { ⌜ (sought e (now b) (now name) .hit ≡ true)
+        × ((sought e (now b) (now name) .index ≡ slot) × (sought e (now b) (now name) .at ≡ at)) ⌝ }
     ensures { λ _. ⌜ now (b .exit) ≡ written (now (b .entry)) (remove-writes e (now (b .entry)) (now (name .entry))) ⌝ }
 {
     let n = b.len();
@@ -92,7 +93,8 @@ fn free_entry(e: Edition, b: &mut [u8], end: usize, slot: usize, at: usize, name
 fn remove_found(e: Edition, b: &mut [u8], end: usize, slot: usize, at: usize, name: &[u8])
     requires { ⌜ Sane e × Ready e (now b) ⌝ }
     requires { ⌜ end ≡ data-end (now b) ⌝ }
-    requires { ⌜ (sought e (now b) (now name) .hit ≡ true) × ((sought e (now b) (now name) .index ≡ slot) × (sought e (now b) (now name) .at ≡ at)) ⌝ }
+    requires { ⌜ (sought e (now b) (now name) .hit ≡ true)
+        × ((sought e (now b) (now name) .index ≡ slot) × (sought e (now b) (now name) .at ≡ at)) ⌝ }
     requires { ⌜ fixed-name (now name) ≡ false ⌝ }
     ensures { λ _. ⌜ now (b .exit) ≡ changed e (now (b .entry)) (remove-writes e (now (b .entry)) (now (name .entry))) ⌝ }
 {
@@ -104,7 +106,8 @@ fn remove_found(e: Edition, b: &mut [u8], end: usize, slot: usize, at: usize, na
 fn remove_ready(e: Edition, b: &mut [u8], name: &[u8]) -> usize
     requires { ⌜ Sane e × Ready e (now b) ⌝ }
     requires { ⌜ (legal-name e (now name) ≡ true) × (fixed-name (now name) ≡ false) ⌝ }
-    ensures { λ r. ⌜ (r ≡ remove-code e (now (b .entry)) (now (name .entry))) × (now (b .exit) ≡ remove-bytes e (now (b .entry)) (now (name .entry))) ⌝ }
+    ensures { λ r. ⌜ (r ≡ remove-code e (now (b .entry)) (now (name .entry)))
+        × (now (b .exit) ≡ remove-bytes e (now (b .entry)) (now (name .entry))) ⌝ }
 {
     let n = b.len();
     let c = be::be32(&b[..], n - 8);
@@ -171,7 +174,8 @@ fn insert_a(
     requires { ⌜ (end ≡ data-end (now b)) × ((count ≡ count-of (now b)) × ((stale ≡ stale-of (now b)) × (0 < stale))) ⌝ }
     requires { ⌜ Spot (now b) h p ⌝ }
     requires { ⌜ Inside e (now b) o l × ((length (now name) < 256) × (entry-size e (length (now name)) ≤ l)) ⌝ }
-    ensures { λ _. ⌜ now (b .exit) ≡ written (now (b .entry)) (entry-writes e to (now (name .entry)) o (o + l) ++ index-writes (length (now (b .entry))) (insert-slot (slot h (o / 8)) (without-first is-stale (slots (now (b .entry))))) (stale - 1)) ⌝ }
+    ensures { λ _. ⌜ now (b .exit) ≡ written (now (b .entry)) (entry-writes e to (now (name .entry)) o (o + l)
+        ++ index-writes (length (now (b .entry))) (insert-slot (slot h (o / 8)) (without-first is-stale (slots (now (b .entry))))) (stale - 1)) ⌝ }
 {
     dir_block_index::reuse(e, b, end, count, stale, p, h, o / 8);
     put_first(e, b, o, o + l, to, name);
@@ -197,7 +201,8 @@ fn insert_c(
     requires { ⌜ Spot (now b) h p ⌝ }
     requires { ⌜ Inside e (now b) o l × ((length (now name) < 256) × (entry-size e (length (now name)) ≤ l)) ⌝ }
     requires { ⌜ (o + l ≤ u) × ((u + k ≡ end) × ((8 ≤ k) × (k % 8 ≡ 0))) ⌝ }
-    ensures { λ _. ⌜ now (b .exit) ≡ written (now (b .entry)) (entry-writes e to (now (name .entry)) o (o + l) ++ (gap-writes u (k - 8) ++ index-writes (length (now (b .entry))) (insert-slot (slot h (o / 8)) (slots (now (b .entry)))) 0)) ⌝ }
+    ensures { λ _. ⌜ now (b .exit) ≡ written (now (b .entry)) (entry-writes e to (now (name .entry)) o (o + l)
+        ++ (gap-writes u (k - 8) ++ index-writes (length (now (b .entry))) (insert-slot (slot h (o / 8)) (slots (now (b .entry)))) 0)) ⌝ }
 {
     dir_block_index::grow(e, b, end, count, p, h, o / 8);
     put_first(e, b, o, o + l, to, name);
@@ -222,7 +227,8 @@ fn insert_d(
     requires { ⌜ Spot (now b) h p ⌝ }
     requires { ⌜ (length (now name) < 256) × (entry-size e (length (now name)) + 8 ≤ k) ⌝ }
     requires { ⌜ (e .header ≤ u) × ((u + k ≡ end) × (k % 8 ≡ 0)) ⌝ }
-    ensures { λ _. ⌜ now (b .exit) ≡ written (now (b .entry)) (entry-writes e to (now (name .entry)) u (u + k - 8) ++ index-writes (length (now (b .entry))) (insert-slot (slot h (u / 8)) (slots (now (b .entry)))) 0) ⌝ }
+    ensures { λ _. ⌜ now (b .exit) ≡ written (now (b .entry)) (entry-writes e to (now (name .entry)) u (u + k - 8)
+        ++ index-writes (length (now (b .entry))) (insert-slot (slot h (u / 8)) (slots (now (b .entry)))) 0) ⌝ }
 {
     dir_block_index::grow(e, b, end, count, p, h, u / 8);
     put_first(e, b, u, u + k - 8, to, name);
@@ -247,7 +253,8 @@ fn insert_b(
     requires { ⌜ Spot (now b) h p ⌝ }
     requires { ⌜ (length (now name) < 256) × (entry-size e (length (now name)) ≤ k + 8 * (stale - 1)) ⌝ }
     requires { ⌜ (e .header ≤ u) × ((u + k ≡ end) × (k % 8 ≡ 0)) ⌝ }
-    ensures { λ _. ⌜ now (b .exit) ≡ written (now (b .entry)) (entry-writes e to (now (name .entry)) u (u + k + 8 * (stale - 1)) ++ index-writes (length (now (b .entry))) (insert-slot (slot h (u / 8)) (keep is-live (slots (now (b .entry))))) 0) ⌝ }
+    ensures { λ _. ⌜ now (b .exit) ≡ written (now (b .entry)) (entry-writes e to (now (name .entry)) u (u + k + 8 * (stale - 1))
+        ++ index-writes (length (now (b .entry))) (insert-slot (slot h (u / 8)) (keep is-live (slots (now (b .entry))))) 0) ⌝ }
 {
     dir_block_index::squeeze(e, b, end, count, stale, p, h, u / 8);
     put_first(e, b, u, u + k + 8 * (stale - 1), to, name);
@@ -272,7 +279,8 @@ fn choose_cd(
     requires { ⌜ (end ≡ data-end (now b)) × ((count ≡ count-of (now b)) × (0 ≡ stale-of (now b))) ⌝ }
     requires { ⌜ Spot (now b) h p ⌝ }
     requires { ⌜ Scanned e (now b) (table g) (g .tat) (g .tlen) ⌝ }
-    requires { ⌜ (longest (other-gaps (room-of e (now b) (now name))) .off ≡ o) × (size (longest (other-gaps (room-of e (now b) (now name)))) ≡ l) ⌝ }
+    requires { ⌜ (longest (other-gaps (room-of e (now b) (now name))) .off ≡ o)
+        × (size (longest (other-gaps (room-of e (now b) (now name)))) ≡ l) ⌝ }
     requires { ⌜ (h ≡ hash-of e (now name)) × ((need ≡ entry-size e (length (now name))) × (length (now name) < 256)) ⌝ }
     ensures { λ r. ⌜ (r ≡ has-room e (now (b .entry)) (now (name .entry))) × (now (b .exit) ≡ chosen e r (now (b .entry)) (now (name .entry)) to) ⌝ }
 {
@@ -360,7 +368,8 @@ fn choose(
 fn insert_ready(e: Edition, b: &mut [u8], to: Target, name: &[u8]) -> usize
     requires { ⌜ Sane e × Ready e (now b) ⌝ }
     requires { ⌜ (legal-name e (now name) ≡ true) × ((legal-target e to ≡ true) × ((fixed-name (now name) ≡ false) × (bytes (now name) ≡ true))) ⌝ }
-    ensures { λ r. ⌜ (r ≡ insert-code e (now (b .entry)) (now (name .entry)) to) × (now (b .exit) ≡ insert-bytes e (now (b .entry)) (now (name .entry)) to) ⌝ }
+    ensures { λ r. ⌜ (r ≡ insert-code e (now (b .entry)) (now (name .entry)) to)
+        × (now (b .exit) ≡ insert-bytes e (now (b .entry)) (now (name .entry)) to) ⌝ }
 {
     let n = b.len();
     let c = be::be32(&b[..], n - 8);
@@ -399,7 +408,8 @@ fn request(e: Edition, name: &[u8], number: bool) -> usize
 // Insert in a block of an edition: 0, or the number of the refusal. The block is tested first, then the request is judged.
 fn insert_in(e: Edition, b: &mut [u8], name: &[u8], to: Target) -> usize
     requires { ⌜ Sane e ⌝ }
-    ensures { λ r. ⌜ (r ≡ insert-code e (now (b .entry)) (now (name .entry)) to) × (now (b .exit) ≡ insert-bytes e (now (b .entry)) (now (name .entry)) to) ⌝ }
+    ensures { λ r. ⌜ (r ≡ insert-code e (now (b .entry)) (now (name .entry)) to)
+        × (now (b .exit) ≡ insert-bytes e (now (b .entry)) (now (name .entry)) to) ⌝ }
 {
     let t = dir_block_test::code(e, &b[..]);
     if t != 0 {
@@ -416,7 +426,8 @@ fn insert_in(e: Edition, b: &mut [u8], name: &[u8], to: Target) -> usize
 // Removal in a block of an edition.
 fn remove_in(e: Edition, b: &mut [u8], name: &[u8]) -> usize
     requires { ⌜ Sane e ⌝ }
-    ensures { λ r. ⌜ (r ≡ remove-code e (now (b .entry)) (now (name .entry))) × (now (b .exit) ≡ remove-bytes e (now (b .entry)) (now (name .entry))) ⌝ }
+    ensures { λ r. ⌜ (r ≡ remove-code e (now (b .entry)) (now (name .entry)))
+        × (now (b .exit) ≡ remove-bytes e (now (b .entry)) (now (name .entry))) ⌝ }
 {
     let k = dir_block_test::code(e, &b[..]);
     if k != 0 {
@@ -431,7 +442,8 @@ fn remove_in(e: Edition, b: &mut [u8], name: &[u8]) -> usize
 
 // Insert in a block of the V4 edition: 0, or the number of the refusal.
 pub fn insert(b: &mut [u8], name: &[u8], number: u64) -> usize
-    ensures { λ r. ⌜ (r ≡ insert-code v4 (now (b .entry)) (now (name .entry)) (target number 0)) × (now (b .exit) ≡ insert-bytes v4 (now (b .entry)) (now (name .entry)) (target number 0)) ⌝ }
+    ensures { λ r. ⌜ (r ≡ insert-code v4 (now (b .entry)) (now (name .entry)) (target number 0))
+        × (now (b .exit) ≡ insert-bytes v4 (now (b .entry)) (now (name .entry)) (target number 0)) ⌝ }
 {
     insert_in(
         V4::edition(),
@@ -446,7 +458,8 @@ pub fn insert(b: &mut [u8], name: &[u8], number: u64) -> usize
 
 // Removal in a block of the V4 edition.
 pub fn remove(b: &mut [u8], name: &[u8]) -> usize
-    ensures { λ r. ⌜ (r ≡ remove-code v4 (now (b .entry)) (now (name .entry))) × (now (b .exit) ≡ remove-bytes v4 (now (b .entry)) (now (name .entry))) ⌝ }
+    ensures { λ r. ⌜ (r ≡ remove-code v4 (now (b .entry)) (now (name .entry)))
+        × (now (b .exit) ≡ remove-bytes v4 (now (b .entry)) (now (name .entry))) ⌝ }
 {
     remove_in(V4::edition(), b, name)
 }

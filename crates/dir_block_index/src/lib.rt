@@ -54,7 +54,8 @@ pub fn grow(e: Edition, b: &mut [u8], end: usize, count: usize, i: usize, h: usi
     requires { ⌜ Sane e × Ready e (now b) ⌝ }
     requires { ⌜ (end ≡ data-end (now b)) × ((count ≡ count-of (now b)) × (8 ≤ end)) ⌝ }
     requires { ⌜ Spot (now b) h i ⌝ }
-    ensures { λ _. ⌜ now (b .exit) ≡ written (now (b .entry)) (index-writes (length (now (b .entry))) (insert-slot (slot h a) (slots (now (b .entry)))) 0) ⌝ }
+    ensures { λ _. ⌜ now (b .exit) ≡ written (now (b .entry))
+        (index-writes (length (now (b .entry))) (insert-slot (slot h a) (slots (now (b .entry)))) 0) ⌝ }
 {
     let n = b.len();
     be::move_down(b, end, end - 8, 8 * i);
@@ -68,7 +69,8 @@ fn move_one(e: Edition, b: &mut [u8], end: usize, p: usize, j: usize, h: usize, 
     requires { ⌜ end ≡ data-end (now b) ⌝ }
     requires { ⌜ Spot (now b) h p ⌝ }
     requires { ⌜ First-stale (now b) j ⌝ }
-    ensures { λ _. ⌜ now (b .exit) ≡ put (now (b .entry)) (data-end (now (b .entry))) (slot-bytes (insert-slot (slot h a) (without-first is-stale (slots (now (b .entry)))))) ⌝ }
+    ensures { λ _. ⌜ now (b .exit) ≡ put (now (b .entry)) (data-end (now (b .entry)))
+        (slot-bytes (insert-slot (slot h a) (without-first is-stale (slots (now (b .entry)))))) ⌝ }
 {
     if j < p {
         be::move_down(b, end + 8 * (j + 1), end + 8 * j, 8 * (p - (j + 1)));
@@ -93,7 +95,8 @@ pub fn reuse(
     requires { ⌜ Sane e × Ready e (now b) ⌝ }
     requires { ⌜ (end ≡ data-end (now b)) × ((count ≡ count-of (now b)) × ((stale ≡ stale-of (now b)) × (0 < stale))) ⌝ }
     requires { ⌜ Spot (now b) h p ⌝ }
-    ensures { λ _. ⌜ now (b .exit) ≡ written (now (b .entry)) (index-writes (length (now (b .entry))) (insert-slot (slot h a) (without-first is-stale (slots (now (b .entry))))) (stale - 1)) ⌝ }
+    ensures { λ _. ⌜ now (b .exit) ≡ written (now (b .entry))
+        (index-writes (length (now (b .entry))) (insert-slot (slot h a) (without-first is-stale (slots (now (b .entry))))) (stale - 1)) ⌝ }
 {
     let n = b.len();
     let j = first_stale(e, &b[..], end, count);
@@ -104,7 +107,9 @@ pub fn reuse(
 // The slot at o, written before w if it is live: where the packed slots start now.
 fn pack_one(b: &mut [u8], o: usize, w: usize) -> usize
     requires { ⌜ (o + 8 ≤ w) × (w ≤ length (now b)) ⌝ }
-    ensures { λ r. ⌜ (now (b .exit) ≡ put (now (b .entry)) r (slot-bytes (keep is-live (slot (field o 4 (now (b .entry))) (field (o + 4) 4 (now (b .entry))) ∷ [])))) × (r + 8 * length (keep is-live (slot (field o 4 (now (b .entry))) (field (o + 4) 4 (now (b .entry))) ∷ [])) ≡ w) ⌝ }
+    ensures { λ r. ⌜ (now (b .exit) ≡ put (now (b .entry)) r
+        (slot-bytes (keep is-live (slot (field o 4 (now (b .entry))) (field (o + 4) 4 (now (b .entry))) ∷ []))))
+        × (r + 8 * length (keep is-live (slot (field o 4 (now (b .entry))) (field (o + 4) 4 (now (b .entry))) ∷ [])) ≡ w) ⌝ }
 {
     let h = be::be32(&b[..], o);
     let a = be::be32(&b[..], o + 4);
@@ -118,7 +123,8 @@ fn pack_one(b: &mut [u8], o: usize, w: usize) -> usize
 // The live ones of the k slots at o, packed so that they end at dst: where they start.
 fn pack(b: &mut [u8], o: usize, k: usize, dst: usize) -> usize
     requires { ⌜ (o + 8 * k ≤ dst) × (dst ≤ length (now b)) ⌝ }
-    ensures { λ r. ⌜ (now (b .exit) ≡ put (now (b .entry)) r (slot-bytes (keep is-live (slots-in k (drop o (now (b .entry))))))) × (r + 8 * length (keep is-live (slots-in k (drop o (now (b .entry))))) ≡ dst) ⌝ }
+    ensures { λ r. ⌜ (now (b .exit) ≡ put (now (b .entry)) r (slot-bytes (keep is-live (slots-in k (drop o (now (b .entry)))))))
+        × (r + 8 * length (keep is-live (slots-in k (drop o (now (b .entry))))) ≡ dst) ⌝ }
 {
     let mut i = k;
     let mut w = dst;
@@ -143,7 +149,8 @@ pub fn squeeze(
     requires { ⌜ Sane e × Ready e (now b) ⌝ }
     requires { ⌜ (end ≡ data-end (now b)) × ((count ≡ count-of (now b)) × ((stale ≡ stale-of (now b)) × (0 < stale))) ⌝ }
     requires { ⌜ Spot (now b) h p ⌝ }
-    ensures { λ _. ⌜ now (b .exit) ≡ written (now (b .entry)) (index-writes (length (now (b .entry))) (insert-slot (slot h a) (keep is-live (slots (now (b .entry))))) 0) ⌝ }
+    ensures { λ _. ⌜ now (b .exit) ≡ written (now (b .entry))
+        (index-writes (length (now (b .entry))) (insert-slot (slot h a) (keep is-live (slots (now (b .entry))))) 0) ⌝ }
 {
     let n = b.len();
     let w1 = pack(b, end + 8 * p, count - p, n - 8);

@@ -48,7 +48,8 @@ fn target_at(e: Edition, b: &[u8], o: usize) -> Target
 pub fn first_slot(e: Edition, b: &[u8], end: usize, count: usize, h: usize) -> usize
     requires { ⌜ Sane e × Ready e (now b) ⌝ }
     requires { ⌜ (end ≡ data-end (now b)) × (count ≡ count-of (now b)) ⌝ }
-    ensures { λ r. ⌜ (r ≤ count) × ((all-below h (take r (slots (now (b .entry)))) ≡ true) × (all-from h (drop r (slots (now (b .entry)))) ≡ true)) ⌝ }
+    ensures { λ r. ⌜ (r ≤ count) × ((all-below h (take r (slots (now (b .entry)))) ≡ true)
+        × (all-from h (drop r (slots (now (b .entry)))) ≡ true)) ⌝ }
 {
     let mut lo = 0;
     let mut hi = count;

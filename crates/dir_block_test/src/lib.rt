@@ -226,8 +226,10 @@ fn entry_fault(e: Edition, b: &[u8], o: usize, t: usize, n: usize, pos: &[u16; C
 // The lower of w and the record's first fault.
 fn worse(e: Edition, b: &[u8], o: usize, t: usize, n: usize, pos: &[u16; CELLS], w: usize) -> usize
     requires { ⌜ Sane e ⌝ }
-    requires { ⌜ (t + 8 * n ≤ length (now b)) × (t ≤ largest-block) × (o + 2 ≤ t) × (eqb (field o 2 (now b)) 0xffff ≡ false → o + 9 + byte (o + 8) (now b) ≤ t) ⌝ }
-    ensures { λ r. ⌜ r ≡ min w (cond (eqb (field o 2 (now (b .entry))) 0xffff) no-fault (fault-at e (own-at e (now (b .entry))) (hint (now (pos .entry)) (now (b .entry)) t n) (now (b .entry)) o)) ⌝ }
+    requires { ⌜ (t + 8 * n ≤ length (now b)) × (t ≤ largest-block) × (o + 2 ≤ t)
+        × (eqb (field o 2 (now b)) 0xffff ≡ false → o + 9 + byte (o + 8) (now b) ≤ t) ⌝ }
+    ensures { λ r. ⌜ r ≡ min w (cond (eqb (field o 2 (now (b .entry))) 0xffff) no-fault
+        (fault-at e (own-at e (now (b .entry))) (hint (now (pos .entry)) (now (b .entry)) t n) (now (b .entry)) o)) ⌝ }
 {
     if is_gap(b, o) {
         if NO_FAULT < w {
@@ -245,8 +247,10 @@ fn worse(e: Edition, b: &[u8], o: usize, t: usize, n: usize, pos: &[u16; CELLS],
 // The lowest fault of the entries' names, numbers and slots.
 fn faults(e: Edition, b: &[u8], t: usize, n: usize, pos: &[u16; CELLS]) -> usize
     requires { ⌜ Sane e ⌝ }
-    requires { ⌜ (t + 8 * n ≤ length (now b)) × (t ≤ largest-block) × (t % 8 ≡ 0) × (e .header ≤ t) × (every (whole e) (rest e (now b) t (length (now b)) (e .header)) ≡ true) ⌝ }
-    ensures { λ r. ⌜ r ≡ worst e (own-at e (now (b .entry))) (hint (now (pos .entry)) (now (b .entry)) t n) (rest e (now (b .entry)) t (length (now (b .entry))) (e .header)) ⌝ }
+    requires { ⌜ (t + 8 * n ≤ length (now b)) × (t ≤ largest-block) × (t % 8 ≡ 0) × (e .header ≤ t)
+        × (every (whole e) (rest e (now b) t (length (now b)) (e .header)) ≡ true) ⌝ }
+    ensures { λ r. ⌜ r ≡ worst e (own-at e (now (b .entry))) (hint (now (pos .entry)) (now (b .entry)) t n)
+        (rest e (now (b .entry)) t (length (now (b .entry))) (e .header)) ⌝ }
 {
     let mut o = e.header;
     let mut w = NO_FAULT;
@@ -306,7 +310,8 @@ fn best_left(
 ) -> bool
     requires { ⌜ Sane e ⌝ }
     requires { ⌜ (t ≤ length (now b)) × (t % 8 ≡ 0) × (e .header ≤ t) × (every (whole e) (rest e (now b) t (length (now b)) (e .header)) ≡ true) ⌝ }
-    ensures { λ r. ⌜ r ≡ best-left x0 y0 z0 (pair (p .from) (p .long)) (pair (q .from) (q .long)) (pair (s .from) (s .long)) (gaps (rest e (now (b .entry)) t (length (now (b .entry))) (e .header))) ⌝ }
+    ensures { λ r. ⌜ r ≡ best-left x0 y0 z0 (pair (p .from) (p .long)) (pair (q .from) (q .long)) (pair (s .from) (s .long))
+        (gaps (rest e (now (b .entry)) t (length (now (b .entry))) (e .header))) ⌝ }
 {
     let mut o = e.header;
     let mut x = x0;
@@ -341,7 +346,8 @@ fn same_names(e: Edition, b: &[u8], p: usize, q: usize) -> bool
 // Whether a later slot of slot i's hash addresses an entry of the same name.
 fn clash(e: Edition, b: &[u8], t: usize, n: usize, i: usize) -> bool
     requires { ⌜ (t + 8 * n ≤ length (now b)) × (i < n) × Reach (now b) t n × (addr-at (now b) t i ≡ 0 → ⊥) ⌝ }
-    ensures { λ r. ⌜ r ≡ clash-from e (now (b .entry)) (hash-at (now (b .entry)) t i) (addr-at (now (b .entry)) t i) (slots-from (now (b .entry)) t n (i + 1)) ⌝ }
+    ensures { λ r. ⌜ r ≡ clash-from e (now (b .entry)) (hash-at (now (b .entry)) t i) (addr-at (now (b .entry)) t i)
+        (slots-from (now (b .entry)) t n (i + 1)) ⌝ }
 {
     let h = slot_hash(b, t, i);
     let p = 8 * slot_addr(b, t, i);
@@ -376,7 +382,8 @@ fn runs_on(b: &[u8], t: usize, n: usize, i: usize) -> bool
 // Whether slot i is live, and a later one addresses an entry of the same name.
 fn twin(e: Edition, b: &[u8], t: usize, n: usize, i: usize) -> bool
     requires { ⌜ (t + 8 * n ≤ length (now b)) × (i < n) × Reach (now b) t n ⌝ }
-    ensures { λ r. ⌜ r ≡ (not (eqb (addr-at (now (b .entry)) t i) 0) && clash-from e (now (b .entry)) (hash-at (now (b .entry)) t i) (addr-at (now (b .entry)) t i) (slots-from (now (b .entry)) t n (i + 1))) ⌝ }
+    ensures { λ r. ⌜ r ≡ (not (eqb (addr-at (now (b .entry)) t i) 0)
+        && clash-from e (now (b .entry)) (hash-at (now (b .entry)) t i) (addr-at (now (b .entry)) t i) (slots-from (now (b .entry)) t n (i + 1))) ⌝ }
 {
     if slot_addr(b, t, i) == 0 {
         return false;
@@ -482,7 +489,8 @@ fn searched(fit: bool, n: usize) -> usize
 fn test_entries(e: Edition, b: &[u8], t: usize, n: usize, m: usize, live: usize) -> usize
     requires { ⌜ Sane e ⌝ }
     requires { ⌜ Data-tiled e (now b) t n × (m ≤ n) × (live ≡ length (entries (rest e (now b) t (length (now b)) (e .header)))) ⌝ }
-    ensures { λ r. ⌜ r ≡ after-tile e (now (b .entry)) (rest e (now (b .entry)) t (length (now (b .entry))) (e .header)) (slots-from (now (b .entry)) t n 0) m ⌝ }
+    ensures { λ r. ⌜ r ≡ after-tile e (now (b .entry)) (rest e (now (b .entry)) t (length (now (b .entry))) (e .header))
+        (slots-from (now (b .entry)) t n 0) m ⌝ }
 {
     let fit = counts_fit(b, t, n, m, live);
     let mut pos = [0u16; CELLS];
@@ -510,7 +518,8 @@ fn test_entries(e: Edition, b: &[u8], t: usize, n: usize, m: usize, live: usize)
 fn test_data(e: Edition, b: &[u8], t: usize, n: usize, m: usize) -> usize
     requires { ⌜ Sane e ⌝ }
     requires { ⌜ Parts e (now b) t n × (m ≤ n) ⌝ }
-    ensures { λ r. ⌜ r ≡ after-span e (now (b .entry)) (rest e (now (b .entry)) t (length (now (b .entry))) (e .header)) (slots-from (now (b .entry)) t n 0) m ⌝ }
+    ensures { λ r. ⌜ r ≡ after-span e (now (b .entry)) (rest e (now (b .entry)) t (length (now (b .entry))) (e .header))
+        (slots-from (now (b .entry)) t n 0) m ⌝ }
 {
     let k = tiles(e, b, t);
     if k == 0 {
