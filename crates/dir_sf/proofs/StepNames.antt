@@ -4,7 +4,7 @@ use Prim.Native.Nat.{ℕ, zero, suc, _+_, _-_, _≤_, _<_}
 use native.Mathlib.Omega.{arith}
 use mathlib.Core.Bool.{true}
 use mathlib.Core.Path.{_≡_, refl, sym, _∙_, ap}
-use mathlib.Core.List.{List, [], _∷_, _++_}
+use mathlib.Core.List.{List, _∷_, _++_}
 use lib.ListN.{length, drop, getD, length-append, length-take, length-drop}
 use lib.Seq.{drop-at}
 use borrow.Author.Tests.{ne-eqb}
@@ -21,7 +21,7 @@ use Rattle.dir_sf.specs.Fork.{count-of, used-width, entries, place-of}
 use Rattle.dir_sf.specs.Inode.{size-of, used, verdict}
 use Rattle.dir_sf.specs.Walk.{entry-step, step-seen, walk-step}
 use Rattle.dir_sf.specs.Inner.{at-entry, walked-over, walked-in}
-use Rattle.dir_sf.specs.Laws.{Tells, Walk-names}
+use Rattle.dir_sf.specs.Laws.{Walk-names}
 use Rattle.dir_sf.proofs.Leaves.{one-in}
 use Rattle.dir_sf.proofs.Listed.{count-is}
 use Rattle.dir_sf.proofs.Run.{Run, run-at, run-one, run-rest, entries-drop, name-at-is}

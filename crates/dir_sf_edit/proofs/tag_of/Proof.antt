@@ -27,5 +27,9 @@ tag-of-spec =
     (λ c. search needs)
     (λ c. search needs)
     (λ c κs. (search needs, search (needs, header-in), search (needs, list-enough), search needs))
-    (λ c. search (needs, tag-gap))
+    (λ c.
+    let c₃ = c .before .before .before in
+    let c₅ = c₃ .before .before in
+    tag-gap _ _ _ _ _ _ _ _ _ (c₅ .before .before .be8 .ensures .0) (c₅ .before .be82 .ensures .0) (c₅ .width .ensures .0)
+    (c₃ .before .entry-size .ensures .0) (c₃ .end-of .ensures .0) _ (c .before .before .if1 .left) (c .before .if2 .taken) (c .gap-of .ensures))
     (λ c. search (needs, tag-none)))
