@@ -27,7 +27,7 @@ own-verdict xs = NAME unless every name-legal-of xs then NUMBER unless every fla
 unfoldable pub fork-if : ℕ → Edition → List ℕ → Fork
 fork-if n e b = cond (eqb n 0) (At (attr-start e b) (attr-length e b)) (Refused n)
 
--- what a set or a removal reads before it writes: where the entry asked for starts, its size and how many entries are kept
+-- what a set or a removal reads before it writes: where the entry asked for starts, its size, how many entries are kept, and where they end
 unfoldable pub plan-of : List ℕ → List ℕ → ℕ → Plan
 plan-of f name flags =
     record {

@@ -53,6 +53,7 @@ abbrev pub walked-seen : Walked → Seen
 walked-seen (Stepped s) = s .seen
 walked-seen (Refused k) = End
 
+-- where the walk now stands, and what it met, when the step is done
 unfoldable pub step-next : Edition → List ℕ → ℕ → ℕ
 step-next e b place = cond (eqb (step-code e b place) 0) (step-in (attr-start e b) (attr-fork e b) place .next) 0
 

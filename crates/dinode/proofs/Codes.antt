@@ -65,13 +65,17 @@ module _ (e : Edition) (b : List ℕ) where
   unfolding directory-fork
   directory-refused h = rw (ne-eqb _ _ h)
 
-  pub directory-whole : directory-code e b ≡ 0 → byte 82 b ≡ 0 → At (e .literal) (length b - e .literal) ≡ directory-fork e b
-  unfolding directory-fork data-length
-  directory-whole h f = rw (h, f)
+  pub length-whole : byte 82 b ≡ 0 → length b - e .literal ≡ data-length e b
+  unfolding data-length
+  length-whole f = rw f
 
-  pub directory-part : directory-code e b ≡ 0 → (byte 82 b ≡ 0 → ⊥) → At (e .literal) (8 * byte 82 b) ≡ directory-fork e b
-  unfolding directory-fork data-length
-  directory-part h f = rw (h, ne-eqb _ _ f)
+  pub length-part : (byte 82 b ≡ 0 → ⊥) → 8 * byte 82 b ≡ data-length e b
+  unfolding data-length
+  length-part f = rw (ne-eqb _ _ f)
+
+  pub directory-there : directory-code e b ≡ 0 → At (e .literal) (data-length e b) ≡ directory-fork e b
+  unfolding directory-fork
+  directory-there h = rw h
 
   pub attributes-refused : (attributes-code e b ≡ 0 → ⊥) → Refused (attributes-code e b) ≡ attributes-fork e b
   unfolding attributes-fork

@@ -3,7 +3,7 @@ ghost use mathlib.Core.Path.{_≡_};
 ghost use Prim.Native.Nat.{_≤_};
 ghost use lib.ListN.{length};
 ghost use Rattle.edition.specs.Edition.{v4, Sane};
-ghost use Rattle.dinode.specs.Core.{core-of, inode-size, version-ok, directory-ok, attributes-ok};
+ghost use Rattle.dinode.specs.Core.{core-of, inode-size, version-ok, directory-ok, attributes-ok, data-length};
 ghost use Rattle.dinode.specs.Core.{inode-code, directory-code, attributes-code, tested, tested-code, directory-fork, attributes-fork};
 use edition::Edition;
 use edition::V4;
@@ -148,6 +148,18 @@ fn code_of_attributes(e: Edition, b: &[u8]) -> usize
     refusal::KIND
 }
 
+// How long the data fork of a directory that passes the tests is.
+pub fn data_long(e: Edition, b: &[u8]) -> usize
+    requires { ⌜ Sane e × (directory-code e (now b) ≡ 0) ⌝ }
+    ensures { λ r. ⌜ r ≡ data-length e (now (b .entry)) ⌝ }
+{
+    let forkoff = be::be8(b, 82);
+    if forkoff == 0 {
+        return b.len() - e.literal;
+    }
+    8 * forkoff
+}
+
 // The data fork of a local directory.
 pub fn fork_of_directory(e: Edition, b: &[u8]) -> Fork
     requires { ⌜ Sane e ⌝ }
@@ -157,11 +169,7 @@ pub fn fork_of_directory(e: Edition, b: &[u8]) -> Fork
     if n != 0 {
         return Fork::Refused(n);
     }
-    let forkoff = be::be8(b, 82);
-    if forkoff == 0 {
-        return Fork::At(e.literal, b.len() - e.literal);
-    }
-    Fork::At(e.literal, 8 * forkoff)
+    Fork::At(e.literal, data_long(e, b))
 }
 
 // The attribute fork of an inode with local attributes.

@@ -15,7 +15,7 @@ use Rattle.dir.specs.declared.Target.{Target}
 use Rattle.dir.specs.Target.{target, legal-target, legal-type}
 use Rattle.dir_block_rules.specs.Record.{pad, says, cut, record-ok, apart, size, gaps, entry-bytes, gap-writes}
 use Rattle.dir_block_rules.specs.Block.{records, slots, slots-in, slot, slot-bytes, count-of, stale-of, data-end}
-use Rattle.dir_block_rules.specs.Verdict.{best-pairs, pairs-in, verdict, size-ok, magic-ok, span-ok, fills, tile-ok, names-ok, numbers-ok, number-fits, own-in, index-ok, rising, best-ok, once-ok}
+use Rattle.dir_block_rules.specs.Verdict.{Pair, pair, best-pairs, pairs-in, verdict, size-ok, magic-ok, span-ok, fills, tile-ok, names-ok, numbers-ok, number-fits, own-in, index-ok, rising, best-ok, once-ok}
 use Rattle.dir.specs.Answers.{looked-code, looked-target, looked-compared}
 use Rattle.dir_block_rules.specs.Lookup.{seek, sought, up-to, names-compared, lookup, lookup-refusal}
 use Rattle.dir_block_rules.specs.Room.{last-of, touching, room-of, has-room, case-a, case-b}
@@ -23,20 +23,12 @@ use Rattle.dir_block_rules.specs.Change.{longest, pair-bytes, best-of, w
 
 -- ---- the columns of the rows about blocks
 
--- a gap: where it stands, and how long it is
-pub record Extent : Type 0 where
-  pub offset : ℕ
-  pub long : ℕ
-
-abbrev pub gap-at : ℕ → ℕ → Extent
-gap-at o n = record { offset = o; long = n }
-
--- a block: its verdict (0: accepted), the tail's count and stale, and its gaps
+-- a block: its verdict (0: accepted), the tail's count and stale, and its gaps, each as a pair of offset and length
 pub record Shape : Type 0 where
   pub verdict : ℕ
   pub count : ℕ
   pub stale : ℕ
-  pub gaps : List Extent
+  pub gaps : List Pair
 
 -- a lookup: its number, the inode number, the names compared, and the offset of the entry found
 pub record Answer : Type 0 where
@@ -52,7 +44,7 @@ pub record Insertion : Type 0 where
 
 -- what the definitions give
 unfoldable pub shape : List ℕ → Shape
-shape b = record { verdict = verdict v4 b; count = count-of b; stale = stale-of b; gaps = map (λ g. gap-at (g .off) (size g)) (gaps (records v4 b)) }
+shape b = record { verdict = verdict v4 b; count = count-of b; stale = stale-of b; gaps = map (λ g. pair (g .off) (size g)) (gaps (records v4 b)) }
 
 unfoldable pub answer : List ℕ → List ℕ → Answer
 answer b n =
@@ -63,9 +55,9 @@ unfoldable pub inserted : List ℕ → List ℕ → Insertion
 inserted b n = record { number = insert-code v4 b n (target 150 0); leaves = shape (insert-bytes v4 b n (target 150 0)) }
 
 -- the columns in a row
-unfoldable pub gap-columns : List Extent → List ℕ
+unfoldable pub gap-columns : List Pair → List ℕ
 gap-columns [] = []
-gap-columns (g ∷ gs) = g .offset ∷ g .long ∷ gap-columns gs
+gap-columns (g ∷ gs) = g .from ∷ g .long ∷ gap-columns gs
 
 abbrev pub shape-columns : Shape → List ℕ
 shape-columns s = s .verdict ∷ s .count ∷ s .stale ∷ gap-columns (s .gaps)
@@ -143,23 +135,23 @@ by-case b n = cond (case-a (room-of v4 b n)) by-a (cond (case-b (room-of v4 b n)
 unfoldable pub block-rows : List Row
 block-rows =
     -- C1: gap 48, length 440
-    shape-row (shape c1) (record { verdict = 0; count = 2; stale = 0; gaps = gap-at 48 440 ∷ [] })
+    shape-row (shape c1) (record { verdict = 0; count = 2; stale = 0; gaps = pair 48 440 ∷ [] })
     -- C2: entry at 48, gap 64 length 416
-    ∷ shape-row (shape c2) (record { verdict = 0; count = 3; stale = 0; gaps = gap-at 64 416 ∷ [] })
+    ∷ shape-row (shape c2) (record { verdict = 0; count = 3; stale = 0; gaps = pair 64 416 ∷ [] })
     ∷ answer-row (answer c2 a₁) (record { number = 0; inode = 131; compared = 1; offset = 48 })
     -- C3: gap 48 length 432, count 3, stale 1
-    ∷ shape-row (shape c3) (record { verdict = 0; count = 3; stale = 1; gaps = gap-at 48 432 ∷ [] })
+    ∷ shape-row (shape c3) (record { verdict = 0; count = 3; stale = 1; gaps = pair 48 432 ∷ [] })
     ∷ answer-row (answer c3 a₁) (record { number = 13; inode = 0; compared = 0; offset = 0 })
     -- C4: a gap of 160; then 141 bytes goes in, 142 is refused
-    ∷ shape-row (shape c4) (record { verdict = 0; count = 3; stale = 0; gaps = gap-at 320 160 ∷ [] })
+    ∷ shape-row (shape c4) (record { verdict = 0; count = 3; stale = 0; gaps = pair 320 160 ∷ [] })
     ∷ insert-row (inserted c4 (cs 141)) (record { number = 0; leaves = record { verdict = 0; count = 4; stale = 0; gaps = [] } })
-    ∷ insert-row (inserted c4 (cs 142)) (record { number = 15; leaves = record { verdict = 0; count = 3; stale = 0; gaps = gap-at 320 160 ∷ [] } })
+    ∷ insert-row (inserted c4 (cs 142)) (record { number = 15; leaves = record { verdict = 0; count = 3; stale = 0; gaps = pair 320 160 ∷ [] } })
     -- C5: full; then gap 144, stale 2; 141 bytes goes in by (b), 142 is refused
     ∷ shape-row (shape full) (record { verdict = 0; count = 5; stale = 0; gaps = [] })
-    ∷ shape-row (shape c5) (record { verdict = 0; count = 5; stale = 2; gaps = gap-at 320 144 ∷ [] })
+    ∷ shape-row (shape c5) (record { verdict = 0; count = 5; stale = 2; gaps = pair 320 144 ∷ [] })
     ∷ row (by-case c5 (cs 141) ∷ []) (by-b ∷ [])
     ∷ insert-row (inserted c5 (cs 141)) (record { number = 0; leaves = record { verdict = 0; count = 4; stale = 0; gaps = [] } })
-    ∷ insert-row (inserted c5 (cs 142)) (record { number = 15; leaves = record { verdict = 0; count = 5; stale = 2; gaps = gap-at 320 144 ∷ [] } })
+    ∷ insert-row (inserted c5 (cs 142)) (record { number = 15; leaves = record { verdict = 0; count = 5; stale = 2; gaps = pair 320 144 ∷ [] } })
     ∷ []
 
 -- H1 to H5, and C1 to C5

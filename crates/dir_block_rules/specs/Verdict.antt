@@ -81,7 +81,7 @@ has-slot e ss r =
 abbrev pub stale-or-owned : List Rec → Slot → Bool
 stale-or-owned es s = is-stale s || some-of (λ r. eqb (s .addr) (r .off / 8)) es
 
--- 8 INDEX: and stale slots number the tail's stale
+-- 8 INDEX: hashes never fall, stale slots number the tail's stale, each live entry has its slot, and there are no others
 unfoldable pub index-ok : Edition → List Rec → List Slot → ℕ → Bool
 index-ok e rs ss n =
     rising ss && eqb (tally is-stale ss) n

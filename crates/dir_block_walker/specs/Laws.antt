@@ -13,7 +13,7 @@ use Rattle.dir_block_rules.specs.Verdict.{Accepted}
 use Rattle.dir_block_rules.specs.Walk.{step-over, step-end, walk-step}
 use Rattle.dir_block_walker.specs.Place.{nth-place, answers}
 
--- each record once, by rising tag, as the plain walk has it, and then the end: as many steps as there are records, plus one;
+-- each record once, in order, as the plain walk has it, and then the end: as many steps as there are records, plus one;
 -- after that the walker stands at the data's end, and says end again, however often it is asked
 pub record Walker-walks (b : List ℕ) : Type 0 where
   pub whole : answers b (suc (length (records v4 b))) ≡ map (λ r. Stepped (step-over v4 r)) (records v4 b) ++ (Stepped (step-end (data-end b)) ∷ [])

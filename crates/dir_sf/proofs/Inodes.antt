@@ -55,15 +55,8 @@ module _ (e : Edition) (sane : Sane e) (b : List ℕ) (h : directory-code e b �
       let p : 1 ≤ byte 82 b = least (byte 82 b) (eqb-false _ _ q) in
       rw q (omega arith, omega (arith, sized, sane .literal-least), omega arith))
 
-  -- how long it is, as it is told
-  module _ (x : Fork) (told : x ≡ directory-fork e b) where
-    pub long-is : (s n : ℕ) → x ≡ At s n → (n ≡ data-length e b) × (8 ≤ n) × (n ≤ 1948) × (e .literal + n ≤ length b)
-    long-is s n k =
-        let q : n ≡ data-length e b = fork-there e b x told s n k .2 in
-        (q, omega (arith, bounds), omega (arith, bounds), omega (arith, bounds))
-
-    pub long-not : (n : ℕ) → x ≡ Refused n → (n ≡ data-length e b) × (8 ≤ n) × (n ≤ 1948) × (e .literal + n ≤ length b)
-    long-not n k = absurd (fork-refused e b x told n k .1 h)
+  pub bounded : (n : ℕ) → n ≡ data-length e b → (n ≡ data-length e b) × (8 ≤ n) × (n ≤ 1948) × (e .literal + n ≤ length b)
+  bounded n q = (q, omega (arith, bounds), omega (arith, bounds), omega (arith, bounds))
 
 pub told-not : (e : Edition) (told : ℕ) (b : List ℕ) (t : Bool) → t ≡ block-size told → not t ≡ true → _≡_ {A = ℕ} 1 (verdict e told b)
 unfolding verdict

@@ -45,7 +45,7 @@ pub fn rest(e: Edition, wides: usize) -> usize
 }
 
 // The number at an offset.
-pub fn number(u: &[u8], o: usize, wides: usize) -> u64
+fn number(u: &[u8], o: usize, wides: usize) -> u64
     requires { ⌜ o + width-of wides ≤ length (now u) ⌝ }
     ensures { λ r. ⌜ r ≡ field o (width-of wides) (now (u .entry)) ⌝ }
 {
@@ -288,10 +288,7 @@ pub fn fork_long(e: Edition, b: &[u8]) -> usize
     requires { ⌜ Sane e × (directory-code e (now b) ≡ 0) ⌝ }
     ensures { λ r. ⌜ (r ≡ data-length e (now (b .entry))) × (8 ≤ r) × (r ≤ 1948) × (e .literal + r ≤ length (now (b .entry))) ⌝ }
 {
-    match dinode::fork_of_directory(e, b) {
-        Fork::At(_, len) => len,
-        Fork::Refused(n) => n,
-    }
+    dinode::data_long(e, b)
 }
 
 // Tests 1 to 10: 0, or the number of the first that fails.

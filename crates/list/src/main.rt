@@ -12,29 +12,29 @@ use edition::V4;
 use libc::STDIN_FILENO;
 use libc::STDOUT_FILENO;
 
-// Lines wait in a piece of this many bytes until it is full.
-const PIECE: usize = 8192;
+// Lines go into a buffer of this many bytes, which is written when it is full.
+const BUFFER: usize = 8192;
 
-// Room for k bytes behind the first n of the piece, which is written and started anew where it has none: how many it then has.
+// Room for k bytes behind the first n of the buffer, which is written and started anew where it has none: how many it then has.
 fn room(out: &[u8], n: usize, k: usize) -> usize
     requires { ⌜ (n ≤ 8192) × (k ≤ 8192) × (length (now out) ≡ 8192) ⌝ }
     ensures { λ r. ⌜ r + k ≤ 8192 ⌝ }
 {
-    if n + k <= PIECE {
+    if n + k <= BUFFER {
         return n;
     }
     io::write_all(STDOUT_FILENO, &out[..n]);
     0
 }
 
-// Puts s behind the first n bytes of the piece: how many it then has. What is longer than a piece is written by itself.
+// Puts s behind the first n bytes of the buffer: how many it then has. What is longer than the buffer is written by itself.
 fn text<'a, 'b>(out: &'a mut [u8], n: usize, s: &'b [u8]) -> usize
     requires { ⌜ (n ≤ 8192) × (length (now out) ≡ 8192) ⌝ }
     ensures { λ r. ⌜ r ≤ 8192 ⌝ }
 {
     let k = s.len();
-    if PIECE < k {
-        room(&out[..], n, PIECE);
+    if BUFFER < k {
+        room(&out[..], n, BUFFER);
         io::write_all(STDOUT_FILENO, s);
         return 0;
     }
@@ -137,7 +137,7 @@ fn head<'a, 'b>(e: Edition, out: &'a mut [u8], b: &'b [u8]) -> usize
 fn listing(e: Edition, b: &[u8])
     requires { ⌜ Sane e × Ready e (now b) ⌝ }
 {
-    let mut out = [0u8; PIECE];
+    let mut out = [0u8; BUFFER];
     let mut n = head(e, &mut out, b);
     let end = dir_block_lookup::end_of_data(e, b);
     let mut p = e.header;
@@ -153,7 +153,7 @@ fn listing(e: Edition, b: &[u8])
 }
 
 fn refused(code: usize) {
-    let mut out = [0u8; PIECE];
+    let mut out = [0u8; BUFFER];
     let n = number(&mut out, 0, b"refused ", code as u64);
     let n = text(&mut out, n, b"\n");
     io::write_all(STDOUT_FILENO, &out[..n]);
