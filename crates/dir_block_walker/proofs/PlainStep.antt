@@ -1,4 +1,4 @@
--- A walker's call of `dir_block_lookup::step`, on its block and its place, at any lifetime of the block. All that is known of the callee is that it meets its contract.
+-- A walker's call of `met`, on its block and its place, at any lifetime of the block. All that is known of the callee is that it meets its contract.
 --     Step-at      the callee's contract.        to        what its triple binds outside
 --     Says         what it ensures of its answer
 --     goes         what the walker owns gives what the callee asks, beside the lifetime's token, and is kept: a walker is Copy
@@ -36,7 +36,7 @@ use denote.Triple.Spec.{tripleOf}
 use denote.Triple.Clauses.{ensured, lasts}
 use Rattle.dir.specs.declared.Walked.{Walked}
 use Rattle.dir.proofs.Walked as S
-use Rattle.dir_block_lookup.proofs.step as plain
+use Rattle.dir_block_walker.proofs.met as plain
 use Rattle.dir_block_walker.specs.declared.Walker.{Walker}
 use Rattle.dir_block_walker.specs.Place.{Says}
 use Rattle.dir_block_walker.proofs.Walker as T

@@ -1,5 +1,5 @@
 // A walker over a block directory: it keeps hold of the block and its place between steps. Each function takes the walker
-// apart and calls the plain walk.
+// apart and calls the plain walk, in one place (`met`).
 ghost use mathlib.Core.Path.{_≡_};
 ghost use Rattle.edition.specs.Edition.{v4};
 ghost use Rattle.dir_block_rules.specs.Walk.{Step-promise};
@@ -23,11 +23,18 @@ pub fn start<'a>(block: &'a [u8]) -> Walker<'a>
     }
 }
 
+// What stands at a place of the block: the plain walk's step.
+fn met(block: &[u8], place: usize) -> Walked
+    ensures { λ r. ⌜ Step-promise v4 (now (block .entry)) place r ⌝ }
+{
+    dir_block_lookup::step(block, place)
+}
+
 // What stands at the walker's place. The walker stays.
 pub fn step<'a>(w: Walker<'a>) -> Walked
     ensures { λ r. ⌜ Says (w .entry) r ⌝ }
 {
-    dir_block_lookup::step(w.block, w.place)
+    met(w.block, w.place)
 }
 
 // The place after a step from p.
@@ -45,7 +52,7 @@ pub fn advance<'s, 'a>(w: &'s mut Walker<'a>) -> Walked
     ensures { λ r. ⌜ Says (now (w .entry)) r × (now (w .exit) ≡ moved (now (w .entry))) ⌝ }
 {
     let p = w.place;
-    let walked = dir_block_lookup::step(w.block, p);
+    let walked = met(w.block, p);
     w.place = place_after(p, walked);
     walked
 }

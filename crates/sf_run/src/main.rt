@@ -82,7 +82,7 @@ fn inode() -> [u8; 256] {
 // An inode with the used bytes of a directory.
 fn with_used(u: &[u8]) -> [u8; 256] {
     let mut b = inode();
-    be::put64(&mut b, 56, u.len() as u64);
+    be::put64(&mut b, dinode::SIZE_PLACE, u.len() as u64);
     if u.len() <= 156 {
         be::copy_into(&mut b, 100, u);
     }
@@ -130,7 +130,7 @@ fn steps(b: &[u8]) {
 fn dump(b: &[u8; 256]) {
     say(b"dump");
     count(dir_sf::test(b, 4096));
-    number(be::be64(b, 56));
+    number(be::be64(b, dinode::SIZE_PLACE));
     line();
 }
 
@@ -159,11 +159,11 @@ fn removal() {
     say(b"remove");
     count(dir_sf_edit::remove(&mut b, 4096, b"frame000001.tst"));
     count(dir_sf::test(&b, 4096));
-    number(be::be64(&b, 56));
+    number(be::be64(&b, dinode::SIZE_PLACE));
     let d = second_dump();
-    compare(&b, &d, 56, 64);
+    compare(&b, &d, dinode::SIZE_PLACE, dinode::SIZE_PLACE + 8);
     compare(&b, &d, 100, 172);
-    compare(&b, &d, 0, 56);
+    compare(&b, &d, 0, dinode::SIZE_PLACE);
     compare(&b, &d, 64, 100);
     same(&b[172..256], &[0u8; 84]);
     line();
@@ -180,9 +180,9 @@ fn six() {
     same(&b[106..194], &first_dump()[106..194]);
     count(dir_sf_edit::insert(&mut b, 4096, b"frame000004.tst", 25165957));
     count(dir_sf_edit::insert(&mut b, 4096, b"frame000005.tst", 25165958));
-    number(be::be64(&b, 56));
+    number(be::be64(&b, dinode::SIZE_PLACE));
     count(dir_sf_edit::insert(&mut b, 4096, b"frame000006.tst", 25165959));
-    number(be::be64(&b, 56));
+    number(be::be64(&b, dinode::SIZE_PLACE));
     line();
 }
 
@@ -200,9 +200,9 @@ fn widths() {
         &b[100..134],
         b"\x02\x01\x00\x00\x00\x00\x00\x00\x00\x80\x01\x000a\x00\x00\x00\x00\x00\x00\x00\x05\x01\x00@w\x00\x00\x00\x01\x00\x00\x00\x00",
     );
-    number(be::be64(&b, 56));
+    number(be::be64(&b, dinode::SIZE_PLACE));
     count(dir_sf_edit::remove(&mut b, 4096, b"w"));
-    number(be::be64(&b, 56));
+    number(be::be64(&b, dinode::SIZE_PLACE));
     same(
         &b[100..114],
         b"\x01\x00\x00\x00\x00\x80\x01\x000a\x00\x00\x00\x05",
@@ -248,7 +248,7 @@ fn gap() {
     count(dir_sf_edit::insert(&mut b, 512, &[100u8; 101], 4));
     count(be::be16(&b, 107));
     count(be::be8(&b, 109));
-    number(be::be64(&b, 56));
+    number(be::be64(&b, dinode::SIZE_PLACE));
     count(dir_sf::test(&b, 512));
     line();
 }

@@ -1,4 +1,4 @@
--- `dir_block_walker::advance` meets its contract: a walk of its MIR, by hand. The borrow is opened, which gives the walker's cell and what the walker owns. `dir_block_lookup::step` is called on its block and its place (`PlainStep`), and `place_after` on the place and the answer; the place that this returns is stored in the cell, and the borrow is closed at the walker with that place.
+-- `dir_block_walker::advance` meets its contract: a walk of its MIR, by hand. The borrow is opened, which gives the walker's cell and what the walker owns. `met` is called on its block and its place (`PlainStep`), and `place_after` on the place and the answer; the place that this returns is stored in the cell, and the borrow is closed at the walker with that place.
 -- An answer is plain data: what it owns is made anew for `place_after`, and the answer itself is kept for the exit.
 -- Assumes nothing.
 use mathlib.Core.Path.{_≡_, refl, ap, _∙_}
@@ -47,9 +47,9 @@ use denote.Triple.Clauses.{ensured, lasts}
 use Rattle.dir.specs.declared.Walked.{Walked}
 use Rattle.dir.proofs.Walked as S
 use Rattle.dir.proofs.Walked.Laws as S′
-use Rattle.dir_block_lookup.proofs.step.Symbol as plain-def
-use Rattle.dir_block_lookup.proofs.step.Symbol.{name as #dir_block_lookup·step}
-use Rattle.dir_block_lookup.proofs.step.Met as plain-thm
+use Rattle.dir_block_walker.proofs.met.Symbol as met-def
+use Rattle.dir_block_walker.proofs.met.Symbol.{name as #dir_block_walker·met}
+use Rattle.dir_block_walker.proofs.met.Met as met-thm
 use Rattle.dir_block_walker.specs.declared.Walker.{Walker}
 use Rattle.dir_block_walker.specs.Place.{Says, place-after}
 use Rattle.dir_block_walker.proofs.Walker as T
@@ -151,7 +151,7 @@ module _ {M : Type 1} (𝓤 : URA M) (H : Heap 𝓤) (A : Atoms 𝓤) (W : Given
   typed : Is (B κ′) w (mach ∷ []) → Holds (hasTy (T′.mir (named 1)) mach) × WT mach
   typed was = LL.lawful D L 𝓤 H A W .typed w _ was .0
 
-  module _ (C : Calls 𝓤 H) (Λ : Loops 𝓤 H) (fm : FmC 𝓤 H (W .laws) C) (known : Triple 𝓤 (C #dir_block_lookup·step) (Step-at 𝓤 H A at-mem run)) (known-after : Triple 𝓤 (C #dir_block_walker·place-after) (After 𝓤 H A at-mem run)) where
+  module _ (C : Calls 𝓤 H) (Λ : Loops 𝓤 H) (fm : FmC 𝓤 H (W .laws) C) (known : Triple 𝓤 (C #dir_block_walker·met) (Step-at 𝓤 H A at-mem run)) (known-after : Triple 𝓤 (C #dir_block_walker·place-after) (After 𝓤 H A at-mem run)) where
     walk : ent 𝓤 (onEntry 𝓤 H A advance.signature (κ, (κ′, tt)) (q, (q′, tt)) x at) (WpFn 𝓤 H C Λ code.function (vptr b o ∷ []) Post)
     walk =
         qed W ((‵ (flft κ q) ⊛ ‵ (flft κ′ q′) ⊛ ‵ ftrue) ∷ ‵ (owns (MutRef (named 0) κ (B κ′) ∷ []) x at) ∷ []) ∵ enter ! C Λ code.function (vptr b o ∷ []) _ $
@@ -165,7 +165,7 @@ module _ {M : Type 1} (𝓤 : URA M) (H : Heap 𝓤) (A : Atoms 𝓤) (W : Given
         assigns ! (of-opd ! (load ! (from ! (hop ! (look ! 15 refl) (fld ! refl (stop !)))) (look-in ! 0 (sub ! 1 refl (whole !))))) (from ! (stop !)) (init ! 13 refl (tt, typed was .1 .1 .0)) $
         assigns ! (of-opd ! (load ! (from ! (hop ! (look ! 15 refl) (fld ! refl (stop !)))) (look-in ! 0 (sub ! 0 refl (whole !))))) (from ! (stop !)) (init ! 9 refl (tt, typed was .1 .0)) $
         move ! (1 ∷ 5 ∷ []) $ use2 W (raw (Step-at 𝓤 H A at-mem run .pre (to 𝓤 H A W at-mem run (named 1) κ′ q′ w)) ⊛ ‵ Own) (goes 𝓤 H A W at-mem run (named 1) κ′ q′ w (typed was .1 .1 .0 .fits)) $ split ! $
-        -- [what `dir_block_lookup::step` asks; what the walker owns; the cell; the open borrow; obs; auth; true; room for _5; …; _4; …; room for _3; …; _2; …; _1; …; room for _0; …]
+        -- [what `met` asks; what the walker owns; the cell; the open borrow; obs; auth; true; room for _5; …; _4; …; room for _3; …; _2; …; _1; …; room for _0; …]
         calls-at ! fm (Step-at 𝓤 H A at-mem run) known (to 𝓤 H A W at-mem run (named 1) κ′ q′ w) (and-then ! (load ! (from ! (stop !)) (look ! 9 refl)) (and-then ! (load ! (from ! (stop !)) (look ! 13 refl)) (no-more !))) (λ u.
         use1 W (later (some (λ (r : Walked). given (Says w r) (‵ (S.the-row .own r (u ∷ [])) ⊛ (‵ (flft κ′ q′) ⊛ ‵ ftrue))))) (gives 𝓤 H A W at-mem run (named 1) κ′ q′ w u) $ await ! tt $ pick ! (λ r. learn ! (λ e. split ! $
         -- [the answer; 'a's token; what the walker owns; the cell; the open borrow; obs; auth; true; room for _5; …; _4; …; room for _3; …; _2; …; _1; …; room for _0; …]
@@ -188,13 +188,13 @@ module _ {M : Type 1} (𝓤 : URA M) (H : Heap 𝓤) (A : Atoms 𝓤) (W : Given
         move ! (17 ∷ 18 ∷ []) $ free1 ! $ move ! (15 ∷ 16 ∷ []) $ free1 ! $ move ! (13 ∷ 14 ∷ []) $ free1 ! $ move ! (11 ∷ 12 ∷ []) $ free1 ! $ move ! (9 ∷ 10 ∷ []) $ free1 ! $ move ! (7 ∷ 8 ∷ []) $ free1 ! $ free0 ! $ keep ! (0 ∷ 1 ∷ 2 ∷ 5 ∷ 4 ∷ []) $ by ! (exits r u n e l)))))))))))))))))
 
 module _ {M : Type 1} (𝓤 : URA M) (H : Heap 𝓤) (A : Atoms 𝓤) (W : Given 𝓤 H A) (mem : Memory → SProp 𝓤) (run : Routine → Fun 𝓤) where
-  advance-walks : (C : Calls 𝓤 H) (Λ : Loops 𝓤 H) → FmC 𝓤 H (W .laws) C → Triple 𝓤 (C #dir_block_lookup·step) (Step-at 𝓤 H A mem run) → Triple 𝓤 (C #dir_block_walker·place-after) (After 𝓤 H A mem run)
+  advance-walks : (C : Calls 𝓤 H) (Λ : Loops 𝓤 H) → FmC 𝓤 H (W .laws) C → Triple 𝓤 (C #dir_block_walker·met) (Step-at 𝓤 H A mem run) → Triple 𝓤 (C #dir_block_walker·place-after) (After 𝓤 H A mem run)
       → Walks 𝓤 H A advance.ended stayed (WpFn 𝓤 H C Λ code.function) (advance.clauses 𝓤 H A mem run)
   advance-walks C Λ fm known known-after = walked 𝓤 H A advance.ended stayed (advance.clauses 𝓤 H A mem run) (WpFn 𝓤 H C Λ code.function) (λ κs. (ptr-vals, tt)) (λ κs. (mut-tells (named 0) (κs .0) (B (κs .1 .0)), tt))
       (λ κs qs bounds a g are. via 𝓤 _ (fst∗ 𝓤 _ (emp 𝓤)) (walk 𝓤 H A W mem run (κs .0) (κs .1 .0) (qs .0) (qs .1 .0) bounds (a .0 .ptr .0) (a .0 .ptr .1) (a .0 .name) (a .0 .now) C Λ fm known known-after))
 
 advance-meets : {M : Type 1} (𝓤 : URA M) (H : Heap 𝓤) (A : Atoms 𝓤) (W : Given 𝓤 H A) (mem : Memory → SProp 𝓤) (run : Routine → Fun 𝓤) (𝓣 : Tables 𝓤 H)
-    → Triple 𝓤 (𝓣 .C #dir_block_lookup·step) (Step-at 𝓤 H A mem run) → Triple 𝓤 (𝓣 .C #dir_block_walker·place-after) (After 𝓤 H A mem run)
+    → Triple 𝓤 (𝓣 .C #dir_block_walker·met) (Step-at 𝓤 H A mem run) → Triple 𝓤 (𝓣 .C #dir_block_walker·place-after) (After 𝓤 H A mem run)
     → Meets 𝓤 H A advance.signature (WpFn 𝓤 H (𝓣 .C) (𝓣 .Λ) code.function) (advance.spec 𝓤 H A mem run)
 advance-meets 𝓤 H A W mem run 𝓣 known known-after = walk-meets 𝓤 H A advance.ended stayed W (goes-ref 𝓤 H A W 2 0 tt behind, tt) (advance.clauses 𝓤 H A mem run) (WpFn 𝓤 H (𝓣 .C) (𝓣 .Λ) code.function) (WpFn-mono 𝓤 H (W .laws) 𝓣 code.function)
     (advance-walks 𝓤 H A W mem run (𝓣 .C) (𝓣 .Λ) (fmOf 𝓤 H (W .laws) 𝓣) known known-after)
@@ -205,5 +205,5 @@ advance-spec 𝓤 H 𝓜 𝓖 𝓡 =
     entered 𝓤 H (tripleOf 𝓤 H (𝓖 .A) advance.signature (advance.spec 𝓤 H (𝓖 .A) (𝓜 .mem) (𝓡 .run)))
     (tables 𝓤 H 𝓜 𝓡 code.env .C) (tables 𝓤 H 𝓜 𝓡 code.env .Λ) #dir_block_walker·advance code.function (code.unfolded 𝓤 H 𝓜 𝓡)
     (advance-meets 𝓤 H (𝓖 .A) (givenOf 𝓤 H 𝓜 𝓖) (𝓜 .mem) (𝓡 .run) (tablesOf 𝓤 H 𝓜 (tables 𝓤 H 𝓜 𝓡 code.env))
-    (cited 𝓤 H (Step-at 𝓤 H (𝓖 .A) (𝓜 .mem) (𝓡 .run)) 𝓜 𝓡 code.env #dir_block_lookup·step plain-def.routine code.calls-dir-block-lookup·step (plain-thm.met 𝓤 H 𝓜 𝓖 𝓡))
+    (cited 𝓤 H (Step-at 𝓤 H (𝓖 .A) (𝓜 .mem) (𝓡 .run)) 𝓜 𝓡 code.env #dir_block_walker·met met-def.routine code.calls-dir-block-walker·met (met-thm.met 𝓤 H 𝓜 𝓖 𝓡))
     (cited 𝓤 H (After 𝓤 H (𝓖 .A) (𝓜 .mem) (𝓡 .run)) 𝓜 𝓡 code.env #dir_block_walker·place-after after-def.routine code.calls-dir-block-walker·place-after (after-thm.met 𝓤 H 𝓜 𝓖 𝓡)))
