@@ -112,16 +112,9 @@ impl Structure for Attributes {
         Case::of(build::attrs(rng, len, faults))
     }
 
-    /// Random bytes, and random bytes under a right core.
     fn junk(rng: &mut Rng) -> Case {
-        let len = match rng.below(5) {
-            0 => rng.below(300),
-            _ => rng.pick(&INODE_SIZES),
-        };
-        let mut bytes = rng.bytes(len);
-        if len >= 256 && !rng.one_in(5) {
-            let right = build::attrs(rng, 256, &[]);
-            bytes[..100].copy_from_slice(&right[..100]);
+        let (mut bytes, cored) = build::junk_inode(rng, |rng| build::attrs(rng, 256, &[]));
+        if cored {
             let fork = 100 + 8 * usize::from(bytes[82]);
             bytes[fork] = 0;
             bytes[fork + 2] = rng.below(4) as u8;

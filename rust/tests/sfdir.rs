@@ -111,16 +111,9 @@ impl Structure for ShortForms {
         built(rng, len, faults)
     }
 
-    /// Random bytes, and random bytes under a right core.
     fn junk(rng: &mut Rng) -> Case {
-        let len = match rng.below(5) {
-            0 => rng.below(300),
-            _ => rng.pick(&INODE_SIZES),
-        };
-        let mut bytes = rng.bytes(len);
-        if len >= 256 && !rng.one_in(5) {
-            let right = built(rng, 256, &[]);
-            bytes[..100].copy_from_slice(&right.bytes[..100]);
+        let (mut bytes, cored) = build::junk_inode(rng, |rng| built(rng, 256, &[]).bytes);
+        if cored {
             bytes[100] = rng.below(4) as u8;
         }
         let told = match rng.one_in(4) {

@@ -12,29 +12,30 @@ use edition::V4;
 use libc::STDIN_FILENO;
 use libc::STDOUT_FILENO;
 
-// Lines go into a buffer of this many bytes, which is written when it is full.
+// Lines go into a buffer of this many bytes, which is written when it is full: `out`, of which the first n bytes are in use.
 const BUFFER: usize = 8192;
 
-// Room for k bytes behind the first n of the buffer, which is written and started anew where it has none: how many it then has.
+// Room for k more bytes in the buffer, which is written and started anew where it has none: how many are then in use.
 fn room(out: &[u8], n: usize, k: usize) -> usize
-    requires { ⌜ (n ≤ 8192) × (k ≤ 8192) × (length (now out) ≡ 8192) ⌝ }
-    ensures { λ r. ⌜ r + k ≤ 8192 ⌝ }
+    requires { ⌜ (n ≤ length (now out)) × (k ≤ length (now out)) ⌝ }
+    ensures { λ r. ⌜ r + k ≤ length (now (out .entry)) ⌝ }
 {
-    if n + k <= BUFFER {
+    if k <= out.len() - n {
         return n;
     }
     io::write_all(STDOUT_FILENO, &out[..n]);
     0
 }
 
-// Puts s behind the first n bytes of the buffer: how many it then has. What is longer than the buffer is written by itself.
+// Puts s into the buffer: how many bytes are then in use. What is longer than the buffer is written by itself.
 fn text<'a, 'b>(out: &'a mut [u8], n: usize, s: &'b [u8]) -> usize
-    requires { ⌜ (n ≤ 8192) × (length (now out) ≡ 8192) ⌝ }
-    ensures { λ r. ⌜ r ≤ 8192 ⌝ }
+    requires { ⌜ n ≤ length (now out) ⌝ }
+    ensures { λ r. ⌜ r ≤ length (now (out .entry)) ⌝ }
 {
     let k = s.len();
-    if BUFFER < k {
-        room(&out[..], n, BUFFER);
+    let most = out.len();
+    if most < k {
+        room(&out[..], n, most);
         io::write_all(STDOUT_FILENO, s);
         return 0;
     }
@@ -45,8 +46,8 @@ fn text<'a, 'b>(out: &'a mut [u8], n: usize, s: &'b [u8]) -> usize
 
 // A label and a number.
 fn number<'a, 'b>(out: &'a mut [u8], n: usize, label: &'b [u8], v: u64) -> usize
-    requires { ⌜ (n ≤ 8192) × (length (now out) ≡ 8192) ⌝ }
-    ensures { λ r. ⌜ r ≤ 8192 ⌝ }
+    requires { ⌜ n ≤ length (now out) ⌝ }
+    ensures { λ r. ⌜ r ≤ length (now (out .entry)) ⌝ }
 {
     let mut digits = [0u8; 20];
     let k = io::decimal(v, &mut digits);
@@ -56,8 +57,8 @@ fn number<'a, 'b>(out: &'a mut [u8], n: usize, label: &'b [u8], v: u64) -> usize
 
 // A space and 8 hexadecimal digits.
 fn hash(out: &mut [u8], n: usize, v: u64) -> usize
-    requires { ⌜ (n ≤ 8192) × (length (now out) ≡ 8192) ⌝ }
-    ensures { λ r. ⌜ r ≤ 8192 ⌝ }
+    requires { ⌜ n ≤ length (now out) ⌝ }
+    ensures { λ r. ⌜ r ≤ length (now (out .entry)) ⌝ }
 {
     let mut digits = [0u8; 16];
     let k = io::hex(v, 8, &mut digits);
@@ -88,8 +89,8 @@ fn hex_of(s: &[u8], out: &mut [u8; 512]) -> usize
 
 // A space and a name's bytes in hexadecimal.
 fn name_bytes<'a, 'b>(out: &'a mut [u8], n: usize, s: &'b [u8]) -> usize
-    requires { ⌜ (n ≤ 8192) × (length (now s) < 256) × (length (now out) ≡ 8192) ⌝ }
-    ensures { λ r. ⌜ r ≤ 8192 ⌝ }
+    requires { ⌜ (n ≤ length (now out)) × (length (now s) < 256) ⌝ }
+    ensures { λ r. ⌜ r ≤ length (now (out .entry)) ⌝ }
 {
     let mut digits = [0u8; 512];
     let k = hex_of(s, &mut digits);
@@ -106,8 +107,8 @@ fn line<'a, 'b>(
     tag: usize,
     entry: Entry,
 ) -> usize
-    requires { ⌜ (n ≤ 8192) × (entry .start + entry .len ≤ length (now b)) × (entry .len < 256) × (length (now out) ≡ 8192) ⌝ }
-    ensures { λ r. ⌜ r ≤ 8192 ⌝ }
+    requires { ⌜ (n ≤ length (now out)) × (entry .start + entry .len ≤ length (now b)) × (entry .len < 256) ⌝ }
+    ensures { λ r. ⌜ r ≤ length (now (out .entry)) ⌝ }
 {
     let from = entry.start;
     let end = from + entry.len;
@@ -121,8 +122,8 @@ fn line<'a, 'b>(
 
 // The first line: the block's length, its live entries and its stale slots.
 fn head<'a, 'b>(e: Edition, out: &'a mut [u8], b: &'b [u8]) -> usize
-    requires { ⌜ Sane e × Ready e (now b) × (length (now out) ≡ 8192) ⌝ }
-    ensures { λ r. ⌜ r ≤ 8192 ⌝ }
+    requires { ⌜ Sane e × Ready e (now b) ⌝ }
+    ensures { λ r. ⌜ r ≤ length (now (out .entry)) ⌝ }
 {
     let len = b.len();
     let count = be::be32(b, len - 8);

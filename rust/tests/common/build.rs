@@ -33,6 +33,20 @@ pub fn faults(rng: &mut Rng) -> Vec<Fault> {
 pub const BLOCK_SIZES: [usize; 6] = [512, 1024, 2048, 4096, 8192, 16_384];
 pub const INODE_SIZES: [usize; 4] = [256, 512, 1024, 2048];
 
+/// Random bytes, mostly of an inode's length, and mostly under the core of a right inode: whether they are.
+pub fn junk_inode(rng: &mut Rng, right: impl FnOnce(&mut Rng) -> Vec<u8>) -> (Vec<u8>, bool) {
+    let len = match rng.below(5) {
+        0 => rng.below(300),
+        _ => rng.pick(&INODE_SIZES),
+    };
+    let mut bytes = rng.bytes(len);
+    let cored = len >= 256 && !rng.one_in(5);
+    if cored {
+        bytes[..100].copy_from_slice(&right(rng)[..100]);
+    }
+    (bytes, cored)
+}
+
 /// A block's length; the smaller the likelier.
 pub fn block_len(rng: &mut Rng) -> usize {
     let top = rng.between(1, BLOCK_SIZES.len());

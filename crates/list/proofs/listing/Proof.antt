@@ -15,7 +15,7 @@ use Rattle.list.proofs.listing.Tie as tie
 
 abbrev Inv-loop : tie.InvT-loop
 Inv-loop e b out₀ n₀ end p₀ out n p =
-    Place e b p × (n ≤ 8192) × (length out ≡ 8192)
+    Place e b p × (n ≤ length out) × (length out ≡ 8192)
 
 abbrev μ-loop : tie.MeasureT-loop
 μ-loop e b out₀ n₀ end p₀ out n p =
@@ -33,7 +33,7 @@ line-requires : tie.Need-line-requires Inv-loop μ-loop
 line-requires c κs =
     let k = c .before .before .seen .given in
     let s = c .before .before .before .before .step-ready .ensures in
-    (search needs, subst (λ (x : Seen). seen-start x + seen-len x ≤ length (now (c .before .before .before .before .before .before .before .before .before .before .before .before .args .b))) (k .1) (s .name-fits), subst (λ (x : Seen). seen-len x < 256) (k .1) (s .name-short), search needs)
+    (search needs, subst (λ (x : Seen). seen-start x + seen-len x ≤ length (now (c .before .before .before .before .before .before .before .before .before .before .before .before .args .b))) (k .1) (s .name-fits), subst (λ (x : Seen). seen-len x < 256) (k .1) (s .name-short))
 
 loop-less : tie.Need-loop-less Inv-loop μ-loop
 loop-less c =
