@@ -69,7 +69,7 @@ abbrev pub place-code : Place → ℕ
 place-code (At a n) = 0
 place-code (Refused k) = k
 
--- and the part of the inode that is handed back: a found value in place, also when valuelen is 0; a refused request's empty part is the first zero bytes
+-- and the part of the inode that is handed back: a found value in place, also when valuelen is 0; a refused request's empty part is at the inode's start
 abbrev pub start-of : Place → ℕ
 start-of (At a n) = a
 start-of (Refused k) = 0

@@ -1,4 +1,4 @@
--- What the code's inner functions promise: no public promise cites these.
+-- What the code's inner functions promise: for code and proofs alone, no call that README lists promises anything by these.
 -- Assumes nothing.
 use Prim.Native.Nat.{ℕ, _+_, _-_}
 use mathlib.Core.Path.{_≡_}

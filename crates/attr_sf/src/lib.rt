@@ -332,7 +332,7 @@ pub fn lookup<'a, 'b>(b: &'a [u8], name: &'b [u8], flags: usize) -> Place
     look(V4::edition(), b, name, flags)
 }
 
-// The value in place, a part of the inode; its first zero bytes where the lookup is refused: lookup's number tells that from an empty value.
+// The value in place, a part of the inode; an empty part at its start where the lookup is refused: lookup's number tells that from an empty value.
 pub fn value<'a, 'b>(b: &'a [u8], name: &'b [u8], flags: usize) -> &'a [u8]
     ensures contents { λ r. ⌜ now r ≡ part-of (now (b .entry)) (lookup v4 (now (b .entry)) (now (name .entry)) flags) ⌝ }
     ensures place { λ r. ⌜ (r .ptr .0 ≡ b .entry .ptr .0)

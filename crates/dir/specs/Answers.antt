@@ -42,7 +42,7 @@ abbrev pub walked-seen : Walked → Seen
 walked-seen (Stepped s) = s .seen
 walked-seen (Walk-refused k) = End
 
--- where a live entry's name starts, and its length; 0 where there is none
+-- ---- for code and proofs alone: where a live entry's name starts, and its length; 0 where there is none
 abbrev pub seen-start : Seen → ℕ
 seen-start (Live l) = l .start
 seen-start Gap = 0

@@ -101,7 +101,7 @@ unfoldable pub gap-writes : ℕ → ℕ → List Write
 gap-writes o zero = []
 gap-writes o (suc n) = write o (0xff ∷ 0xff ∷ to-be 2 (suc n)) ∷ write (o + suc n - 2) (to-be 2 o) ∷ []
 
--- ---- for code and proofs alone: no public promise cites these
+-- ---- for code and proofs alone: no call that README lists promises anything by these
 
 -- the records' bytes end to end
 abbrev pub join : List Rec → List ℕ

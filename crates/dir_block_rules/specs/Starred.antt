@@ -121,7 +121,7 @@ full = insert-bytes v4 (insert-bytes v4 c4 a₁ (target 141 0)) (cs 117) (target
 unfoldable pub c5 : List ℕ
 c5 = remove-bytes v4 (remove-bytes v4 full a₁) (cs 117)
 
--- the first case of the room rule that holds: (a), (b), or another
+-- the first case of the room rule that holds: (a), (b), or 0 for another or none
 abbrev pub by-a : ℕ
 by-a = 1
 
@@ -131,7 +131,8 @@ by-b = 2
 unfoldable pub by-case : List ℕ → List ℕ → ℕ
 by-case b n = cond (case-a (room-of v4 b n)) by-a (cond (case-b (room-of v4 b n)) by-b 0)
 
--- C1 to C5: what the definitions give, and what the paper states; a refused insert leaves the block as it was
+-- C1 to C5: what the definitions give, and what the paper states, with the columns that follow from it (count, offset, compared); a refused
+-- insert leaves the block as it was
 unfoldable pub block-rows : List Row
 block-rows =
     -- C1: gap 48, length 440

@@ -28,7 +28,8 @@ magic-ok e b = eqb (field 0 4 b) (e .magic)
 unfoldable pub span-ok : Edition → List ℕ → Bool
 span-ok e b = leb (e .header + 8 * count-of b + 8) (length b) && leb (stale-of b) (count-of b)
 
--- 5 TILE: records fill the data exactly: the lengths that they say add up to the data's
+-- 5 TILE: records fill the data exactly: the lengths that they say add up to the data's (a gap that says less than 4 is cut short of
+-- its own length field; `record-ok` refuses it)
 unfoldable pub fills : Edition → List ℕ → Bool
 fills e b = eqb (total (λ r. says e (r .raw)) (records e b)) (data-end b - e .header)
 

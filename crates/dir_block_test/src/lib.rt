@@ -62,7 +62,7 @@ fn whole_len(e: Edition, b: &[u8], o: usize, t: usize) -> usize
     n
 }
 
-// 0 if the data up to t is not tile-count, else one more than it has entries.
+// 0 if records do not tile the data up to t, else one more than it has entries.
 fn tiles(e: Edition, b: &[u8], t: usize) -> usize
     requires { ⌜ Sane e ⌝ }
     requires { ⌜ (t ≤ length (now b)) × (t % 8 ≡ 0) × (e .header ≤ t) ⌝ }
@@ -468,7 +468,7 @@ fn entry_at(b: &[u8], o: usize, t: usize) -> bool
     false
 }
 
-// Whether the hashes rise, m slots are stale, and the others are as many as the entries.
+// Whether the hashes never fall, m slots are stale, and the others are as many as the entries.
 fn counts_fit(b: &[u8], t: usize, n: usize, m: usize, live: usize) -> bool
     requires { ⌜ (t + 8 * n ≤ length (now b)) × (m ≤ n) ⌝ }
     ensures { λ r. ⌜ r ≡ (in-order 0 0 m (slots-from (now (b .entry)) t n 0) && eqb (n - m) live) ⌝ }

@@ -1,5 +1,5 @@
-// A walker over a block directory: it keeps hold of the block and its place between steps. Each function takes the walker
-// apart and calls the plain walk, in one place (`met`).
+// A walker over a block directory: it keeps hold of the block and its place between steps. `step` and `advance` take
+// the walker apart and call the plain walk, in one place (`met`).
 ghost use mathlib.Core.Path.{_≡_};
 ghost use Rattle.edition.specs.Edition.{v4};
 ghost use Rattle.dir_block_rules.specs.Walk.{Step-promise};

@@ -1,4 +1,4 @@
--- What the code's own contracts say of what it reads: for the prover, no public promise cites these definitions.
+-- What the code's own contracts say of what it reads: for code and proofs alone, no call that README lists promises anything by these.
 -- Assumes nothing.
 use Prim.Native.Nat.{ℕ, suc, _+_, _≤_}
 use mathlib.Core.Path.{_≡_}

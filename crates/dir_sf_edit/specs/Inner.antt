@@ -1,4 +1,4 @@
--- What the code's own contracts say of where an entry goes in or out: for the prover, no public promise cites these definitions.
+-- What the code's own contracts say of where an entry goes in or out: for code and proofs alone, no call that README lists promises anything by these.
 -- Assumes nothing.
 use Prim.Native.Nat.{ℕ, suc}
 use mathlib.Core.Bool.{cond}

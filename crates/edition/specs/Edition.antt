@@ -17,7 +17,7 @@ v4 =
 abbrev pub largest-block : ℕ
 largest-block = 16384
 
--- the places in it where a record can start: one for every 8 bytes
+-- the places in it where a record can start, one for every 8 bytes: the code's tables have as many cells
 abbrev pub record-starts : ℕ
 record-starts = largest-block / 8
 

@@ -12,7 +12,7 @@ use edition::V4;
 use libc::STDIN_FILENO;
 use libc::STDOUT_FILENO;
 
-// Lines go into a buffer of this many bytes, which is written when it is full: `out`, of which the first n bytes are in use.
+// Lines go into a buffer of this many bytes, `out`, of which the first n are in use. It is written when the next piece does not fit.
 const BUFFER: usize = 8192;
 
 // Room for k more bytes in the buffer, which is written and started anew where it has none: how many are then in use.

@@ -24,7 +24,7 @@ read-records size read n at = map read (places size n at)
 abbrev pub tiled : (ℕ → ℕ) → ℕ → ℕ → ℕ → Bool
 tiled size end n at = eqb (start size n at) end
 
--- n records from a place on lie before end
+-- n records from a place on lie before end (for code and proofs alone)
 abbrev pub within : (ℕ → ℕ) → ℕ → ℕ → ℕ → Bool
 within size end n at = leb (start size n at) end
 
