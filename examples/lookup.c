@@ -16,6 +16,6 @@ int main(int argc, char **argv)
     fclose(file);
     pzw_found found = pzw_block_lookup(block, len, (const uint8_t *)argv[2], strlen(argv[2]));
     if (found.refusal) printf("refused %" PRIu32 ": %s\n", found.refusal, pzw_sentence(found.refusal));
-    else printf("number %" PRIu64 ", names compared: %" PRIu64 "\n", found.number, found.compared);
+    else printf("number %" PRIu64 ", tag %" PRIu64 ", names compared: %" PRIu64 "\n", found.number, found.tag, found.compared);
     return found.refusal != 0;
 }

@@ -3,10 +3,12 @@
 #include "pelunziwa.h"
 
 _Static_assert(sizeof(pzw_core) == 40 && offsetof(pzw_core, aformat) == 24 && offsetof(pzw_core, size) == 32, "pzw_core");
-_Static_assert(sizeof(pzw_found) == 24 && offsetof(pzw_found, number) == 8 && offsetof(pzw_found, compared) == 16, "pzw_found");
+_Static_assert(sizeof(pzw_found) == 32 && offsetof(pzw_found, type) == 4 && offsetof(pzw_found, number) == 8, "pzw_found");
+_Static_assert(offsetof(pzw_found, tag) == 16 && offsetof(pzw_found, compared) == 24, "pzw_found");
 _Static_assert(sizeof(pzw_place) == 24 && offsetof(pzw_place, start) == 8 && offsetof(pzw_place, len) == 16, "pzw_place");
-_Static_assert(sizeof(pzw_step) == 40 && offsetof(pzw_step, seen) == 4 && offsetof(pzw_step, next) == 8, "pzw_step");
-_Static_assert(offsetof(pzw_step, number) == 16 && offsetof(pzw_step, name_len) == 32, "pzw_step");
+_Static_assert(sizeof(pzw_step) == 56 && offsetof(pzw_step, seen) == 4 && offsetof(pzw_step, next) == 8, "pzw_step");
+_Static_assert(offsetof(pzw_step, number) == 16 && offsetof(pzw_step, tag) == 24 && offsetof(pzw_step, type) == 32, "pzw_step");
+_Static_assert(offsetof(pzw_step, name_start) == 40 && offsetof(pzw_step, name_len) == 48, "pzw_step");
 _Static_assert(sizeof(pzw_attr_step) == 56 && offsetof(pzw_attr_step, flags) == 16, "pzw_attr_step");
 _Static_assert(offsetof(pzw_attr_step, value_start) == 40 && offsetof(pzw_attr_step, value_len) == 48, "pzw_attr_step");
 

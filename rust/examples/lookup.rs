@@ -14,8 +14,8 @@ fn main() {
     };
     match pelunziwa::block::lookup(&block, name.as_bytes()) {
         Ok(found) => println!(
-            "number {}, names compared: {}",
-            found.number, found.compared
+            "number {}, tag {}, names compared: {}",
+            found.number, found.tag, found.compared
         ),
         Err(refused) => {
             println!("{refused}");

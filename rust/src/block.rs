@@ -1,18 +1,11 @@
 //! The block directory: a power of two of bytes, 512 to 16,384.
 
 use crate::walk::{self, Entry, Step};
-use crate::{raw, Refusal};
+use crate::{raw, Found, Refusal};
 use std::fmt;
 
 /// Where the walk starts: after the header.
 pub const FIRST_PLACE: u64 = 16;
-
-/// A name's inode number, and how many names of its hash were compared to find it.
-#[derive(Clone, Copy, Debug, PartialEq, Eq)]
-pub struct Found {
-    pub number: u64,
-    pub compared: u64,
-}
 
 /// A lookup's refusal; an ABSENT one also says how many names were compared, any other 0.
 #[derive(Clone, Copy, Debug, PartialEq, Eq)]
@@ -45,18 +38,17 @@ pub fn test(block: &[u8]) -> Result<(), Refusal> {
     Refusal::check(unsafe { raw::pzw_block_test(block.as_ptr(), block.len()) })
 }
 
-/// The inode number under a name.
+/// The inode number and the tag under a name.
 pub fn lookup(block: &[u8], name: &[u8]) -> Result<Found, NotFound> {
     // SAFETY: pointers and lengths are the slices' own; the call reads only.
-    let found =
+    let answer =
         unsafe { raw::pzw_block_lookup(block.as_ptr(), block.len(), name.as_ptr(), name.len()) };
-    let compared = found.compared;
-    match Refusal::check(found.refusal) {
-        Ok(()) => Ok(Found {
-            number: found.number,
-            compared,
+    match Refusal::check(answer.refusal) {
+        Ok(()) => Ok(Found::of(answer)),
+        Err(refusal) => Err(NotFound {
+            refusal,
+            compared: answer.compared,
         }),
-        Err(refusal) => Err(NotFound { refusal, compared }),
     }
 }
 
@@ -86,7 +78,7 @@ pub fn remove(block: &mut [u8], name: &[u8]) -> Result<(), Refusal> {
 pub fn step(block: &[u8], place: u64) -> Result<Step<Entry<'_>>, Refusal> {
     // SAFETY: pointer and length are the slice's own; the call reads only.
     let step = unsafe { raw::pzw_block_step(block.as_ptr(), block.len(), place) };
-    walk::dir_step(block, step, |_| place)
+    walk::dir_step(block, step)
 }
 
 /// The live entries by rising tag, "." and ".." first, or the refusal.

@@ -22,6 +22,7 @@ pub mod block;
 pub mod inode;
 pub mod sfdir;
 
+mod found;
 mod raw;
 mod refusal;
 mod walk;
@@ -37,6 +38,7 @@ pub mod boundary {
     pub use crate::raw::*;
 }
 
+pub use found::Found;
 pub use refusal::Refusal;
 pub use walk::{Entry, Seen, Step};
 

@@ -14,12 +14,14 @@ pub struct Core {
     pub size: u64,
 }
 
-/// A lookup's answer. `compared` is 0 in a short form.
+/// A lookup's answer. `kind`, the file type, is 0 in V4; `compared` is 0 in a short form.
 #[repr(C)]
 #[derive(Clone, Copy, Debug, Default, PartialEq, Eq)]
 pub struct Found {
     pub refusal: u32,
+    pub kind: u32,
     pub number: u64,
+    pub tag: u64,
     pub compared: u64,
 }
 
@@ -32,7 +34,7 @@ pub struct Place {
     pub len: u64,
 }
 
-/// One step of a directory's walk; `seen` is 0 at the end, 1 at a gap, 2 at a live entry.
+/// One step of a directory's walk; `seen` is 0 at the end, 1 at a gap, 2 at a live entry. `kind`, the file type, is 0 in V4.
 #[repr(C)]
 #[derive(Clone, Copy, Debug, Default, PartialEq, Eq)]
 pub struct Step {
@@ -40,6 +42,8 @@ pub struct Step {
     pub seen: u32,
     pub next: u64,
     pub number: u64,
+    pub tag: u64,
+    pub kind: u64,
     pub name_start: u64,
     pub name_len: u64,
 }

@@ -2,7 +2,7 @@
 //! limits the tags.
 
 use crate::walk::{self, Entry, Step};
-use crate::{raw, Refusal};
+use crate::{raw, Found, Refusal};
 
 /// Tests the inode as a short-form directory.
 pub fn test(inode: &[u8], block_size: u64) -> Result<(), Refusal> {
@@ -10,10 +10,10 @@ pub fn test(inode: &[u8], block_size: u64) -> Result<(), Refusal> {
     Refusal::check(unsafe { raw::pzw_sfdir_test(inode.as_ptr(), inode.len(), block_size) })
 }
 
-/// The inode number under a name; ".." gives the parent.
-pub fn lookup(inode: &[u8], block_size: u64, name: &[u8]) -> Result<u64, Refusal> {
+/// The inode number and the tag under a name; ".." gives the parent, and tag 0.
+pub fn lookup(inode: &[u8], block_size: u64, name: &[u8]) -> Result<Found, Refusal> {
     // SAFETY: pointers and lengths are the slices' own; the call reads only.
-    let found = unsafe {
+    let answer = unsafe {
         raw::pzw_sfdir_lookup(
             inode.as_ptr(),
             inode.len(),
@@ -22,8 +22,8 @@ pub fn lookup(inode: &[u8], block_size: u64, name: &[u8]) -> Result<u64, Refusal
             name.len(),
         )
     };
-    Refusal::check(found.refusal)?;
-    Ok(found.number)
+    Refusal::check(answer.refusal)?;
+    Ok(Found::of(answer))
 }
 
 /// Puts a new entry in.
@@ -59,9 +59,7 @@ pub fn remove(inode: &mut [u8], block_size: u64, name: &[u8]) -> Result<(), Refu
 pub fn step(inode: &[u8], block_size: u64, place: u64) -> Result<Step<Entry<'_>>, Refusal> {
     // SAFETY: pointer and length are the slice's own; the call reads only.
     let step = unsafe { raw::pzw_sfdir_step(inode.as_ptr(), inode.len(), block_size, place) };
-    // The tag stands in the two bytes before the name.
-    let tag = |name: usize| u64::from(inode[name - 2]) << 8 | u64::from(inode[name - 1]);
-    walk::dir_step(inode, step, tag)
+    walk::dir_step(inode, step)
 }
 
 /// The place after the header, which is longer when i8count is not 0.

@@ -31,16 +31,12 @@ pub(crate) fn part(lent: &[u8], start: u64, len: u64) -> &[u8] {
     &lent[start as usize..][..len as usize]
 }
 
-/// A directory's step from the library's; `tag` reads the tag of the entry whose name starts there.
-pub(crate) fn dir_step<'a>(
-    lent: &'a [u8],
-    step: raw::Step,
-    tag: impl Fn(usize) -> u64,
-) -> Result<Step<Entry<'a>>, Refusal> {
+/// A directory's step from the library's.
+pub(crate) fn dir_step(lent: &[u8], step: raw::Step) -> Result<Step<Entry<'_>>, Refusal> {
     Refusal::check(step.refusal)?;
     let seen = match step.seen {
         2 => Seen::Live(Entry {
-            tag: tag(step.name_start as usize),
+            tag: step.tag,
             number: step.number,
             name: part(lent, step.name_start, step.name_len),
         }),

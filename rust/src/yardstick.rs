@@ -2,6 +2,7 @@
 //! entry's slot is found by binary search.
 
 use crate::model::Options;
+use crate::Found;
 
 /// A constant, so that the sizes cost no time.
 const V4: Options = Options::V4;
@@ -272,8 +273,8 @@ pub fn test(b: &[u8]) -> u32 {
     }
 }
 
-/// Tests a block and looks a name up: its number and the names compared, or the refusal.
-pub fn lookup(b: &[u8], name: &[u8]) -> Result<(u64, usize), (u32, usize)> {
+/// Tests a block and looks a name up: its number, tag and the names compared, or the refusal.
+pub fn lookup(b: &[u8], name: &[u8]) -> Result<Found, (u32, u64)> {
     let block = Block::open(b).map_err(|n| (n, 0))?;
     match block.code() {
         0 => (),
@@ -294,7 +295,12 @@ pub fn lookup(b: &[u8], name: &[u8]) -> Result<(u64, usize), (u32, usize)> {
         }
         compared += 1;
         if block.name_at(s.address) == name {
-            return Ok((be64(b, 8 * s.address as usize), compared));
+            let tag = 8 * s.address as usize;
+            return Ok(Found {
+                number: be64(b, tag),
+                tag: tag as u64,
+                compared,
+            });
         }
     }
     Err((13, compared))

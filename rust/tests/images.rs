@@ -5,7 +5,7 @@ mod common;
 
 use common::images::{self, Check, Image};
 use common::V4;
-use pelunziwa::{attr, block, inode, model, sfdir, Refusal};
+use pelunziwa::{attr, block, inode, model, sfdir, Found, Refusal};
 use std::collections::{BTreeMap, BTreeSet};
 use std::fs;
 
@@ -207,19 +207,25 @@ fn entries<'a>(walk: impl Iterator<Item = Result<pelunziwa::Entry<'a>, Refusal>>
 fn listed_block(file: &str, bytes: &[u8], list: &[Listed]) {
     assert_eq!(entries(block::entries(bytes)), list, "{file}");
     for entry in list {
-        let found = block::lookup(bytes, &entry.name);
-        assert_eq!(found.map(|f| f.number), Ok(entry.number), "{file}");
-        let stored = model::block::lookup(V4, bytes, &entry.name);
-        assert_eq!(found.map(|f| f.compared), Ok(stored.compared), "{file}");
+        let found = Found {
+            number: entry.number,
+            tag: entry.tag,
+            compared: model::block::lookup(V4, bytes, &entry.name).compared,
+        };
+        assert_eq!(block::lookup(bytes, &entry.name), Ok(found), "{file}");
     }
 }
 
-/// A short form stores neither "." nor "..", which xfs_db lists first; ".." is found as the parent.
+/// A short form stores neither "." nor "..", which xfs_db lists first; ".." is found as the parent, with tag 0.
 fn listed_sfdir(file: &str, bytes: &[u8], size: u64, list: &[Listed]) {
     assert_eq!(entries(sfdir::entries(bytes, size)), list[2..], "{file}");
     for entry in &list[1..] {
-        let found = sfdir::lookup(bytes, size, &entry.name);
-        assert_eq!(found, Ok(entry.number), "{file}");
+        let found = Found {
+            number: entry.number,
+            tag: if entry.name == b".." { 0 } else { entry.tag },
+            compared: 0,
+        };
+        assert_eq!(sfdir::lookup(bytes, size, &entry.name), Ok(found), "{file}");
     }
     assert_eq!(sfdir::lookup(bytes, size, b"."), Err(Refusal::Fixed));
 }

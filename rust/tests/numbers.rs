@@ -2,12 +2,14 @@
 
 use pelunziwa::model::{self, Options};
 
-/// The calls that the numbers need; 0 or the refusal's number.
+/// The calls that the numbers need; 0 or the refusal's number, and the tag under a name that is found.
 struct Calls {
     hash: fn(&[u8]) -> u32,
+    block_tag: fn(&[u8], &[u8]) -> Option<u64>,
     block_insert: fn(&mut Vec<u8>, &[u8], u64) -> u32,
     block_remove: fn(&mut Vec<u8>, &[u8]) -> u32,
     sfdir_test: fn(&[u8]) -> u32,
+    sfdir_tag: fn(&[u8], &[u8]) -> Option<u64>,
     sfdir_insert: fn(&mut Vec<u8>, &[u8], u64) -> u32,
     sfdir_remove: fn(&mut Vec<u8>, &[u8]) -> u32,
     attr_test: fn(&[u8]) -> u32,
@@ -22,8 +24,13 @@ fn kept(bytes: &mut Vec<u8>, change: model::Change) -> u32 {
     change.refusal
 }
 
+fn tag(found: model::Found) -> Option<u64> {
+    (found.refusal == 0).then_some(found.tag)
+}
+
 const MODEL: Calls = Calls {
     hash: model::hash,
+    block_tag: |block, name| tag(model::block::lookup(V4, block, name)),
     block_insert: |block, name, number| {
         let change = model::block::insert(V4, block, name, number);
         kept(block, change)
@@ -33,6 +40,7 @@ const MODEL: Calls = Calls {
         kept(block, change)
     },
     sfdir_test: |inode| model::sfdir::test(V4, inode, BLOCK_SIZE),
+    sfdir_tag: |inode, name| tag(model::sfdir::lookup(V4, inode, BLOCK_SIZE, name)),
     sfdir_insert: |inode, name, number| {
         let change = model::sfdir::insert(V4, inode, BLOCK_SIZE, name, number);
         kept(inode, change)
@@ -54,9 +62,11 @@ fn code(result: Result<(), pelunziwa::Refusal>) -> u32 {
 
 const LIBRARY: Calls = Calls {
     hash: pelunziwa::hash,
+    block_tag: |block, name| Some(pelunziwa::block::lookup(block, name).ok()?.tag),
     block_insert: |block, name, number| code(pelunziwa::block::insert(block, name, number)),
     block_remove: |block, name| code(pelunziwa::block::remove(block, name)),
     sfdir_test: |inode| code(pelunziwa::sfdir::test(inode, BLOCK_SIZE)),
+    sfdir_tag: |inode, name| Some(pelunziwa::sfdir::lookup(inode, BLOCK_SIZE, name).ok()?.tag),
     sfdir_insert: |inode, name, number| {
         code(pelunziwa::sfdir::insert(inode, BLOCK_SIZE, name, number))
     },
@@ -134,6 +144,9 @@ fn c1_to_c3() {
         assert_eq!(number(&block, 48, 8), 131);
         assert_eq!(pairs(&block), [(64, 416), (0, 0), (0, 0)]);
         assert_eq!(tail(&block), (3, 0));
+        let tag = |name: &str| (calls.block_tag)(&block, name.as_bytes());
+        assert_eq!([".", "..", "a"].map(tag), [16, 32, 48].map(Some));
+        assert_eq!(["b", "/"].map(tag), [None, None]);
         assert_eq!((calls.block_remove)(&mut block, b"a"), 0);
         assert_eq!(pairs(&block), [(48, 432), (0, 0), (0, 0)]);
         assert_eq!(tail(&block), (3, 1));
@@ -231,7 +244,7 @@ fn frame(at: u64) -> Vec<u8> {
     format!("frame00000{at}.tst").into_bytes()
 }
 
-/// The dumps are right, and a removal leads from the one to the other.
+/// The dumps are right, their tags as listed, and a removal leads from the one to the other.
 #[test]
 fn directory_dumps() {
     both(|calls| {
@@ -239,6 +252,10 @@ fn directory_dumps() {
         assert_eq!(number(&four, 56, 8), 94);
         assert_eq!((calls.sfdir_test)(&four), 0);
         assert_eq!((calls.sfdir_test)(&three), 0);
+        let tags = |dir: &[u8]| [0, 1, 2, 3].map(|at| (calls.sfdir_tag)(dir, &frame(at)));
+        assert_eq!(tags(&four), [0x30, 0x50, 0x70, 0x90].map(Some));
+        assert_eq!(tags(&three), [Some(0x30), None, Some(0x70), Some(0x90)]);
+        assert_eq!((calls.sfdir_tag)(&four, b".."), Some(0));
         assert_eq!((calls.sfdir_remove)(&mut four, &frame(1)), 0);
         assert_eq!(number(&four, 56, 8), 72);
         assert_eq!(four[100..172], three[100..172]);

@@ -4,13 +4,22 @@ mod common;
 
 use common::build::{self, INODE_SIZES};
 use common::{names, rounds, Rng, V4};
-use pelunziwa::{attr, block, inode, model, sfdir, Refusal, Seen};
+use pelunziwa::{attr, block, inode, model, sfdir, Found, Refusal, Seen};
 
 fn code<T>(result: &Result<T, Refusal>) -> u32 {
     match result {
         Ok(_) => 0,
         Err(refusal) => refusal.number(),
     }
+}
+
+/// Number, tag and names compared, as a wrapper tells them and as the model does.
+fn told(found: Found) -> (u64, u64, u64) {
+    (found.number, found.tag, found.compared)
+}
+
+fn told_by(model: model::Found) -> (u64, u64, u64) {
+    (model.number, model.tag, model.compared)
 }
 
 #[test]
@@ -80,12 +89,12 @@ fn blocks() {
             let name = names::asked(&mut rng, &held);
             let want = model::block::lookup(V4, &bytes, &name);
             match block::lookup(&bytes, &name) {
-                Ok(found) => assert_eq!((0, found.number), (want.refusal, want.number)),
-                Err(missed) => assert_eq!(missed.refusal.number(), want.refusal),
+                Ok(found) => assert_eq!((0, told(found)), (want.refusal, told_by(want))),
+                Err(missed) => assert_eq!(
+                    (missed.refusal.number(), missed.compared),
+                    (want.refusal, want.compared)
+                ),
             }
-            let compared = block::lookup(&bytes, &name);
-            let compared = compared.map_or_else(|missed| missed.compared, |f| f.compared);
-            assert_eq!(compared, want.compared);
             let number = names::number(&mut rng);
             let want = model::block::insert(V4, &bytes, &name, number);
             let got = block::insert(&mut bytes, &name, number);
@@ -134,7 +143,12 @@ fn short_form_directories() {
             let name = names::asked(&mut rng, &held);
             let want = model::sfdir::lookup(V4, &bytes, size, &name);
             let got = sfdir::lookup(&bytes, size, &name);
-            assert_eq!((code(&got), got.unwrap_or(0)), (want.refusal, want.number));
+            let nothing = (0, 0, 0);
+            let number = code(&got);
+            assert_eq!(
+                (number, got.map_or(nothing, told)),
+                (want.refusal, told_by(want))
+            );
             let number = names::number(&mut rng);
             let want = model::sfdir::insert(V4, &bytes, size, &name, number);
             let got = sfdir::insert(&mut bytes, size, &name, number);

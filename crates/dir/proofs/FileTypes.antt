@@ -1,22 +1,23 @@
 -- File types, read and written: where the edition has none, and where it has one; legal targets.
 -- Assumes nothing.
-use Prim.Native.Nat.{ℕ, _^_, _<_}
+use Prim.Native.Nat.{ℕ, _^_, _≤_, _<_}
 use native.Mathlib.Omega.{arith}
 use mathlib.Core.Path.{_≡_, refl, sym, _∙_, ap}
-use mathlib.Core.List.{List}
+use mathlib.Core.List.{List, [], _∷_}
 use mathlib.Core.Bool.{true, false}
-use lib.Dec.{eqb, leb}
-use borrow.Author.Tests.{eqb-true, eqb-false, leb-true}
-use Rattle.be.specs.Bytes.{be, be-from, byte, field, to-be, put}
-use Rattle.be.proofs.Parts.{field-1}
+use lib.Dec.{eqb, leb, ltb}
+use lib.ListN.{length, drop, length-take}
+use borrow.Author.Tests.{eqb-true, eqb-false, leb-true, ltb-true}
+use Rattle.be.specs.Bytes.{be, be-from, byte, bytes, field, part, to-be, put}
+use Rattle.be.proofs.Parts.{field-1, bytes-take, bytes-drop}
 use Rattle.be.proofs.Writes.{put-nothing}
 use Rattle.be.proofs.Numbers.{be-to-be}
-use Rattle.be.proofs.Bools.{by-cases, and-left, and-right, and-both}
+use Rattle.be.proofs.Bools.{by-cases, and-left, and-right, and-both, every-head}
 use Rattle.edition.specs.declared.Edition.{Edition}
 use Rattle.edition.specs.Edition.{Sane}
 use Rattle.name.specs.Name.{legal-number}
 use Rattle.dir.specs.declared.Target.{Target}
-use Rattle.dir.specs.Target.{legal-type, legal-target, kept-of}
+use Rattle.dir.specs.Target.{target, legal-type, legal-target, kept-of}
 
 module _ (e : Edition) (z : e .ftype ≡ 0) (o : ℕ) where
   pub kind-none : (u : List ℕ) → 0 ≡ field o (e .ftype) u
@@ -36,6 +37,21 @@ module _ (e : Edition) (s : Sane e) (z : e .ftype ≡ 0 → ⊥) (o : ℕ) where
 
   pub put-kind-some : (b c : List ℕ) (v : ℕ) → c ≡ put b o (to-be 1 v) → c ≡ put b o (to-be (e .ftype) v)
   put-kind-some b c v h = h ∙ ap (λ (k : ℕ). put b o (to-be k v)) (sym kind-one)
+
+-- at most one byte is a number below 256
+one-byte : (l : List ℕ) → bytes l ≡ true → length l ≤ 1 → be l < 256
+unfolding be be-from
+one-byte [] h n = omega arith
+one-byte (x ∷ []) h n = omega (arith, ltb-true x 256 (every-head (λ y. ltb y 256) x [] h))
+one-byte (x ∷ y ∷ l) h n = absurd (omega arith)
+
+-- and so is a file type that is read
+pub kind-byte : (e : Edition) → Sane e → (o : ℕ) (u : List ℕ) → bytes u ≡ true → field o (e .ftype) u < 256
+kind-byte e s o u h =
+    one-byte (part o (e .ftype) u) (bytes-take (e .ftype) (drop o u) (bytes-drop o u h)) (simp length-take (omega (arith, s .ftype-most)))
+
+pub parent-byte : (e : Edition) (p : ℕ) → kept-of e (target p 2) .kind < 256
+parent-byte e p = by-cases (eqb (e .ftype) 0) (λ y. rw y (omega arith)) (λ y. rw y (omega arith))
 
 -- a legal target: its number, its type, and both
 module _ (e : Edition) (t : Target) where

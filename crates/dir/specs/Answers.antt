@@ -11,20 +11,25 @@ use Rattle.dir.specs.declared.Walked.{Walked}
 use Rattle.dir.specs.declared.Walked.the-variants.{Stepped, Refused as Walk-refused}
 use Rattle.dir.specs.Target.{no-target}
 
--- ---- a lookup: its number, 0 when found; what the name stands for; the names compared
+-- ---- a lookup: its number, 0 when found; what the name stands for; its entry's tag, 0 when there is none; the names compared
 
 abbrev pub looked-code : Looked → ℕ
-looked-code (Found t c) = 0
+looked-code (Found t g c) = 0
 looked-code (Absent c) = ABSENT
 looked-code (Refused k) = k
 
 abbrev pub looked-target : Looked → Target
-looked-target (Found t c) = t
+looked-target (Found t g c) = t
 looked-target (Absent c) = no-target
 looked-target (Refused k) = no-target
 
+abbrev pub looked-tag : Looked → ℕ
+looked-tag (Found t g c) = g
+looked-tag (Absent c) = 0
+looked-tag (Refused k) = 0
+
 abbrev pub looked-compared : Looked → ℕ
-looked-compared (Found t c) = c
+looked-compared (Found t g c) = c
 looked-compared (Absent c) = c
 looked-compared (Refused k) = 0
 

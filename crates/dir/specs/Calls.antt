@@ -23,7 +23,7 @@ call-name (look-up n) = n
 call-name (insert n t) = n
 call-name (remove n) = n
 
--- a lookup's reply, the names compared left out
+-- a lookup's reply, tag and names compared left out
 abbrev pub found-or : Looked → Reply
 found-or a = cond (eqb (looked-code a) 0) (found (looked-target a)) (refuse (looked-code a))
 

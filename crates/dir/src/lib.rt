@@ -15,16 +15,23 @@ pub struct Target {
     pub kind: usize,
 }
 
-// What a lookup finds; `compared` is the names compared in a block, 0 in a short form.
+// What a lookup finds: what the name stands for, its entry's tag, and `compared`, the names compared in a block, 0 in a short form.
 pub enum Looked {
-    Found { target: Target, compared: usize },
-    Absent { compared: usize },
+    Found {
+        target: Target,
+        tag: usize,
+        compared: usize,
+    },
+    Absent {
+        compared: usize,
+    },
     Refused(usize),
 }
 
-// A live entry: what its name stands for, and where the name lies in the lent bytes.
+// A live entry: what its name stands for, its tag, and where the name lies in the lent bytes.
 pub struct Entry {
     pub target: Target,
+    pub tag: usize,
     pub start: usize,
     pub len: usize,
 }

@@ -148,7 +148,7 @@ module _ (e : Edition) (sane : Sane e) (b : List ℕ) (r : Ready e b) where
       goes p n Gap s w (w .stands .says-is ∙ says-gap e b p gs ∙ sym f) (rw (w .stands .gap-is ∙ gs)) (omega arith) (omega arith)
 
   pub step-entry : (p n k : ℕ) (i : Target) → Place e b p → p < data-end b → (field p 2 b ≡ 0xffff → ⊥) → k ≡ byte (p + 8) b → k < 256 → n ≡ entry-size e k → i ≡ target-at e b p
-      → Steps e b p (step-to (p + n) (Live (record { target = i; start = p + 9; len = k })))
+      → Steps e b p (step-to (p + n) (Live (record { target = i; tag = p; start = p + 9; len = k })))
   step-entry p n k i s h g ks kb ns is =
       let w : Next p s = next p s h in
       let y : Rec = w .this in
@@ -162,8 +162,8 @@ module _ (e : Edition) (sane : Sane e) (b : List ℕ) (r : Ready e b) where
       sym (is ∙ ap₂ (λ (l : List ℕ) (o : ℕ). target-at e l o) around (sym (v .off-is)) ∙ target-there e (take p b) (v .rest) y (v .is-whole) (v .gap-is ∙ gs) off) in
       let ln : namelen y ≡ k =
       sym (List·getD-append (y .raw) (v .rest) 0 8 long) ∙ ap (λ (l : List ℕ). getD l 8 0) (sym (v .raw-is)) ∙ getD-drop p b 8 0 ∙ sym ks in
-      goes p n (Live (record { target = i; start = p + 9; len = k })) s w sz
-      (rw (v .gap-is ∙ gs) (ap₂ (λ (x : Target) (z : ℕ × ℕ). Live (record { target = x; start = z .0; len = z .1 })) tm (ap₂ (λ (x z : ℕ). (x, z)) (ap (λ (m : ℕ). m + 9) (v .off-is)) ln)))
+      goes p n (Live (record { target = i; tag = p; start = p + 9; len = k })) s w sz
+      (rw (v .gap-is ∙ gs) (ap₂ (λ (x : Target) (z : ℕ × ℕ). Live (record { target = x; tag = z .0; start = z .0 + 9; len = z .1 })) tm (ap₂ (λ (x z : ℕ). (x, z)) (v .off-is) ln)))
       (omega (arith, entry-room p s h g, end-fits e b t)) kb
 
   pub step-last : (p : ℕ) → Place e b p → data-end b ≤ p → Steps e b p (step-end p)

@@ -32,7 +32,7 @@ module _ (e : Edition) (b n : List ℕ) where
     counted : s .compared ≡ names-compared e b n
     counted = ap (λ (x : Sought). x .compared) (sym q) ∙ compared-right e sane b (r .are-bytes) (r .ok) n
 
-    pub lookup-found : s .hit ≡ true → (i : Target) → i ≡ target-at e b (s .at) → Found i (s .compared) ≡ lookup e b n
+    pub lookup-found : s .hit ≡ true → (i : Target) → i ≡ target-at e b (s .at) → Found i (s .at) (s .compared) ≡ lookup e b n
     unfolding lookup lookup-refusal
     lookup-found h i is = rw (r .ok, l, q, h, counted, is) refl
 

@@ -136,6 +136,7 @@ fn lookup_ready(e: Edition, b: &[u8], name: &[u8]) -> Looked
         let target = target_at(e, b, at);
         return Looked::Found {
             target,
+            tag: at,
             compared: s.compared,
         };
     }
@@ -187,13 +188,15 @@ pub fn step_ready(e: Edition, b: &[u8], end: usize, p: usize) -> Step
     let target = target_at(e, b, p);
     let len = be::be8(b, p + 8);
     let size = edition::entry_size(e, len);
+    let next = p + size;
     let entry = Entry {
         target,
+        tag: p,
         start: p + 9,
         len,
     };
     Step {
-        next: p + size,
+        next,
         seen: Seen::Live(entry),
     }
 }

@@ -13,7 +13,7 @@ use Rattle.be.specs.Lists.{every, keep, without-first}
 use Rattle.be.specs.Bytes.{bytes, be, field}
 use Rattle.edition.specs.declared.Edition.{Edition}
 use Rattle.edition.specs.Edition.{Sane}
-use Rattle.dir_block_rules.specs.Record.{Rec, whole, entries, is-gap, is-entry, name, target-of}
+use Rattle.dir_block_rules.specs.Record.{Rec, whole, entries, is-gap, is-entry, name, target-of, tag}
 use Rattle.dir_block_rules.specs.Block.{Slot, slot-bytes, records, slots, stale-of, data-end}
 use Rattle.dir_block_rules.specs.Verdict.{Accepted, magic-ok}
 use Rattle.dir_block_rules.specs.Lookup.{name-at, target-at}
@@ -161,6 +161,9 @@ module _ (e : Edition) (sane : Sane e) (b : List ℕ) (h : bytes b ≡ true) (a 
     target-is =
         ap (λ (l : List ℕ). target-at e l (t .here .off)) around
         ∙ target-there e (take (e .header) b ++ join (spot .before)) (join (spot .behind) ++ index-bytes) (t .here) (laid-here .1) no-gap off-here
+
+    pub tag-is : tag (t .here) ≡ t .here .off
+    tag-is = laid-here .1 .tagged
 
   pub reads-of : Reads e b (entries (records e b))
   reads-of = record { eights = laid-eights e is-entry (e .header) (records e b) (sane .header-eights) (fit-of .laid); named = λ t. name-of t }

@@ -5,7 +5,8 @@ use native.Mathlib.Omega.{arith}
 use mathlib.Core.Bool.{Bool, true, false, not, _&&_, cond, true≢false}
 use mathlib.Core.Path.{_≡_, refl, sym, _∙_, ap, ap₂, subst}
 use mathlib.Core.List.{List, [], _∷_, _++_, map, nil≢cons, head-eq-of-cons-eq, tail-eq-of-cons-eq}
-use borrow.Author.Tests.{not-true}
+use lib.Dec.{eqb}
+use borrow.Author.Tests.{eqb-true, eq-eqb, not-true}
 use Rattle.name.proofs.Same.{same-refl, same-eq, same-name-sym, same-name-trans}
 use Rattle.be.specs.Lists.{some-of, tally, without-first, same}
 use Rattle.edition.specs.declared.Edition.{Edition}
@@ -14,7 +15,7 @@ use Rattle.dir.specs.declared.Target.{Target}
 use Rattle.be.proofs.Splits.{some-map}
 use Rattle.dir.proofs.Books.{target-self, target-eq, in-other, book-sym, First-named}
 use Rattle.dir.specs.Target.{target, same-target}
-use Rattle.dir_block_rules.specs.Record.{Rec, target-of, name, entries}
+use Rattle.dir_block_rules.specs.Record.{Rec, target-of, name, tag, entries}
 use Rattle.dir_block_rules.specs.Block.{records}
 use Rattle.dir_block_rules.specs.Verdict.{once-ok}
 use Rattle.dir.specs.Book.{Held, held, Book, named, holds, same-held, SameBook}
@@ -70,6 +71,9 @@ module _ (e : Edition) (es : List Rec) (once : once-ok e es ≡ true) where
   pub one-target : (s t : Split es) → same-name e (name (s .here)) (name (t .here)) ≡ true → target-of e (t .here) ≡ target-of e (s .here)
   one-target s t sn =
       target-eq (target-of e (t .here)) (target-of e (s .here)) (one-entry (λ x. same-target (target-of e x) (target-of e (s .here))) s t (target-self (target-of e (s .here))) sn)
+
+  pub one-tag : (s t : Split es) → same-name e (name (s .here)) (name (t .here)) ≡ true → tag (t .here) ≡ tag (s .here)
+  one-tag s t sn = eqb-true _ _ (one-entry (λ x. eqb (tag x) (tag (s .here))) s t (eq-eqb (tag (s .here)) (tag (s .here)) refl) sn)
 
   pub one-name : (s t : Split es) → same-name e (name (s .here)) (name (t .here)) ≡ true → name (t .here) ≡ name (s .here)
   one-name s t sn = same-eq (name (t .here)) (name (s .here)) (one-entry (λ x. same (name x) (name (s .here))) s t (same-refl (name (s .here))) sn)

@@ -15,7 +15,7 @@ use Rattle.be.proofs.Bools.{keep-append}
 use Rattle.edition.specs.declared.Edition.{Edition}
 use Rattle.edition.specs.Edition.{entry-size, Sane}
 use Rattle.name.specs.Name.{hash-of, same-name, fixed-name}
-use Rattle.dir_block_rules.specs.Record.{Rec, rec, target-of, size, is-gap, is-entry, entries, gaps, name, gap-writes}
+use Rattle.dir_block_rules.specs.Record.{Rec, rec, target-of, size, is-gap, is-entry, entries, gaps, name, tag, gap-writes}
 use Rattle.dir_block_rules.specs.Block.{records, slots, stale-of, data-end}
 use Rattle.dir_block_rules.specs.Verdict.{Accepted, best-pairs}
 use Rattle.dir_block_rules.specs.Lookup.{sought, target-at}
@@ -28,7 +28,7 @@ use Rattle.be.proofs.Splits.{Split, every-at}
 use Rattle.dir_block_rules.proofs.SearchFinds.{First, seek-hit, seek-first, Owner, match-owner, hit-is}
 use Rattle.dir_block_rules.proofs.PartsAddUp.{entry-long}
 use Rattle.name.proofs.Same.{same-name-length, same-name-fixed}
-use Rattle.dir_block_rules.proofs.AcceptedParts.{Found-in, keep-find, good-of, apart-of, reads-of, place-of, target-is}
+use Rattle.dir_block_rules.proofs.AcceptedParts.{Found-in, keep-find, good-of, apart-of, reads-of, place-of, target-is, tag-is}
 use Rattle.dir_block_rules.proofs.ChangeAccepted.{After}
 use Rattle.dir_block_rules.proofs.RemoveAccepted.{Removable, Front, Back, fr, bk, from, freed, left, stale-slots, free-writes, remove-entry, freed-long, entries-before, entries-left}
 
@@ -178,6 +178,10 @@ module _ (e : Edition) (sane : Sane e) (b : List ℕ) (h : bytes b ≡ true) (a 
     -- the number and the file type that stand there
     pub target-found : target-at e b (sought e b n .at) ≡ target-of e (spot .here)
     target-found = ap (target-at e b) at-spot ∙ target-is e sane b h a spot
+
+    -- and the tag, which the entry stores too
+    pub tag-found : sought e b n .at ≡ tag (spot .here)
+    tag-found = at-spot ∙ sym (tag-is e sane b h a spot)
 
     pub removed-of : fixed-name n ≡ false → Removed e b n (changed e b (remove-writes e b n))
     unfolding spot

@@ -1,4 +1,4 @@
--- Demand 2, lookup: the number stored under the name, or absent exactly when no live entry bears it, with the names compared.
+-- Demand 2, lookup: number and tag stored under the name, or absent exactly when no live entry bears it, with the names compared.
 -- Assumes nothing.
 use Prim.Native.Nat.{ℕ, suc, _+_, _*_}
 use native.Mathlib.Nat.{zero-add}
@@ -19,17 +19,17 @@ use Rattle.name.specs.Name.{hash-of, same-name, legal-name}
 use Rattle.name.proofs.Same.{same-name-sym, same-name-trans, same-name-hash}
 use Rattle.dir.specs.declared.Looked.the-variants.{Found, Absent}
 use Rattle.dir.specs.declared.Target.{Target}
-use Rattle.dir_block_rules.specs.Record.{Rec, entries, name, target-of}
+use Rattle.dir_block_rules.specs.Record.{Rec, entries, name, target-of, tag}
 use Rattle.dir_block_rules.specs.Block.{Slot, records, slots, stale-of, is-live}
 use Rattle.dir_block_rules.specs.Verdict.{Accepted}
-use Rattle.dir.specs.Answers.{looked-code, looked-target, looked-compared}
-use Rattle.dir_block_rules.specs.Lookup.{candidate, match, step-if, seek, sought, name-at, target-at, bears, up-to, names-compared, lookup, lookup-refusal, lookup-code, lookup-target, lookup-compared}
+use Rattle.dir.specs.Answers.{looked-code, looked-target, looked-tag, looked-compared}
+use Rattle.dir_block_rules.specs.Lookup.{candidate, match, step-if, seek, sought, name-at, target-at, bears, up-to, names-compared, lookup, lookup-refusal, lookup-code, lookup-target, lookup-tag, lookup-compared}
 use Rattle.dir_block_rules.specs.Claims.{borne, Lookup-right}
 use Rattle.be.proofs.Splits.{Split, split-cons, some-at, some-split}
 use Rattle.dir_block_rules.proofs.SearchFinds.{Owner, owner, read-at}
 use Rattle.dir_block_rules.proofs.AcceptedParts.{good-of, apart-of, reads-of}
-use Rattle.dir_block_rules.proofs.BooksAgree.{one-target}
-use Rattle.dir_block_rules.proofs.LookupFinds.{hit-of, spot, spot-name, target-found}
+use Rattle.dir_block_rules.proofs.BooksAgree.{one-target, one-tag}
+use Rattle.dir_block_rules.proofs.LookupFinds.{hit-of, spot, spot-name, target-found, tag-found}
 
 -- a lookup's number
 pub lookup-is : (e : Edition) (b n : List ℕ) → looked-code (lookup e b n) ≡ lookup-code e b n
@@ -42,6 +42,12 @@ lookup-is e b n =
 pub target-is : (e : Edition) (b n : List ℕ) → looked-target (lookup e b n) ≡ lookup-target e b n
 unfolding lookup lookup-code lookup-target
 target-is e b n =
+    by-cases (eqb (lookup-refusal e b n) 0)
+    (λ q. by-cases (sought e b n .hit) (λ h. rw (q, h) refl) (λ h. rw (q, h) refl)) (λ q. rw (q, q) refl)
+
+pub tag-is : (e : Edition) (b n : List ℕ) → looked-tag (lookup e b n) ≡ lookup-tag e b n
+unfolding lookup lookup-code lookup-tag
+tag-is e b n =
     by-cases (eqb (lookup-refusal e b n) 0)
     (λ q. by-cases (sought e b n .hit) (λ h. rw (q, h) refl) (λ h. rw (q, h) refl)) (λ q. rw (q, q) refl)
 
@@ -106,7 +112,7 @@ module _ (e : Edition) (sane : Sane e) (b : List ℕ) (h : bytes b ≡ true) (a 
 
   module _ (l : legal-name e n ≡ true) where
     looked-found : (xs : List Rec) (r : Rec) (ys : List Rec) → entries (records e b) ≡ xs ++ r ∷ ys → same-name e n (name r) ≡ true
-        → lookup e b n ≡ Found (target-of e r) (names-compared e b n)
+        → lookup e b n ≡ Found (target-of e r) (tag r) (names-compared e b n)
     unfolding lookup lookup-refusal
     looked-found xs r ys q sn =
         let t : Split (entries (records e b)) = record { before = xs; here = r; behind = ys; is = q } in
@@ -117,7 +123,8 @@ module _ (e : Edition) (sane : Sane e) (b : List ℕ) (h : bytes b ≡ true) (a 
         same-name-trans e (name r) n (name (s .here)) (same-name-sym e n (name r) sn) (spot-name e sane b h a n ht) in
         let tr : target-at e b (sought e b n .at) ≡ target-of e r =
         target-found e sane b h a n ht ∙ one-target e (entries (records e b)) (good-of e sane b h a .once) t s rs in
-        rw (a, l, ht) (ap (λ (i : Target). Found i (names-compared e b n)) tr)
+        let tg : sought e b n .at ≡ tag r = tag-found e sane b h a n ht ∙ one-tag e (entries (records e b)) (good-of e sane b h a .once) t s rs in
+        rw (a, l, ht) (ap₂ (λ (i : Target) (g : ℕ). Found i g (names-compared e b n)) tr tg)
 
     looked-absent : borne e b n ≡ false → lookup e b n ≡ Absent (names-compared e b n)
     unfolding lookup lookup-refusal

@@ -15,7 +15,7 @@ use Rattle.dir.specs.declared.Looked.{Looked}
 use Rattle.dir.specs.declared.Looked.the-variants.{Found, Absent, Refused}
 use Rattle.dir.specs.declared.Target.{Target}
 use Rattle.dir.specs.Target.{target, no-target}
-use Rattle.dir.specs.Answers.{looked-code, looked-target, looked-compared}
+use Rattle.dir.specs.Answers.{looked-code, looked-target, looked-tag, looked-compared}
 use Rattle.dir_block_rules.specs.Block.{Slot, slots, is-live}
 use Rattle.dir_block_rules.specs.Verdict.{verdict}
 
@@ -90,6 +90,10 @@ lookup-code e b n = lookup-refusal e b n and-then ABSENT unless sought e b n .hi
 unfoldable pub lookup-target : Edition → List ℕ → List ℕ → Target
 lookup-target e b n = cond (eqb (lookup-code e b n) 0) (target-at e b (sought e b n .at)) no-target
 
+-- its entry's tag, which is the entry's own offset
+unfoldable pub lookup-tag : Edition → List ℕ → List ℕ → ℕ
+lookup-tag e b n = cond (eqb (lookup-code e b n) 0) (sought e b n .at) 0
+
 -- the names compared, when the search is made
 unfoldable pub lookup-compared : Edition → List ℕ → List ℕ → ℕ
 lookup-compared e b n = cond (eqb (lookup-refusal e b n) 0) (names-compared e b n) 0
@@ -97,7 +101,9 @@ lookup-compared e b n = cond (eqb (lookup-refusal e b n) 0) (names-compared e b 
 -- what a search answers
 abbrev pub looked-of : Edition → List ℕ → List ℕ → Looked
 looked-of e b n =
-    cond (sought e b n .hit) (Found (target-at e b (sought e b n .at)) (names-compared e b n)) (Absent (names-compared e b n))
+    cond (sought e b n .hit)
+    (Found (target-at e b (sought e b n .at)) (sought e b n .at) (names-compared e b n))
+    (Absent (names-compared e b n))
 
 unfoldable pub lookup : Edition → List ℕ → List ℕ → Looked
 lookup e b n = cond (eqb (lookup-refusal e b n) 0) (looked-of e b n) (Refused (lookup-refusal e b n))
@@ -105,4 +111,5 @@ lookup e b n = cond (eqb (lookup-refusal e b n) 0) (looked-of e b n) (Refused (l
 -- what a lookup promises of its answer: the answer itself, and its number and values
 abbrev pub Lookup-promise : Edition → List ℕ → List ℕ → Looked → Type 0
 Lookup-promise e b n r =
-    (r ≡ lookup e b n) × (looked-code r ≡ lookup-code e b n) × (looked-target r ≡ lookup-target e b n) × (looked-compared r ≡ lookup-compared e b n)
+    (r ≡ lookup e b n) × (looked-code r ≡ lookup-code e b n) × (looked-target r ≡ lookup-target e b n) × (looked-tag r ≡ lookup-tag e b n)
+    × (looked-compared r ≡ lookup-compared e b n)

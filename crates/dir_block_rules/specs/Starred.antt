@@ -16,7 +16,7 @@ use Rattle.dir.specs.Target.{target, legal-target, legal-type}
 use Rattle.dir_block_rules.specs.Record.{pad, says, cut, record-ok, apart, size, gaps, entry-bytes, gap-writes}
 use Rattle.dir_block_rules.specs.Block.{records, slots, slots-in, slot, slot-bytes, count-of, stale-of, data-end}
 use Rattle.dir_block_rules.specs.Verdict.{Pair, pair, best-pairs, pairs-in, verdict, size-ok, magic-ok, span-ok, fills, tile-ok, names-ok, numbers-ok, number-fits, own-in, index-ok, rising, best-ok, once-ok}
-use Rattle.dir.specs.Answers.{looked-code, looked-target, looked-compared}
+use Rattle.dir.specs.Answers.{looked-code, looked-target, looked-tag, looked-compared}
 use Rattle.dir_block_rules.specs.Lookup.{seek, sought, up-to, names-compared, lookup, lookup-refusal}
 use Rattle.dir_block_rules.specs.Room.{last-of, touching, room-of, has-room, case-a, case-b}
 use Rattle.dir_block_rules.specs.Change.{longest, pair-bytes, best-of, with-best, sealed, changed, index-writes, insert-slot, writes-a, writes-b, writes-c, writes-d, insert-writes, insert-code, insert-bytes, gap-start-before, gap-end-after, remove-writes, remove-code, remove-bytes}
@@ -30,12 +30,12 @@ pub record Shape : Type 0 where
   pub stale : ℕ
   pub gaps : List Pair
 
--- a lookup: its number, the inode number, the names compared, and the offset of the entry found
+-- a lookup: its number, the inode number, the tag of the entry found, and the names compared
 pub record Answer : Type 0 where
   pub number : ℕ
   pub inode : ℕ
+  pub tag : ℕ
   pub compared : ℕ
-  pub offset : ℕ
 
 -- an insert: its number, and the block that it leaves
 pub record Insertion : Type 0 where
@@ -49,7 +49,7 @@ shape b = record { verdict = verdict v4 b; count = count-of b; stale = stale-of 
 unfoldable pub answer : List ℕ → List ℕ → Answer
 answer b n =
     let a = lookup v4 b n in
-    record { number = looked-code a; inode = looked-target a .inode; compared = looked-compared a; offset = sought v4 b n .at }
+    record { number = looked-code a; inode = looked-target a .inode; tag = looked-tag a; compared = looked-compared a }
 
 unfoldable pub inserted : List ℕ → List ℕ → Insertion
 inserted b n = record { number = insert-code v4 b n (target 150 0); leaves = shape (insert-bytes v4 b n (target 150 0)) }
@@ -66,7 +66,7 @@ abbrev pub shape-row : Shape → Shape → Row
 shape-row computed stated = row (shape-columns computed) (shape-columns stated)
 
 abbrev pub answer-columns : Answer → List ℕ
-answer-columns a = a .number ∷ a .inode ∷ a .compared ∷ a .offset ∷ []
+answer-columns a = a .number ∷ a .inode ∷ a .tag ∷ a .compared ∷ []
 
 abbrev pub answer-row : Answer → Answer → Row
 answer-row computed stated = row (answer-columns computed) (answer-columns stated)
@@ -131,7 +131,7 @@ by-b = 2
 unfoldable pub by-case : List ℕ → List ℕ → ℕ
 by-case b n = cond (case-a (room-of v4 b n)) by-a (cond (case-b (room-of v4 b n)) by-b 0)
 
--- C1 to C5: what the definitions give, and what the paper states, with the columns that follow from it (count, offset, compared); a refused
+-- C1 to C5: what the definitions give, and what the paper states, with the columns that follow from it (count, tag, compared); a refused
 -- insert leaves the block as it was
 unfoldable pub block-rows : List Row
 block-rows =
@@ -139,10 +139,10 @@ block-rows =
     shape-row (shape c1) (record { verdict = 0; count = 2; stale = 0; gaps = pair 48 440 ∷ [] })
     -- C2: entry at 48, gap 64 length 416
     ∷ shape-row (shape c2) (record { verdict = 0; count = 3; stale = 0; gaps = pair 64 416 ∷ [] })
-    ∷ answer-row (answer c2 a₁) (record { number = 0; inode = 131; compared = 1; offset = 48 })
+    ∷ answer-row (answer c2 a₁) (record { number = 0; inode = 131; tag = 48; compared = 1 })
     -- C3: gap 48 length 432, count 3, stale 1
     ∷ shape-row (shape c3) (record { verdict = 0; count = 3; stale = 1; gaps = pair 48 432 ∷ [] })
-    ∷ answer-row (answer c3 a₁) (record { number = 13; inode = 0; compared = 0; offset = 0 })
+    ∷ answer-row (answer c3 a₁) (record { number = 13; inode = 0; tag = 0; compared = 0 })
     -- C4: a gap of 160; then 141 bytes goes in, 142 is refused
     ∷ shape-row (shape c4) (record { verdict = 0; count = 3; stale = 0; gaps = pair 320 160 ∷ [] })
     ∷ insert-row (inserted c4 (cs 141)) (record { number = 0; leaves = record { verdict = 0; count = 4; stale = 0; gaps = [] } })

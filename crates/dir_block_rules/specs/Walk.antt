@@ -20,9 +20,10 @@ use Rattle.dir_block_rules.specs.Record.{Rec, rec, size, is-gap, namelen
 use Rattle.dir_block_rules.specs.Block.{records, data-end}
 use Rattle.dir_block_rules.specs.Verdict.{verdict}
 
--- a live entry: what its name stands for, and its name as a part of the block, which starts after number and namelen
+-- a live entry: what its name stands for, its tag, which is its own offset, and its name as a part of the block, which starts after number
+-- and namelen
 abbrev pub entry-of : Edition → Rec → Entry
-entry-of e r = record { target = target-of e r; start = r .off + 9; len = namelen r }
+entry-of e r = record { target = target-of e r; tag = r .off; start = r .off + 9; len = namelen r }
 
 abbrev pub seen-of : Edition → Rec → Seen
 seen-of e r = cond (is-gap r) Gap (Live (entry-of e r))

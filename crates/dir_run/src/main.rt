@@ -23,13 +23,18 @@ fn test(label: &[u8], b: &[u8]) {
     text(b"\n");
 }
 
-// A lookup: the number and the names compared, or the refusal.
+// A lookup: number, tag and names compared, or the refusal.
 fn look(b: &[u8], name: &[u8]) {
     text(b"lookup ");
     text(name);
     match dir_block_lookup::lookup(b, name) {
-        Looked::Found { target, compared } => {
+        Looked::Found {
+            target,
+            tag,
+            compared,
+        } => {
             number(target.inode);
+            number(tag as u64);
             number(compared as u64);
         }
         Looked::Absent { compared } => {
@@ -50,6 +55,7 @@ fn seen(s: Step) {
         Seen::Live(n) => {
             text(b" live");
             number(n.target.inode);
+            number(n.tag as u64);
             number(n.start as u64);
             number(n.len as u64);
         }

@@ -1,8 +1,8 @@
--- Laws of the names asked for and stored: `same-name`, `holds`, `target-in`.
+-- Laws of the names asked for and stored: `same-name`, `holds`, `entry-in`.
 -- Assumes nothing.
 use Prim.Native.Nat.{ℕ}
 use mathlib.Core.Bool.{Bool, true, false, not}
-use mathlib.Core.Path.{_≡_, refl}
+use mathlib.Core.Path.{_≡_, refl, ap}
 use mathlib.Core.List.{List, [], _∷_}
 use borrow.Author.Tests.{not-true}
 use Rattle.edition.specs.declared.Edition.{Edition}
@@ -10,9 +10,9 @@ use Rattle.name.specs.Name.{same-name}
 use Rattle.name.proofs.Same.{same-name-trans}
 use Rattle.be.proofs.Bools.{and-left, and-right, by-cases, clash, or-right, neither}
 use Rattle.dir.specs.Target.{no-target}
-use Rattle.dir_sf.specs.Entry.{SfEntry}
+use Rattle.dir_sf.specs.Entry.{SfEntry, no-entry}
 use Rattle.dir_sf.specs.Fork.{holds, once-ok}
-use Rattle.dir_sf.specs.Change.{target-in}
+use Rattle.dir_sf.specs.Change.{entry-in, target-in}
 
 -- a test that would follow fails where its consequence does
 pub fails : (a b : Bool) → (a ≡ true → b ≡ true) → b ≡ false → a ≡ false
@@ -31,13 +31,17 @@ holds-same e m n (x ∷ xs) s h =
 pub absent-same : (e : Edition) (m n : List ℕ) (xs : List SfEntry) → same-name e m n ≡ true → holds e m xs ≡ false → holds e n xs ≡ false
 absent-same e m n xs s h = fails (holds e n xs) (holds e m xs) (holds-same e m n xs s) h
 
--- a name that no entry bears stands for nothing
-pub absent-target : (e : Edition) (n : List ℕ) (xs : List SfEntry) → holds e n xs ≡ false → target-in e n xs ≡ no-target
-unfolding holds target-in
-absent-target e n [] h = refl
-absent-target e n (x ∷ xs) h =
+-- a name that no entry bears has none
+pub absent-entry : (e : Edition) (n : List ℕ) (xs : List SfEntry) → holds e n xs ≡ false → entry-in e n xs ≡ no-entry
+unfolding holds entry-in
+absent-entry e n [] h = refl
+absent-entry e n (x ∷ xs) h =
     let o = neither (same-name e n (x .name)) _ h in
-    rw (o .0) (absent-target e n xs (o .1))
+    rw (o .0) (absent-entry e n xs (o .1))
+
+-- and stands for nothing
+pub absent-target : (e : Edition) (n : List ℕ) (xs : List SfEntry) → holds e n xs ≡ false → target-in e n xs ≡ no-target
+absent-target e n xs h = ap (λ (x : SfEntry). x .target) (absent-entry e n xs h)
 
 pub once-head : (e : Edition) (x : SfEntry) (xs : List SfEntry) → once-ok e (x ∷ xs) ≡ true → holds e (x .name) xs ≡ false
 unfolding once-ok

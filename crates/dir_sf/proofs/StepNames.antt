@@ -77,11 +77,11 @@ module _ (e : Edition) (sane : Sane e) (told : ℕ) (b : List ℕ) (v : verdict 
       step-walked e told b p v
       ∙ rw (stands-start (size-at e w u) (length ys) k (2 + w) (omega (arith, inside)), ne-eqb p (start (size-at e w u) k (2 + w)) not-end) refl
 
-  seen : step-seen e told b p ≡ Live (record { target = x .target; start = e .literal + (p + 3); len = length (x .name) })
+  seen : step-seen e told b p ≡ Live (record { target = x .target; tag = x .tag; start = e .literal + (p + 3); len = length (x .name) })
   unfolding entry-step
   seen =
       sym (seen-is e told b p) ∙ ap walked-seen stepped
-      ∙ ap (λ (y : SfEntry). Live (record { target = y .target; start = e .literal + (p + 3); len = length (y .name) })) (sym there)
+      ∙ ap (λ (y : SfEntry). Live (record { target = y .target; tag = y .tag; start = e .literal + (p + 3); len = length (y .name) })) (sym there)
 
   named-part : part (e .literal + (p + 3)) (length (x .name)) b ≡ x .name
   named-part =

@@ -21,13 +21,13 @@ use Rattle.dir.specs.declared.Looked.{Looked}
 use Rattle.dir.specs.declared.Looked.the-variants.{Found, Absent, Refused}
 use Rattle.dir.specs.declared.Target.{Target}
 use Rattle.dir.specs.Target.{no-target}
-use Rattle.dir.specs.Answers.{looked-code, looked-target, looked-compared}
+use Rattle.dir.specs.Answers.{looked-code, looked-target, looked-tag, looked-compared}
 use Rattle.name.specs.Name.{legal-name, dot, dotdot}
 use Rattle.dir_sf.specs.Entry.{SfEntry, width-of, filled, tags-ok, wides-of}
 use Rattle.dir_sf.specs.Fork.{count-of, stored-wides, used-width, parent, entries, holds, span-ok, tile-ok, names-ok, numbers-ok, once-ok, used-verdict, fork-verdict}
-use Rattle.dir_sf.specs.Change.{lookup-request, target-for}
+use Rattle.dir_sf.specs.Change.{lookup-request, entry-for}
 use Rattle.dir_sf.specs.Inner.{enough, Readable}
-use Rattle.dir_sf.specs.Inode.{size-of, verdict, used, looked, lookup, lookup-code, lookup-target, Lookup-promise}
+use Rattle.dir_sf.specs.Inode.{size-of, verdict, used, looked, lookup, lookup-code, lookup-target, lookup-tag, found-entry, Lookup-promise}
 use Rattle.dir_sf.proofs.Leaves.{width-least}
 use Rattle.dir_sf.proofs.Run.{filled-enough}
 use Rattle.dir_sf.proofs.Inodes.{bounds, size-in}
@@ -154,27 +154,28 @@ pub lent-readable : (e : Edition) (sane : Sane e) (told c z : ℕ) (b : List ℕ
 lent-readable e sane told c z b h f q = rw (used-is e sane told b (sym h ∙ f) z q) (used-readable e sane told b (sym h ∙ f))
 
 -- a lookup's number and values
-answer-is : (l d p : Bool) (t : Target) (xs : Looked) → xs ≡ (Refused ASKED unless l then Refused FIXED unless not d then Absent 0 unless p then Found t 0)
-    → (looked-code xs ≡ (ASKED unless l then FIXED unless not d then ABSENT unless p then 0))
-    × (looked-target xs ≡ cond (eqb (ASKED unless l then FIXED unless not d then ABSENT unless p then 0) 0) t no-target) × (looked-compared xs ≡ 0)
-answer-is false d p t xs h = rw h (refl, refl, refl)
-answer-is true true p t xs h = rw h (refl, refl, refl)
-answer-is true false false t xs h = rw h (refl, refl, refl)
-answer-is true false true t xs h = rw h (refl, refl, refl)
+answer-is : (l d p : Bool) (x : SfEntry) (r : Looked) → r ≡ (Refused ASKED unless l then Refused FIXED unless not d then Absent 0 unless p then found-entry x)
+    → (looked-code r ≡ (ASKED unless l then FIXED unless not d then ABSENT unless p then 0))
+    × (looked-target r ≡ cond (eqb (ASKED unless l then FIXED unless not d then ABSENT unless p then 0) 0) (x .target) no-target)
+    × (looked-tag r ≡ cond (eqb (ASKED unless l then FIXED unless not d then ABSENT unless p then 0) 0) (x .tag) 0) × (looked-compared r ≡ 0)
+answer-is false d p x r h = rw h (refl, refl, refl, refl)
+answer-is true true p x r h = rw h (refl, refl, refl, refl)
+answer-is true false false x r h = rw h (refl, refl, refl, refl)
+answer-is true false true x r h = rw h (refl, refl, refl, refl)
 
 module _ (e : Edition) (told : ℕ) (b n : List ℕ) where
   values : (looked-code (lookup e told b n) ≡ lookup-code e told b n) × (looked-target (lookup e told b n) ≡ lookup-target e told b n)
-      × (looked-compared (lookup e told b n) ≡ 0)
-  unfolding lookup lookup-code lookup-target looked lookup-request
+      × (looked-tag (lookup e told b n) ≡ lookup-tag e told b n) × (looked-compared (lookup e told b n) ≡ 0)
+  unfolding lookup lookup-code lookup-target lookup-tag looked lookup-request
   values =
       let xs : List SfEntry = entries e (used e b) in
       by-cases (eqb (verdict e told b) 0)
-      (λ q. rw q (answer-is (legal-name e n) (same n dot) (same n dotdot || holds e n xs) (target-for e n (parent (used e b)) xs) _ refl))
-      (λ q. rw (q, q) (refl, refl, refl))
+      (λ q. rw q (answer-is (legal-name e n) (same n dot) (same n dotdot || holds e n xs) (entry-for e n (parent (used e b)) xs) _ refl))
+      (λ q. rw (q, q) (refl, refl, refl, refl))
 
 -- of the edition that was made
 pub lookup-made : (e f : Edition) (told : ℕ) (b n : List ℕ) (r : Looked) → r ≡ lookup e told b n → e ≡ f → Lookup-promise f told b n r
 lookup-made e f told b n r h q =
     let k : r ≡ lookup f told b n = h ∙ ap (λ (x : Edition). lookup x told b n) q in
     let v = values f told b n in
-    (k, ap looked-code k ∙ v .0, ap looked-target k ∙ v .1, ap looked-compared k ∙ v .2)
+    (k, ap looked-code k ∙ v .0, ap looked-target k ∙ v .1, ap looked-tag k ∙ v .2, ap looked-compared k ∙ v .3)

@@ -30,7 +30,7 @@ use Rattle.dir_sf.specs.Inode.{size-of, verdict, used}
 use Rattle.dir_sf.proofs.Tested.{used-is}
 use Rattle.dir_sf.proofs.Leaves.{one-in}
 use Rattle.dir_sf.proofs.Listed.{list-enough}
-use Rattle.dir_sf.proofs.Run.{Run, run-start, run-on, run-one, long-at-is, name-at-is, target-at-is}
+use Rattle.dir_sf.proofs.Run.{Run, run-start, run-on, run-one, long-at-is, tag-at-is, name-at-is, target-at-is}
 
 pub record Walk (e : Edition) (w : ℕ) (u : List ℕ) (first k place i p : ℕ) : Type 0 where
   pub run : Run e w u first k i p
@@ -84,23 +84,24 @@ module _ (e : Edition) (w : ℕ) (u : List ℕ) (first k place i p n v : ℕ) (s
         rest = s .rest ∙ step-miss e w u (k - i) p place (omega arith) f ∙ ap₂ (λ (j q : ℕ). walked-over e w u j q place) fewer next;
       }
 
-  hit : place ≡ p → (j : Target) → j ≡ target (field (p + 3 + n + e .ftype) w u) (field (p + 3 + n) (e .ftype) u)
-      → Stepped (record { next = p + 3 + n + v; seen = Live (record { target = j; start = e .literal + (p + 3); len = n }) }) ≡ walked-over e w u k first place
+  hit : place ≡ p → (j : Target) (g : ℕ) → j ≡ target (field (p + 3 + n + e .ftype) w u) (field (p + 3 + n) (e .ftype) u) → g ≡ field (p + 1) 2 u
+      → Stepped (record { next = p + 3 + n + v; seen = Live (record { target = j; tag = g; start = e .literal + (p + 3); len = n }) }) ≡ walked-over e w u k first place
   unfolding entry-step
-  hit f j c =
+  hit f j g c o =
       let x : entry-at e w u p .target ≡ j = target-at-is e w u p n a ∙ sym c in
       let z : length (entry-at e w u p .name) ≡ n =
       rw (name-at-is e w u p) (simp (length-take, length-drop) (omega (arith, one-in e w p u (run-one e w u first k i p (s .run) h)))) in
       sym (s .rest ∙ step-hit e w u (k - i) p place (omega arith) f
-      ∙ ap (λ (y : ℕ). Stepped (record { next = y; seen = Live (record { target = entry-at e w u p .target; start = e .literal + (p + 3); len = length (entry-at e w u p .name) }) })) next
-      ∙ ap₂ (λ (y₁ : Target) (y₂ : ℕ). Stepped (record { next = p + 3 + n + v; seen = Live (record { target = y₁; start = e .literal + (p + 3); len = y₂ }) })) x z)
+      ∙ ap₂ (λ (y₁ y₂ : ℕ). Stepped (record { next = y₁; seen = Live (record { target = entry-at e w u p .target; tag = y₂; start = e .literal + (p + 3); len = length (entry-at e w u p .name) }) })) next
+      (tag-at-is e w u p ∙ sym o)
+      ∙ ap₂ (λ (y₁ : Target) (y₂ : ℕ). Stepped (record { next = p + 3 + n + v; seen = Live (record { target = y₁; tag = g; start = e .literal + (p + 3); len = y₂ }) })) x z)
 
 module _ (e : Edition) (u : List ℕ) (k wides place i p : ℕ) (a : k ≡ getD u 0 0) (b : wides ≡ getD u 1 0)
     (s : Walk e (width-of wides) u (2 + width-of wides) k place i p) where
-  pub walk-hit : (n v : ℕ) (j : Target) → i < k → n ≡ getD u p 0 → v ≡ e .ftype + width-of wides → place ≡ p
-      → j ≡ target (field (p + 3 + n + e .ftype) (width-of wides) u) (field (p + 3 + n) (e .ftype) u)
-      → Stepped (record { next = p + 3 + n + v; seen = Live (record { target = j; start = e .literal + (p + 3); len = n }) }) ≡ walked-in e u place
-  walk-hit n v j h e₀ c f g = hit e (width-of wides) u (2 + width-of wides) k place i p n v s h e₀ c f j g ∙ whole e u k wides place a b
+  pub walk-hit : (n v g : ℕ) (j : Target) → i < k → n ≡ getD u p 0 → v ≡ e .ftype + width-of wides → place ≡ p
+      → j ≡ target (field (p + 3 + n + e .ftype) (width-of wides) u) (field (p + 3 + n) (e .ftype) u) → g ≡ field (p + 1) 2 u
+      → Stepped (record { next = p + 3 + n + v; seen = Live (record { target = j; tag = g; start = e .literal + (p + 3); len = n }) }) ≡ walked-in e u place
+  walk-hit n v g j h e₀ c f t o = hit e (width-of wides) u (2 + width-of wides) k place i p n v s h e₀ c f j g t o ∙ whole e u k wides place a b
 
   over : k ≤ i → walked-in e u place ≡ cond (eqb place p) (at-end place) (Refused ASKED)
   over h = sym (whole e u k wides place a b) ∙ s .rest ∙ step-last e (width-of wides) u (k - i) p place (omega arith)

@@ -12,18 +12,25 @@ use Rattle.edition.specs.declared.Edition.{Edition}
 use Rattle.edition.specs.Edition.{entry-size}
 use Rattle.name.specs.Name.{legal-name, same-name, fixed-name, dot, dotdot}
 use Rattle.dir.specs.declared.Target.{Target}
-use Rattle.dir.specs.Target.{target, no-target, legal-target, kept-of}
+use Rattle.dir.specs.Target.{target, legal-target, kept-of}
 use Rattle.dir_sf.specs.declared.FreeTag.{FreeTag}
 use Rattle.dir_sf.specs.declared.FreeTag.the-variants.{At, Nowhere}
-use Rattle.dir_sf.specs.Entry.{SfEntry, entry, is-wide, wides-of, next-tag, end-tag, in-block}
+use Rattle.dir_sf.specs.Entry.{SfEntry, entry, no-entry, is-wide, wides-of, next-tag, end-tag, in-block}
 use Rattle.dir_sf.specs.Fork.{lay, holds}
 
 -- ---- lookup
 
--- what is stored with the first entry of the name
-unfoldable pub target-in : Edition → List ℕ → List SfEntry → Target
-target-in e n [] = no-target
-target-in e n (x ∷ xs) = cond (same-name e n (x .name)) (x .target) (target-in e n xs)
+-- the first entry of the name; where there is none, an empty one
+unfoldable pub entry-in : Edition → List ℕ → List SfEntry → SfEntry
+entry-in e n [] = no-entry
+entry-in e n (x ∷ xs) = cond (same-name e n (x .name)) x (entry-in e n xs)
+
+-- what its name stands for, and its tag
+abbrev pub target-in : Edition → List ℕ → List SfEntry → Target
+target-in e n xs = entry-in e n xs .target
+
+abbrev pub tag-in : Edition → List ℕ → List SfEntry → ℕ
+tag-in e n xs = entry-in e n xs .tag
 
 -- 11 ASKED, 12 FIXED ("." looked up in a short form), 13 ABSENT
 unfoldable pub lookup-request : Edition → List ℕ → List SfEntry → ℕ
@@ -32,9 +39,13 @@ lookup-request e n xs =
     FIXED unless not (same n dot) then
     ABSENT unless same n dotdot || holds e n xs then 0
 
--- Lookup of ".." gives the parent, a directory: type 2 where the edition has one
-unfoldable pub target-for : Edition → List ℕ → ℕ → List SfEntry → Target
-target-for e n p xs = cond (same n dotdot) (kept-of e (target p 2)) (target-in e n xs)
+-- Lookup of ".." gives the parent, a directory: type 2 where the edition has one; it reports tag 0
+abbrev pub parent-entry : Edition → ℕ → SfEntry
+parent-entry e p = entry 0 dotdot (kept-of e (target p 2))
+
+-- the entry that a lookup finds
+unfoldable pub entry-for : Edition → List ℕ → ℕ → List SfEntry → SfEntry
+entry-for e n p xs = cond (same n dotdot) (parent-entry e p) (entry-in e n xs)
 
 -- ---- insert
 

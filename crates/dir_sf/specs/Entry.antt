@@ -11,7 +11,7 @@ use Rattle.records.specs.Records.{read-records, tiled, joined}
 use Rattle.edition.specs.declared.Edition.{Edition}
 use Rattle.edition.specs.Edition.{entry-size}
 use Rattle.dir.specs.declared.Target.{Target}
-use Rattle.dir.specs.Target.{target}
+use Rattle.dir.specs.Target.{target, no-target}
 
 -- Entry: namelen, tag, name, inode number; the file type between name and number where the edition has one
 pub record SfEntry : Type 0 where
@@ -21,6 +21,10 @@ pub record SfEntry : Type 0 where
 
 abbrev pub entry : ℕ → List ℕ → Target → SfEntry
 entry o n t = record { tag = o; name = n; target = t }
+
+-- none: what a search that misses has
+abbrev pub no-entry : SfEntry
+no-entry = entry 0 [] no-target
 
 -- Numbers are 8 bytes when i8count is not 0, else 4
 unfoldable pub width-of : ℕ → ℕ

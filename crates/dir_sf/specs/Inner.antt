@@ -15,7 +15,7 @@ use Rattle.dir.specs.declared.Walked.the-variants.{Stepped, Refused}
 use Rattle.dir_sf.specs.declared.Hit.{Hit}
 use Rattle.dir_sf.specs.Entry.{SfEntry, size-at, entries-in, filled, wides-of, tags-ok, end-tag, in-block}
 use Rattle.dir_sf.specs.Fork.{count-of, stored-wides, used-width, parent, entries, place-of, holds}
-use Rattle.dir_sf.specs.Change.{target-in}
+use Rattle.dir_sf.specs.Change.{target-in, tag-in}
 use Rattle.dir_sf.specs.Walk.{end-step, entry-step}
 
 -- k entries of u from a place on lie in u
@@ -40,12 +40,14 @@ unfoldable pub seek : Edition → List ℕ → List SfEntry → ℕ
 seek e n [] = 0
 seek e n (x ∷ xs) = let r = seek e n xs in cond (same-name e n (x .name)) 0 (suc r)
 
--- what the search for a name in the used bytes finds: whether an entry bears it, how many stand before that entry, where it starts, and what it stands for
+-- what the search for a name in the used bytes finds: whether an entry bears it, how many stand before that entry, where it starts, what it
+-- stands for, and its tag
 pub record Hits (e : Edition) (n u : List ℕ) (r : Hit) : Type 0 where
   pub held-is : r .held ≡ holds e n (entries e u)
   pub index-is : r .index ≡ seek e n (entries e u)
   pub at-is : r .at ≡ place-of e (r .index) u
   pub target-is : r .target ≡ target-in e n (entries e u)
+  pub tag-is : r .tag ≡ tag-in e n (entries e u)
 
 -- what the walk's pass over the used bytes answers: at the end, and at an entry
 abbrev pub at-end : ℕ → Walked

@@ -18,10 +18,10 @@ use Rattle.dir.specs.declared.Target.{Target}
 use Rattle.dir.specs.declared.Looked.{Looked}
 use Rattle.dir.specs.declared.Looked.the-variants.{Found, Absent, Refused}
 use Rattle.dir.specs.Target.{no-target}
-use Rattle.dir.specs.Answers.{looked-code, looked-target, looked-compared}
+use Rattle.dir.specs.Answers.{looked-code, looked-target, looked-tag, looked-compared}
 use Rattle.dir_sf.specs.Entry.{SfEntry}
 use Rattle.dir_sf.specs.Fork.{parent, entries, holds, lay, lay-fork, fork-verdict}
-use Rattle.dir_sf.specs.Change.{inserted, insert-request, removed, remove-request, lookup-request, target-for}
+use Rattle.dir_sf.specs.Change.{inserted, insert-request, removed, remove-request, lookup-request, entry-for}
 
 -- the size field
 abbrev pub size-of : List ℕ → ℕ
@@ -53,14 +53,22 @@ remove-code e told b n = verdict e told b and-then remove-request e n (parent (u
 -- what the name stands for, when it is found
 unfoldable pub lookup-target : Edition → ℕ → List ℕ → List ℕ → Target
 lookup-target e told b n =
-    cond (eqb (lookup-code e told b n) 0) (target-for e n (parent (used e b)) (entries e (used e b))) no-target
+    cond (eqb (lookup-code e told b n) 0) (entry-for e n (parent (used e b)) (entries e (used e b)) .target) no-target
 
--- the answer of a lookup in an accepted fork; no names are counted as compared
+-- its entry's tag, which is the stored one; 0 for ".."
+unfoldable pub lookup-tag : Edition → ℕ → List ℕ → List ℕ → ℕ
+lookup-tag e told b n = cond (eqb (lookup-code e told b n) 0) (entry-for e n (parent (used e b)) (entries e (used e b)) .tag) 0
+
+-- what a lookup tells of the entry that it finds; no names are counted as compared
+abbrev pub found-entry : SfEntry → Looked
+found-entry x = Found (x .target) (x .tag) 0
+
+-- the answer of a lookup in an accepted fork
 unfoldable pub looked : Edition → List ℕ → ℕ → List SfEntry → Looked
 looked e n p xs =
     Refused ASKED unless legal-name e n then
     Refused FIXED unless not (same n dot) then
-    Absent 0 unless same n dotdot || holds e n xs then Found (target-for e n p xs) 0
+    Absent 0 unless same n dotdot || holds e n xs then found-entry (entry-for e n p xs)
 
 unfoldable pub lookup : Edition → ℕ → List ℕ → List ℕ → Looked
 lookup e told b n =
@@ -69,7 +77,8 @@ lookup e told b n =
 -- what a lookup promises of its answer: the answer itself, and its number and values
 abbrev pub Lookup-promise : Edition → ℕ → List ℕ → List ℕ → Looked → Type 0
 Lookup-promise e told b n r =
-    (r ≡ lookup e told b n) × (looked-code r ≡ lookup-code e told b n) × (looked-target r ≡ lookup-target e told b n) × (looked-compared r ≡ 0)
+    (r ≡ lookup e told b n) × (looked-code r ≡ lookup-code e told b n) × (looked-target r ≡ lookup-target e told b n)
+    × (looked-tag r ≡ lookup-tag e told b n) × (looked-compared r ≡ 0)
 
 -- ---- what each change leaves
 

@@ -24,11 +24,11 @@ use Rattle.dir_sf.specs.Inode.{verdict, used}
 unfoldable pub end-step : ℕ → Step
 end-step p = record { next = p; seen = End }
 
--- the entry at place p of the used bytes; its name is given by where it starts in the inode
+-- the entry at place p of the used bytes: its tag is the stored one, its name is given by where it starts in the inode
 unfoldable pub entry-step : Edition → ℕ → List ℕ → ℕ → Step
 entry-step e w u p =
     let x = entry-at e w u p in
-    record { next = p + size-at e w u p; seen = Live (record { target = x .target; start = e .literal + (p + 3); len = length (x .name) }) }
+    record { next = p + size-at e w u p; seen = Live (record { target = x .target; tag = x .tag; start = e .literal + (p + 3); len = length (x .name) }) }
 
 -- places are record starts and the list's end, starting after the header
 unfoldable pub place-in : Edition → List ℕ → ℕ → Bool

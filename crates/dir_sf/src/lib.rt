@@ -335,12 +335,13 @@ pub fn parent_of(u: &[u8]) -> u64
     number(u, 2, be::be8(u, 1))
 }
 
-// What the search for a name finds: whether an entry bears it, how many stand before it, where it starts, what it stands for.
+// What the search for a name finds: whether an entry bears it, how many stand before it, where it starts, what it stands for, its tag.
 pub struct Hit {
     pub held: bool,
     pub index: usize,
     pub at: usize,
     pub target: Target,
+    pub tag: usize,
 }
 
 pub fn seek_name<'a, 'b>(e: Edition, u: &'a [u8], name: &'b [u8]) -> Hit
@@ -359,15 +360,18 @@ pub fn seek_name<'a, 'b>(e: Edition, u: &'a [u8], name: &'b [u8]) -> Hit
             index,
             at,
             target,
+            tag: 0,
         };
     }
     let n = namelen(e, u, at, wides);
     let target = target_at(e, u, at + 3 + n, wides);
+    let tag = be::be16(u, at + 1);
     Hit {
         held: true,
         index,
         at,
         target,
+        tag,
     }
 }
 
@@ -400,16 +404,20 @@ fn look<'a, 'b>(e: Edition, u: &'a [u8], name: &'b [u8]) -> Looked
             kind: 2,
         };
         let target = dir::kept(e, parent);
+        let tag = 0;
         return Looked::Found {
             target,
+            tag,
             compared: 0,
         };
     }
     let h = seek_name(e, u, name);
     if h.held {
         let target = h.target;
+        let tag = h.tag;
         return Looked::Found {
             target,
+            tag,
             compared: 0,
         };
     }
@@ -453,8 +461,10 @@ fn step_over(e: Edition, u: &[u8], place: usize) -> Walked
         let end = p + 3 + n;
         if place == p {
             let target = target_at(e, u, end, wides);
+            let tag = be::be16(u, p + 1);
             let live = Entry {
                 target,
+                tag,
                 start: e.literal + (p + 3),
                 len: n,
             };

@@ -20,7 +20,7 @@ use Rattle.dir_sf.specs.declared.FreeTag.{FreeTag}
 use Rattle.dir_sf.specs.declared.FreeTag.the-variants.{At, Nowhere}
 use Rattle.dir_sf.specs.Entry.{SfEntry, entry, next-tag, tags-ok, end-tag}
 use Rattle.dir_sf.specs.Fork.{holds, once-ok}
-use Rattle.dir_sf.specs.Change.{target-in, gap-tag, tag-for, put-by, is-free, placed, inserted}
+use Rattle.dir_sf.specs.Change.{entry-in, target-in, gap-tag, tag-for, put-by, is-free, placed, inserted}
 use Rattle.dir_sf.proofs.Names.{fails, once-head, once-tail, once-cons}
 use Rattle.dir_sf_edit.proofs.Accepted.{low-le-end}
 use Rattle.dir_sf.proofs.Tags.{tagged, untagged}
@@ -107,15 +107,15 @@ placed-once e y (x ∷ xs) h o =
 
 pub placed-target : (e : Edition) (m : List ℕ) (y : SfEntry) (xs : List SfEntry) → holds e (y .name) xs ≡ false
     → target-in e m (placed y xs) ≡ cond (same-name e m (y .name)) (y .target) (target-in e m xs)
-unfolding placed target-in
-placed-target e m y [] h = refl
+unfolding placed entry-in
+placed-target e m y [] h = by-cases (same-name e m (y .name)) (λ q. rw (q, target-in) refl) (λ q. rw (q, target-in) refl)
 placed-target e m y (x ∷ xs) h =
     by-cases (ltb (y .tag) (x .tag))
-    (λ q. rw q refl)
+    (λ q. by-cases (same-name e m (y .name)) (λ r. rw (q, r, target-in) refl) (λ r. rw (q, r, target-in) refl))
     (λ q.
     by-cases (same-name e m (x .name))
-    (λ r. rw (q, r, other-name e m y x xs h r) refl)
-    (λ r. rw (q, r) (placed-target e m y xs (rest-absent e (y .name) x xs h))))
+    (λ r. rw (q, r, other-name e m y x xs h r, target-in) refl)
+    (λ r. rw (q, r, target-in) (placed-target e m y xs (rest-absent e (y .name) x xs h))))
 
 -- ---- the tags
 

@@ -21,7 +21,7 @@ use Rattle.name.specs.Name.{legal-name, legal-number, same-name, fixed-name}
 use Rattle.name.proofs.Same.{same-name-refl, same-name-length}
 use Rattle.dir_sf.specs.Entry.{SfEntry, entry, width-of, entries-bytes, wides-of, next-tag, tags-ok, end-tag, in-block}
 use Rattle.dir_sf.specs.Fork.{lay, holds, numbers-ok}
-use Rattle.dir_sf.specs.Change.{target-in, gap-tag, tag-for, is-free, placed, inserted, has-room, insert-request, removed, remove-request}
+use Rattle.dir_sf.specs.Change.{entry-in, target-in, gap-tag, tag-for, is-free, placed, inserted, has-room, insert-request, removed, remove-request}
 use Rattle.dir_sf_edit.proofs.ReadBack.{length-entry-bytes, length-lay}
 use Rattle.dir_sf_edit.proofs.Accepted.{Good}
 use Rattle.dir_sf_edit.proofs.Removes.{removed-end, removed-length, removed-held, removed-wide, less-in-block}
@@ -100,12 +100,12 @@ removed-bytes e w n (x ∷ xs) h =
     (λ q. rw q (simp length-append (omega (arith, length-entry-bytes e w x, removed-bytes e w n xs (rw q at h)))))
 
 number-legal : (e : Edition) (n : List ℕ) (xs : List SfEntry) → holds e n xs ≡ true → every (λ x. legal-number (x .target .inode)) xs ≡ true → legal-number (target-in e n xs .inode) ≡ true
-unfolding holds target-in
+unfolding holds entry-in
 number-legal e n [] h k = absurd (clash h refl)
 number-legal e n (x ∷ xs) h k =
     by-cases (same-name e n (x .name))
-    (λ q. rw q (every-head (λ y. legal-number (y .target .inode)) x xs k))
-    (λ q. rw q (number-legal e n xs (rw q at h) (every-tail (λ y. legal-number (y .target .inode)) x xs k)))
+    (λ q. rw (q, target-in) (every-head (λ y. legal-number (y .target .inode)) x xs k))
+    (λ q. rw (q, target-in) (number-legal e n xs (rw q at h) (every-tail (λ y. legal-number (y .target .inode)) x xs k)))
 
 module _ (e : Edition) (told p fork : ℕ) (n : List ℕ) (kind : ℕ) (typed : legal-type e kind ≡ true) (xs : List SfEntry) (g : Good e told p xs) (done : remove-request e n p xs ≡ 0)
     (fits : length (lay e p xs) ≤ fork) where

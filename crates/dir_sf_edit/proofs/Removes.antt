@@ -17,7 +17,7 @@ use Rattle.be.proofs.Bools.{and-left, and-right, and-both, by-cases, clash, eve
 use Rattle.dir.specs.Target.{no-target}
 use Rattle.dir_sf.specs.Entry.{SfEntry, is-wide, wides-of, next-tag, tags-ok, end-tag, in-block}
 use Rattle.dir_sf.specs.Fork.{name-ok, names-ok, numbers-ok, holds, once-ok}
-use Rattle.dir_sf.specs.Change.{target-in, removed, narrows, remove-request}
+use Rattle.dir_sf.specs.Change.{entry-in, target-in, removed, narrows, remove-request}
 use Rattle.dir_sf.proofs.Tags.{tagged, untagged}
 use Rattle.dir_sf.proofs.Names.{fails, absent-same, absent-target, once-head, once-tail, once-cons}
 use Rattle.dir_sf_edit.proofs.Accepted.{Good}
@@ -84,18 +84,18 @@ module _ (e : Edition) (n : List ℕ) where
   -- names and targets: each other name keeps its own, and this one has none
   pub removed-target : (m : List ℕ) (xs : List SfEntry) → once-ok e xs ≡ true
       → target-in e m (removed e n xs) ≡ cond (same-name e m n) no-target (target-in e m xs)
-  unfolding removed target-in
+  unfolding removed entry-in
   removed-target m [] o = by-cases (same-name e m n) (λ q. rw q refl) (λ q. rw q refl)
   removed-target m (x ∷ xs) o =
       by-cases (same-name e n (x .name))
       (λ q.
       by-cases (same-name e m n)
       (λ s. rw (q, s) (absent-target e m xs (absent-same e (x .name) m xs (same-name-sym e m (x .name) (same-name-trans e m n (x .name) s q)) (once-head e x xs o))))
-      (λ s. rw (q, s, fails (same-name e m (x .name)) (same-name e m n) (λ r. same-name-trans e m (x .name) n r (same-name-sym e n (x .name) q)) s) refl))
+      (λ s. rw (q, s, fails (same-name e m (x .name)) (same-name e m n) (λ r. same-name-trans e m (x .name) n r (same-name-sym e n (x .name) q)) s, target-in) refl))
       (λ q.
       by-cases (same-name e m (x .name))
-      (λ r. rw (q, r, fails (same-name e m n) (same-name e n (x .name)) (λ s. same-name-trans e n m (x .name) (same-name-sym e m n s) r) q) refl)
-      (λ r. rw (q, r) (removed-target m xs (once-tail e x xs o))))
+      (λ r. rw (q, r, fails (same-name e m n) (same-name e n (x .name)) (λ s. same-name-trans e n m (x .name) (same-name-sym e m n s) r) q, target-in) refl)
+      (λ r. rw (q, r, target-in) (removed-target m xs (once-tail e x xs o))))
 
   pub removed-held : (m : List ℕ) (xs : List SfEntry) → once-ok e xs ≡ true
       → holds e m (removed e n xs) ≡ cond (same-name e m n) false (holds e m xs)
@@ -115,10 +115,10 @@ module _ (e : Edition) (n : List ℕ) where
 -- one wide number less, if that entry's is wide
 pub removed-wide : (e : Edition) (n : List ℕ) (p : ℕ) (xs : List SfEntry) → holds e n xs ≡ true
     → wides-of p xs ≡ cond (is-wide (target-in e n xs .inode)) 1 0 + wides-of p (removed e n xs)
-unfolding wides-of removed holds target-in
+unfolding wides-of removed holds entry-in
 removed-wide e n p [] h = absurd (clash h refl)
 removed-wide e n p (x ∷ xs) h =
-    by-cases (same-name e n (x .name)) (λ q. rw q refl) (λ q. rw q (omega (arith, removed-wide e n p xs (rw q at h))))
+    by-cases (same-name e n (x .name)) (λ q. rw (q, target-in) refl) (λ q. rw (q, target-in) (omega (arith, removed-wide e n p xs (rw q at h))))
 
 narrow-parent : (p : ℕ) (xs ys : List SfEntry) → narrows p xs ys ≡ false → (wides-of p xs ≡ 0 → is-wide p ≡ false) → wides-of p ys ≡ 0 → is-wide p ≡ false
 unfolding narrows

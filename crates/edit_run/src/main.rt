@@ -371,7 +371,11 @@ fn agrees(b: &[u8], book: &[u64], id: usize) -> bool
     let k = name_len(id);
     let held = book[id];
     match dir_block_lookup::lookup(b, &n[..k]) {
-        Looked::Found { target, compared } => (held != 0) & (target.inode == held),
+        Looked::Found {
+            target,
+            tag,
+            compared,
+        } => (held != 0) & (target.inode == held),
         Looked::Absent { compared } => held == 0,
         Looked::Refused(r) => false,
     }

@@ -99,21 +99,14 @@ fn name_bytes<'a, 'b>(out: &'a mut [u8], n: usize, s: &'b [u8]) -> usize
 }
 
 // A live entry's line: tag, inode number, hash, name.
-fn line<'a, 'b>(
-    e: Edition,
-    out: &'a mut [u8],
-    n: usize,
-    b: &'b [u8],
-    tag: usize,
-    entry: Entry,
-) -> usize
+fn line<'a, 'b>(e: Edition, out: &'a mut [u8], n: usize, b: &'b [u8], entry: Entry) -> usize
     requires { ⌜ (n ≤ length (now out)) × (entry .start + entry .len ≤ length (now b)) × (entry .len < 256) ⌝ }
     ensures { λ r. ⌜ r ≤ length (now (out .entry)) ⌝ }
 {
     let from = entry.start;
     let end = from + entry.len;
     let name = &b[from..end];
-    let n = number(out, n, b"", tag as u64);
+    let n = number(out, n, b"", entry.tag as u64);
     let n = number(out, n, b" ", entry.target.inode);
     let n = hash(out, n, name::hash(e, name) as u64);
     let n = name_bytes(out, n, name);
@@ -146,7 +139,7 @@ fn listing(e: Edition, b: &[u8])
         let s = dir_block_lookup::step_ready(e, b, end, p);
         let seen = s.seen;
         if let Seen::Live(entry) = seen {
-            n = line(e, &mut out, n, b, p, entry);
+            n = line(e, &mut out, n, b, entry);
         }
         p = s.next;
     }

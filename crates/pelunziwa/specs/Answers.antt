@@ -12,6 +12,8 @@ use Rattle.attr_sf.specs.declared.Seen.{Seen as Attr-seen}
 use Rattle.attr_sf.specs.declared.Seen.the-variants.{Live as Attr-live, End as Attr-end}
 use Rattle.attr_sf.specs.declared.Walked.{Walked as Attr-walked}
 use Rattle.attr_sf.specs.declared.Walked.the-variants.{Stepped as Attr-stepped, Refused as Attr-refused}
+use Rattle.dir.specs.declared.Target.{Target}
+use Rattle.dir.specs.declared.Entry.{Entry}
 use Rattle.dir.specs.declared.Looked.{Looked}
 use Rattle.dir.specs.declared.Looked.the-variants.{Found as Found-target, Absent, Refused as Not-found}
 use Rattle.dir.specs.declared.Seen.{Seen}
@@ -55,28 +57,42 @@ as-core (Not-sound k) =
 
 -- ---- a lookup in a directory
 
--- refusal, inode number, names compared
-abbrev pub looked : ℕ → ℕ → ℕ → Found
-looked k i c = record { refusal = k; number = i; compared = c }
+-- found: what the name stands for, its entry's tag, and the names compared
+abbrev pub hit : Target → ℕ → ℕ → Found
+hit t g c = record { refusal = 0; kind = t .kind; number = t .inode; tag = g; compared = c }
+
+-- not found: the refusal, and the names compared
+abbrev pub miss : ℕ → ℕ → Found
+miss k c = record { refusal = k; kind = 0; number = 0; tag = 0; compared = c }
 
 -- 13 ABSENT has the names compared; in a short form none are
 abbrev pub as-found : Looked → Found
-as-found (Found-target t c) = looked 0 (t .inode) c
-as-found (Absent c) = looked ABSENT 0 c
-as-found (Not-found k) = looked k 0 0
+as-found (Found-target t g c) = hit t g c
+as-found (Absent c) = miss ABSENT c
+as-found (Not-found k) = miss k 0
 
 -- ---- a step of a directory's walk. seen: 0 end, 1 gap, 2 live
 
--- a live entry, and where the walk now stands: number, where the name starts, its length
-abbrev pub live : ℕ → ℕ → ℕ → ℕ → Step
-live p i a n = record { refusal = 0; seen = 2; next = p; number = i; «name_start» = a; «name_len» = n }
+-- a live entry: where the walk now stands, number, tag, file type, where the name starts, its length
+abbrev pub live : ℕ → Entry → Step
+live p l =
+    record {
+      refusal = 0;
+      seen = 2;
+      next = p;
+      number = l .target .inode;
+      tag = l .tag;
+      kind = l .target .kind;
+      «name_start» = l .start;
+      «name_len» = l .len;
+    }
 
 -- no entry: refusal, seen, and where the walk stands
 abbrev pub no-entry : ℕ → ℕ → ℕ → Step
-no-entry k s p = record { refusal = k; seen = s; next = p; number = 0; «name_start» = 0; «name_len» = 0 }
+no-entry k s p = record { refusal = k; seen = s; next = p; number = 0; tag = 0; kind = 0; «name_start» = 0; «name_len» = 0 }
 
 abbrev pub as-seen : ℕ → Seen → Step
-as-seen p (Live l) = live p (l .target .inode) (l .start) (l .len)
+as-seen p (Live l) = live p l
 as-seen p Gap = no-entry 0 1 p
 as-seen p End = no-entry 0 0 p
 

@@ -18,7 +18,7 @@ pub extern "C" fn pzw_block_test(block: &[u8]) -> u32
     crate::code(dir_block_test::test(block))
 }
 
-// The inode number stored with a name, and the names compared.
+// The inode number and the tag stored with a name, and the names compared.
 #[no_mangle]
 pub extern "C" fn pzw_block_lookup(block: &[u8], name: &[u8]) -> Found
     ensures { λ r. ⌜ r ≡ as-found (lookup v4 (now (block .entry)) (now (name .entry))) ⌝ }

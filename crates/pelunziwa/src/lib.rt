@@ -2,12 +2,14 @@
 // `refusal` is 0 or the refusal's number, and the other fields are 0 when it is not 0, except `compared` of a block lookup's ABSENT.
 // include/pelunziwa.h declares the same structs and calls for C; the layouts are fixed.
 ghost use mathlib.Core.Path.{_≡_};
-ghost use Prim.Native.Nat.{_≤_};
+ghost use Prim.Native.Nat.{_≤_, _<_};
 ghost use Rattle.refusal.specs.Refusal.{HIGHEST};
-ghost use Rattle.pelunziwa.specs.Answers.{looked, as-found, live, no-entry, as-seen, as-step};
-ghost use Rattle.dir.specs.Answers.{looked-code, walked-code};
+ghost use Rattle.pelunziwa.specs.Answers.{hit, miss, as-found, live, no-entry, as-seen, as-step};
+ghost use Rattle.dir.specs.Answers.{looked-code, looked-target, walked-code};
+use dir::Entry;
 use dir::Looked;
 use dir::Seen;
+use dir::Target;
 use dir::Walked;
 
 mod attr;
@@ -28,11 +30,13 @@ pub struct Core {
     pub size: u64,
 }
 
-// A lookup in a directory: the inode number, and the names compared (0 in a short form).
+// A lookup in a directory: the file type (0 in V4), the inode number, the entry's tag, and the names compared (0 in a short form).
 #[repr(C)]
 pub struct Found {
     pub refusal: u32,
+    pub kind: u32,
     pub number: u64,
+    pub tag: u64,
     pub compared: u64,
 }
 
@@ -51,6 +55,8 @@ pub struct Step {
     pub seen: u32,
     pub next: u64,
     pub number: u64,
+    pub tag: u64,
+    pub kind: u64,
     pub name_start: u64,
     pub name_len: u64,
 }
@@ -76,40 +82,62 @@ fn code(n: usize) -> u32
     n as u32
 }
 
-// What a lookup in a directory gives.
-fn looked(refusal: u32, number: u64, compared: usize) -> Found
-    ensures { λ r. ⌜ r ≡ looked refusal number compared ⌝ }
+// A lookup that finds: a file type is one byte, so that no bits are lost.
+fn hit(target: Target, tag: usize, compared: usize) -> Found
+    requires { ⌜ target .kind < 256 ⌝ }
+    ensures { λ r. ⌜ r ≡ hit target tag compared ⌝ }
+{
+    Found {
+        refusal: 0,
+        kind: target.kind as u32,
+        number: target.inode,
+        tag: tag as u64,
+        compared: compared as u64,
+    }
+}
+
+// A lookup that does not.
+fn miss(refusal: u32, compared: usize) -> Found
+    ensures { λ r. ⌜ r ≡ miss refusal compared ⌝ }
 {
     Found {
         refusal,
-        number,
+        kind: 0,
+        number: 0,
+        tag: 0,
         compared: compared as u64,
     }
 }
 
 // A lookup's answer, of either directory form.
 fn lookup_answer(answer: Looked) -> Found
-    requires { ⌜ looked-code answer ≤ HIGHEST ⌝ }
+    requires { ⌜ (looked-code answer ≤ HIGHEST) × (looked-target answer .kind < 256) ⌝ }
     ensures { λ r. ⌜ r ≡ as-found answer ⌝ }
 {
     match answer {
-        Looked::Found { target, compared } => looked(0, target.inode, compared),
-        Looked::Absent { compared } => looked(code(refusal::ABSENT), 0, compared),
-        Looked::Refused(n) => looked(code(n), 0, 0),
+        Looked::Found {
+            target,
+            tag,
+            compared,
+        } => hit(target, tag, compared),
+        Looked::Absent { compared } => miss(code(refusal::ABSENT), compared),
+        Looked::Refused(n) => miss(code(n), 0),
     }
 }
 
 // A step that meets a live entry.
-fn live(next: usize, number: u64, start: usize, len: usize) -> Step
-    ensures { λ r. ⌜ r ≡ live next number start len ⌝ }
+fn live(next: usize, entry: Entry) -> Step
+    ensures { λ r. ⌜ r ≡ live next entry ⌝ }
 {
     Step {
         refusal: 0,
         seen: 2,
         next: next as u64,
-        number,
-        name_start: start as u64,
-        name_len: len as u64,
+        number: entry.target.inode,
+        tag: entry.tag as u64,
+        kind: entry.target.kind as u64,
+        name_start: entry.start as u64,
+        name_len: entry.len as u64,
     }
 }
 
@@ -122,6 +150,8 @@ fn no_entry(refusal: u32, seen: u32, next: usize) -> Step
         seen,
         next: next as u64,
         number: 0,
+        tag: 0,
+        kind: 0,
         name_start: 0,
         name_len: 0,
     }
@@ -132,7 +162,7 @@ fn seen_step(next: usize, seen: Seen) -> Step
     ensures { λ r. ⌜ r ≡ as-seen next seen ⌝ }
 {
     match seen {
-        Seen::Live(e) => live(next, e.target.inode, e.start, e.len),
+        Seen::Live(entry) => live(next, entry),
         Seen::Gap => no_entry(0, 1, next),
         Seen::End => no_entry(0, 0, next),
     }

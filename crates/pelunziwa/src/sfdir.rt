@@ -16,7 +16,7 @@ pub extern "C" fn pzw_sfdir_test(inode: &[u8], told: u64) -> u32
     crate::code(dir_sf::test(inode, told as usize))
 }
 
-// The inode number stored with a name; ".." gives the parent.
+// The inode number and the tag stored with a name; ".." gives the parent, and tag 0.
 #[no_mangle]
 pub extern "C" fn pzw_sfdir_lookup<'a, 'b>(inode: &'a [u8], told: u64, name: &'b [u8]) -> Found
     ensures { λ r. ⌜ r ≡ as-found (lookup v4 told (now (inode .entry)) (now (name .entry))) ⌝ }

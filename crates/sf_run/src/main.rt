@@ -34,7 +34,14 @@ fn same<'a, 'b>(a: &'a [u8], b: &'b [u8]) {
 fn look<'a, 'b>(b: &'a [u8], name: &'b [u8]) {
     say(b"lookup");
     match dir_sf::lookup(b, 4096, name) {
-        Looked::Found { target, compared } => number(target.inode),
+        Looked::Found {
+            target,
+            tag,
+            compared,
+        } => {
+            number(target.inode);
+            count(tag);
+        }
         Looked::Absent { compared } => {
             say(b" refused");
             count(refusal::ABSENT);
@@ -56,6 +63,7 @@ fn step(b: &[u8], place: usize) {
             match seen {
                 Seen::Live(x) => {
                     number(x.target.inode);
+                    count(x.tag);
                     count(x.start);
                     count(x.len);
                 }

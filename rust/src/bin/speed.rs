@@ -147,6 +147,9 @@ fn lookups(blocks: &[Full]) -> [f64; 3] {
         b.names[turn * 37 % b.names.len()].clone()
     };
     let asked: Vec<_> = blocks.iter().map(|b| (&b.bytes, next(b))).collect();
+    for (b, n) in &asked {
+        assert_eq!(block::lookup(b, n).ok(), yardstick::lookup(b, n).ok());
+    }
     medians(
         blocks.len(),
         [

@@ -313,16 +313,17 @@ fn seek(options: &Options, bytes: &[u8], wanted: &[u8]) -> Result<Found, u32> {
             |entry: &(usize, u64, &[u8])| entry.0 == offset && same_name(options, entry.2, wanted);
         if let Some((_, number, _)) = block.live().find(same) {
             return Ok(Found {
-                refusal: 0,
                 number,
+                tag: offset as u64,
                 compared,
+                ..Found::default()
             });
         }
     }
     Ok(Found {
         refusal: ABSENT,
-        number: 0,
         compared,
+        ..Found::default()
     })
 }
 
@@ -358,12 +359,13 @@ fn walk(options: &Options, bytes: &[u8], place: u64) -> Result<Step, u32> {
             name,
             ..
         } => Step {
-            refusal: 0,
             seen: LIVE,
             next,
             number: *number,
+            tag: *offset as u64,
             name_start: *offset as u64 + 9,
             name_len: name.len() as u64,
+            ..Step::default()
         },
     })
 }

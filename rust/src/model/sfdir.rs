@@ -138,8 +138,9 @@ pub fn test(options: &Options, inode: &[u8], block_size: u64) -> u32 {
 
 pub fn lookup(options: &Options, inode: &[u8], block_size: u64, name: &[u8]) -> Found {
     match seek(options, inode, block_size, name) {
-        Ok(number) => Found {
+        Ok((number, tag)) => Found {
             number,
+            tag,
             ..Found::default()
         },
         Err(refusal) => Found {
@@ -149,16 +150,18 @@ pub fn lookup(options: &Options, inode: &[u8], block_size: u64, name: &[u8]) -> 
     }
 }
 
-fn seek(options: &Options, inode: &[u8], block_size: u64, name: &[u8]) -> Result<u64, u32> {
+/// The number and the tag under a name; the parent is not an entry and has no tag.
+fn seek(options: &Options, inode: &[u8], block_size: u64, name: &[u8]) -> Result<(u64, u64), u32> {
     let dir = read(options, inode, block_size)?;
     want(legal_name(options, name), ASKED)?;
     want(name != b".", FIXED)?;
     if name == b".." {
-        return Ok(dir.parent);
+        return Ok((dir.parent, 0));
     }
     let named = |entry: &&Entry| same_name(options, &entry.name, name);
     let entry = dir.entries.iter().find(named);
-    entry.map(|entry| entry.number).ok_or(ABSENT)
+    let told = |entry: &Entry| (entry.number, entry.tag as u64);
+    entry.map(told).ok_or(ABSENT)
 }
 
 pub fn step(options: &Options, inode: &[u8], block_size: u64, place: u64) -> Step {
@@ -181,12 +184,13 @@ fn walk(options: &Options, inode: &[u8], block_size: u64, place: u64) -> Result<
     let entry = dir.entries.iter().find(at).ok_or(ASKED)?;
     let name_start = entry.place + 3;
     Ok(Step {
-        refusal: 0,
         seen: LIVE,
         next: (name_start + entry.name.len() + number_width(dir.i8count)) as u64,
         number: entry.number,
+        tag: entry.tag as u64,
         name_start: (dir.fork.start + name_start) as u64,
         name_len: entry.name.len() as u64,
+        ..Step::default()
     })
 }
 

@@ -5,9 +5,9 @@ use borrow.Author.Needs.{needs}
 use Rattle.edition.specs.declared.Edition.{Edition}
 use Rattle.edition.specs.Edition.{v4}
 use Rattle.dir.specs.declared.Looked.{Looked}
-use Rattle.dir.specs.Answers.{looked-code, looked-target, looked-compared}
+use Rattle.dir.specs.Answers.{looked-code, looked-target, looked-tag, looked-compared}
 use Rattle.dir_block_rules.specs.Lookup.{lookup, Lookup-promise}
-use Rattle.dir_block_rules.proofs.LookupRight.{lookup-is, target-is, compared-is}
+use Rattle.dir_block_rules.proofs.LookupRight.{lookup-is, target-is, tag-is, compared-is}
 use Rattle.dir_block_lookup.proofs.lookup.Statement.{statement}
 use Rattle.dir_block_lookup.proofs.lookup.Tie as tie
 
@@ -16,7 +16,7 @@ made : {e : Edition} {r : Looked} (b n : List ℕ) → r ≡ lookup e b n → e 
     → Lookup-promise v4 b n r
 made b n h q =
     let k = rw q at h in
-    (k, ap looked-code k ∙ lookup-is v4 b n, ap looked-target k ∙ target-is v4 b n, ap looked-compared k ∙ compared-is v4 b n)
+    (k, ap looked-code k ∙ lookup-is v4 b n, ap looked-target k ∙ target-is v4 b n, ap looked-tag k ∙ tag-is v4 b n, ap looked-compared k ∙ compared-is v4 b n)
 
 pub lookup-spec : {M : Type 1} → statement M
 lookup-spec =

@@ -20,6 +20,6 @@ step-ready-spec =
     (λ c. let q = c .before .before .before .before .before .pre in omega (arith, slots-room _ (now (c .before .before .before .before .before .args .b)) (c .before .before .before .before .before .pre .0 .0) (c .before .before .before .before .before .pre .0 .1), q .1 .0))
     (λ c κs. let q = c .before .before .before .before .before .pre in omega (arith, slots-room _ (now (c .before .before .before .before .before .args .b)) (c .before .before .before .before .before .pre .0 .0) (c .before .before .before .before .before .pre .0 .1), entry-room _ (q .0 .0) (now (c .before .before .before .before .before .args .b)) (q .0 .1) _ (q .1 .1) (omega (arith, q .1 .0)) (λ z. c .before .if2 .left (c .before .before .be16 .ensures .0 ∙ z))))
     (λ c κs. (c .before .before .before .before .before .before .pre .0 .0, c .be8 .ensures .1))
-    (λ c. let q = c .before .before .before .before .before .before .before .pre in omega (arith, slots-room _ (now (c .before .before .before .before .before .before .before .args .b)) (c .before .before .before .before .before .before .before .pre .0 .0) (c .before .before .before .before .before .before .before .pre .0 .1), q .1 .0))
     (λ c. let q = c .before .before .before .before .before .before .before .pre in omega (arith, slots-room _ (now (c .before .before .before .before .before .before .before .args .b)) (c .before .before .before .before .before .before .before .pre .0 .0) (c .before .before .before .before .before .before .before .pre .0 .1), q .1 .0, c .entry-size .ensures .1 .1))
+    (λ c. let q = c .before .before .before .before .before .before .before .pre in omega (arith, slots-room _ (now (c .before .before .before .before .before .before .before .args .b)) (c .before .before .before .before .before .before .before .pre .0 .0) (c .before .before .before .before .before .before .before .pre .0 .1), q .1 .0))
     (λ c. let q = c .before .before .before .before .before .before .before .pre in step-entry _ (q .0 .0) _ (q .0 .1) _ _ _ _ (q .1 .1) (omega (arith, q .1 .0)) (λ z. c .before .before .before .if2 .left (c .before .before .before .before .be16 .ensures .0 ∙ z)) (c .before .be8 .ensures .0) (c .before .be8 .ensures .1) (c .entry-size .ensures .0) (c .before .before .target-at .ensures)))
