@@ -25,7 +25,7 @@
  *   16 NARROW  short-form removal that takes out the last wide entry under a wide parent
  *
  * After a refusal every other field is 0, except `compared` of a block lookup's 13, and all lent bytes are as they were.
- * An entry's tag is its offset in a block. In a short form it is the stored one, and 0 for "..", which is not stored.
+ * In a block an entry's tag is its offset. In a short form it is the stored one, and "..", which is not stored, reports 0.
  * A start is counted from the first lent byte. A walk's place is counted from there too in a block, where a walk starts at 16;
  * in a short form it is counted from the fork's start, and a walk starts behind the header: at 4 for attributes, at 6 in a
  * directory or at 10 where its i8count is not 0. At the end a step sees the end and `next` stands where it stood.
@@ -76,11 +76,11 @@ enum { PZW_END = 0, PZW_GAP = 1, PZW_LIVE = 2 };
 
 /* An inode's fields. */
 typedef struct { uint32_t refusal, magic, mode, version, format, forkoff, aformat; uint64_t size; } pzw_core;
-/* A lookup's file type (0 in V4), inode number, tag, and the names compared: 0 in a short form. */
+/* A lookup's file type (0 in V4), inode number, tag, and names compared (0 in a short form). */
 typedef struct { uint32_t refusal, type; uint64_t number, tag, compared; } pzw_found;
 /* Where a value lies in the lent bytes. */
 typedef struct { uint32_t refusal; uint64_t start, len; } pzw_place;
-/* One step of a directory's walk; all behind `next` is 0 unless a live entry is seen, and `type` in V4. */
+/* One step of a directory's walk; all behind `next` is 0 unless a live entry is seen. `type`, the file type, is 0 in V4. */
 typedef struct { uint32_t refusal, seen; uint64_t next, number, tag, type, name_start, name_len; } pzw_step;
 /* One step of an attribute walk; all behind `next` is 0 at the end. */
 typedef struct { uint32_t refusal, seen; uint64_t next, flags, name_start, name_len, value_start, value_len; } pzw_attr_step;

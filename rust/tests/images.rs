@@ -1,5 +1,5 @@
-//! Real structures: verdicts as the index gives them, names, numbers and values as xfs_db lists them, and
-//! room as the kernel found it.
+//! Real structures: verdicts as the index gives them, names, numbers, tags and values as xfs_db lists them,
+//! and room as the kernel found it.
 
 mod common;
 

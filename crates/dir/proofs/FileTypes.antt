@@ -50,8 +50,9 @@ pub kind-byte : (e : Edition) → Sane e → (o : ℕ) (u : List ℕ) → bytes 
 kind-byte e s o u h =
     one-byte (part o (e .ftype) u) (bytes-take (e .ftype) (drop o u) (bytes-drop o u h)) (simp length-take (omega (arith, s .ftype-most)))
 
-pub parent-byte : (e : Edition) (p : ℕ) → kept-of e (target p 2) .kind < 256
-parent-byte e p = by-cases (eqb (e .ftype) 0) (λ y. rw y (omega arith)) (λ y. rw y (omega arith))
+-- and what is kept of a directory's, which a short form's ".." is told with
+pub parent-kind-byte : (e : Edition) (p : ℕ) → kept-of e (target p 2) .kind < 256
+parent-kind-byte e p = by-cases (eqb (e .ftype) 0) (λ y. rw y (omega arith)) (λ y. rw y (omega arith))
 
 -- a legal target: its number, its type, and both
 module _ (e : Edition) (t : Target) where

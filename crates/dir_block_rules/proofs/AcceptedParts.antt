@@ -7,13 +7,13 @@ use mathlib.Core.Path.{_≡_, refl, sym, _∙_, ap, subst}
 use mathlib.Core.List.{List, [], _∷_, _++_, map, append-assoc, append-nil, nil≢cons, head-eq-of-cons-eq, tail-eq-of-cons-eq}
 use lib.Dec.{eqb}
 use lib.ListN.{length, take, length-append}
-use lib.Seq.{take-take}
+use lib.Seq.{take-take, take-at, drop-at}
 use borrow.Author.Tests.{not-true}
 use Rattle.be.specs.Lists.{every, keep, without-first}
-use Rattle.be.specs.Bytes.{bytes, be, field}
+use Rattle.be.specs.Bytes.{bytes, be, field, part}
 use Rattle.edition.specs.declared.Edition.{Edition}
 use Rattle.edition.specs.Edition.{Sane}
-use Rattle.dir_block_rules.specs.Record.{Rec, whole, entries, is-gap, is-entry, name, target-of, tag}
+use Rattle.dir_block_rules.specs.Record.{Rec, whole, size, entries, is-gap, is-entry, namelen, name, target-of, tag}
 use Rattle.dir_block_rules.specs.Block.{Slot, slot-bytes, records, slots, stale-of, data-end}
 use Rattle.dir_block_rules.specs.Verdict.{Accepted, magic-ok}
 use Rattle.dir_block_rules.specs.Lookup.{name-at, target-at}
@@ -26,7 +26,7 @@ use Rattle.dir_block_rules.proofs.WholeRecords.{tile-whole, tile-apart}
 use Rattle.dir_block_rules.proofs.SlotCounts.{Apart}
 use Rattle.dir_block_rules.proofs.IndexedEntries.{indexed, addr-of}
 use Rattle.be.proofs.Splits.{Split}
-use Rattle.dir_block_rules.proofs.RecordPlaces.{apart-keep, laid-eights, name-there, target-there}
+use Rattle.dir_block_rules.proofs.RecordPlaces.{apart-keep, laid-eights, part-there, name-there, target-there}
 use Rattle.dir_block_rules.proofs.SearchFinds.{Reads}
 use Rattle.dir_block_rules.proofs.GoodParts.{Good}
 
@@ -133,37 +133,63 @@ module _ (e : Edition) (sane : Sane e) (b : List ℕ) (h : bytes b ≡ true) (a 
   front-long : (xs : List Rec) → length (take (e .header) b ++ join xs) ≡ e .header + length (join xs)
   front-long xs = rw (length-append, fit-of .head)
 
+  -- a record in the block: what stands before and behind it, and what is read there
+  module _ (xs : List Rec) (r : Rec) (ys : List Rec) (q : records e b ≡ xs ++ r ∷ ys) where
+    abbrev front : List ℕ
+    front = take (e .header) b ++ join xs
+
+    abbrev behind : List ℕ
+    behind = join ys ++ index-bytes
+
+    around : b ≡ front ++ (r .raw ++ behind)
+    around =
+        block-around xs (r ∷ []) ys q ∙ sym (append-assoc (take (e .header) b) (join xs) _) ∙ ap (λ (l : List ℕ). front ++ (l ++ behind)) (append-nil (r .raw))
+
+    laid-here : Laid e (e .header + length (join xs)) (r ∷ ys)
+    laid-here = place-of xs (r ∷ []) ys q
+
+    off-here : length front ≡ r .off
+    off-here = front-long xs ∙ sym (laid-here .0)
+
+    -- its tag is its offset
+    pub tag-own : tag r ≡ r .off
+    tag-own = laid-here .1 .tagged
+
+    -- where all of its bytes stand
+    pub raw-part : part (tag r) (size r) b ≡ r .raw
+    raw-part =
+        ap (part (tag r) (size r)) around ∙ ap (take (size r)) (drop-at front (r .raw ++ behind) (tag r) (off-here ∙ sym tag-own))
+        ∙ take-at (r .raw) behind (size r) refl
+
+    module _ (g : is-gap r ≡ false) where
+      pub name-part : part (r .off + 9) (namelen r) b ≡ name r
+      name-part = ap (part (r .off + 9) (namelen r)) around ∙ part-there e front behind r (laid-here .1) g off-here
+
+      name-here : name-at b (r .off) ≡ name r
+      name-here = ap (λ (l : List ℕ). name-at l (r .off)) around ∙ name-there e front behind r (laid-here .1) g off-here
+
+      target-here : target-at e b (r .off) ≡ target-of e r
+      target-here = ap (λ (l : List ℕ). target-at e l (r .off)) around ∙ target-there e front behind r (laid-here .1) g off-here
+
+  -- an entry in the block
   module _ (t : Split (entries (records e b))) where
     spot : Found-in is-entry (records e b) (t .before) (t .here) (t .behind)
     spot = keep-find is-entry (records e b) (t .before) (t .here) (t .behind) (t .is)
 
-    around : b ≡ take (e .header) b ++ join (spot .before) ++ (t .here .raw ++ (join (spot .behind) ++ index-bytes))
-    around =
-        block-around (spot .before) (t .here ∷ []) (spot .behind) (spot .is)
-        ∙ sym (append-assoc (take (e .header) b) (join (spot .before)) _)
-        ∙ ap (λ (l : List ℕ). take (e .header) b ++ join (spot .before) ++ (l ++ (join (spot .behind) ++ index-bytes))) (append-nil (t .here .raw))
-
-    laid-here : Laid e (e .header + length (join (spot .before))) (t .here ∷ spot .behind)
-    laid-here = place-of (spot .before) (t .here ∷ []) (spot .behind) (spot .is)
-
     no-gap : is-gap (t .here) ≡ false
     no-gap = not-true (is-gap (t .here)) (spot .passes)
 
-    off-here : length (take (e .header) b ++ join (spot .before)) ≡ t .here .off
-    off-here = front-long (spot .before) ∙ sym (laid-here .0)
-
-    pub name-of : name-at b (t .here .off) ≡ name (t .here)
-    name-of =
-        ap (λ (l : List ℕ). name-at l (t .here .off)) around
-        ∙ name-there e (take (e .header) b ++ join (spot .before)) (join (spot .behind) ++ index-bytes) (t .here) (laid-here .1) no-gap off-here
+    name-of : name-at b (t .here .off) ≡ name (t .here)
+    name-of = name-here (spot .before) (t .here) (spot .behind) (spot .is) no-gap
 
     pub target-is : target-at e b (t .here .off) ≡ target-of e (t .here)
-    target-is =
-        ap (λ (l : List ℕ). target-at e l (t .here .off)) around
-        ∙ target-there e (take (e .header) b ++ join (spot .before)) (join (spot .behind) ++ index-bytes) (t .here) (laid-here .1) no-gap off-here
+    target-is = target-here (spot .before) (t .here) (spot .behind) (spot .is) no-gap
 
-    pub tag-is : tag (t .here) ≡ t .here .off
-    tag-is = laid-here .1 .tagged
+    pub entry-tag : tag (t .here) ≡ t .here .off
+    entry-tag = tag-own (spot .before) (t .here) (spot .behind) (spot .is)
+
+    pub entry-part : part (tag (t .here)) (size (t .here)) b ≡ t .here .raw
+    entry-part = raw-part (spot .before) (t .here) (spot .behind) (spot .is)
 
   pub reads-of : Reads e b (entries (records e b))
   reads-of = record { eights = laid-eights e is-entry (e .header) (records e b) (sane .header-eights) (fit-of .laid); named = λ t. name-of t }

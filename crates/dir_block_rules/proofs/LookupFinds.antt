@@ -28,7 +28,7 @@ use Rattle.be.proofs.Splits.{Split, every-at}
 use Rattle.dir_block_rules.proofs.SearchFinds.{First, seek-hit, seek-first, Owner, match-owner, hit-is}
 use Rattle.dir_block_rules.proofs.PartsAddUp.{entry-long}
 use Rattle.name.proofs.Same.{same-name-length, same-name-fixed}
-use Rattle.dir_block_rules.proofs.AcceptedParts.{Found-in, keep-find, good-of, apart-of, reads-of, place-of, target-is, tag-is}
+use Rattle.dir_block_rules.proofs.AcceptedParts.{Found-in, keep-find, good-of, apart-of, reads-of, place-of, target-is, entry-tag}
 use Rattle.dir_block_rules.proofs.ChangeAccepted.{After}
 use Rattle.dir_block_rules.proofs.RemoveAccepted.{Removable, Front, Back, fr, bk, from, freed, left, stale-slots, free-writes, remove-entry, freed-long, entries-before, entries-left}
 
@@ -181,7 +181,7 @@ module _ (e : Edition) (sane : Sane e) (b : List ℕ) (h : bytes b ≡ true) (a 
 
     -- and the tag, which the entry stores too
     pub tag-found : sought e b n .at ≡ tag (spot .here)
-    tag-found = at-spot ∙ sym (tag-is e sane b h a spot)
+    tag-found = at-spot ∙ sym (entry-tag e sane b h a spot)
 
     pub removed-of : fixed-name n ≡ false → Removed e b n (changed e b (remove-writes e b n))
     unfolding spot

@@ -27,7 +27,7 @@ use Rattle.dir_block_rules.specs.Lookup.{candidate, match, step-if, seek
 use Rattle.dir_block_rules.specs.Claims.{borne, Lookup-right}
 use Rattle.be.proofs.Splits.{Split, split-cons, some-at, some-split}
 use Rattle.dir_block_rules.proofs.SearchFinds.{Owner, owner, read-at}
-use Rattle.dir_block_rules.proofs.AcceptedParts.{good-of, apart-of, reads-of}
+use Rattle.dir_block_rules.proofs.AcceptedParts.{good-of, apart-of, reads-of, entry-part}
 use Rattle.dir_block_rules.proofs.BooksAgree.{one-target, one-tag}
 use Rattle.dir_block_rules.proofs.LookupFinds.{hit-of, spot, spot-name, target-found, tag-found}
 
@@ -141,7 +141,7 @@ module _ (e : Edition) (sane : Sane e) (b : List ℕ) (h : bytes b ≡ true) (a 
 
 pub lookup-right : (e : Edition) → Sane e → Lookup-right e
 unfolding Lookup-right
-lookup-right e sane b n h a l = record { found = looked-found e sane b h a n l; absent = looked-absent e sane b h a n l; exactly = looked-exactly e sane b h a n l }
+lookup-right e sane b n h a l = record { found = λ xs r ys q sn. (looked-found e sane b h a n l xs r ys q sn, entry-part e sane b h a (record { before = xs; here = r; behind = ys; is = q })); absent = looked-absent e sane b h a n l; exactly = looked-exactly e sane b h a n l }
 
 pub v4-lookup-right : Lookup-right v4
 v4-lookup-right = lookup-right v4 v4-sane

@@ -7,14 +7,13 @@ use mathlib.Core.Bool.{true, false}
 use mathlib.Core.Path.{_≡_, refl, sym, _∙_, ap, ap₂, subst}
 use mathlib.Core.List.{List, [], _∷_, _++_, map, append-assoc, append-nil}
 use lib.Dec.{eqb, ltb}
-use lib.ListN.{length, length-append, take}
-use lib.Seq.{take-at, drop-at}
+use lib.ListN.{length, length-append}
 use borrow.Author.Tests.{eq-eqb, eqb-true, ne-eqb, lt-ltb}
 use Rattle.refusal.specs.Refusal.{ASKED}
 use Rattle.be.specs.Lists.{some-of}
-use Rattle.be.specs.Bytes.{bytes, part}
+use Rattle.be.specs.Bytes.{bytes}
 use Rattle.edition.specs.declared.Edition.{Edition}
-use Rattle.dir_block_rules.specs.Record.{Rec, size, is-gap, name, namelen, tag}
+use Rattle.dir_block_rules.specs.Record.{Rec, size, tag}
 use Rattle.dir_block_rules.specs.Block.{records, data-end}
 use Rattle.dir_block_rules.specs.Verdict.{Accepted}
 use Rattle.dir.specs.declared.Walked.{Walked}
@@ -25,10 +24,9 @@ use Rattle.dir_block_rules.specs.Claims.{climbs, Walks, Walk-right}
 use Rattle.be.proofs.Bools.{and-both, by-cases}
 use Rattle.dir_block_rules.proofs.CutJoin.{join, Laid, join-append, laid-back}
 use Rattle.be.proofs.Splits.{some-at}
-use Rattle.dir_block_rules.proofs.RecordPlaces.{part-there}
 use Rattle.edition.specs.Edition.{v4, Sane}
 use Rattle.edition.proofs.Sizes.{v4-sane}
-use Rattle.dir_block_rules.proofs.AcceptedParts.{fit-of, index-bytes, block-around, place-of, end-of-data}
+use Rattle.dir_block_rules.proofs.AcceptedParts.{fit-of, end-of-data, tag-own, raw-part, name-part}
 
 -- a step's number
 pub step-is : (e : Edition) (b : List ℕ) (p : ℕ) → walked-code (walk-step e b p) ≡ step-code e b p
@@ -101,44 +99,12 @@ module _ (e : Edition) (sane : Sane e) (b : List ℕ) (h : bytes b ≡ true) (a 
   whole-walk : walk e b (suc (length (records e b))) (e .header) ≡ map (λ r. Stepped (step-over e r)) (records e b) ++ (Stepped (step-end (data-end b)) ∷ [])
   whole-walk = ap (walk e b (suc (length (records e b)))) (sym (add-zero (e .header))) ∙ walk-from [] (records e b) refl
 
-  -- a record in the block
-  module _ (xs : List Rec) (r : Rec) (ys : List Rec) (q : records e b ≡ xs ++ r ∷ ys) where
-    hd : List ℕ
-    hd = take (e .header) b ++ join xs
-
-    tl : List ℕ
-    tl = join ys ++ index-bytes e sane b h a
-
-    around : b ≡ hd ++ (r .raw ++ tl)
-    unfolding hd tl
-    around =
-        block-around e sane b h a xs (r ∷ []) ys q ∙ sym (append-assoc (take (e .header) b) (join xs) _)
-        ∙ ap (λ (z : List ℕ). take (e .header) b ++ join xs ++ (z ++ (join ys ++ index-bytes e sane b h a))) (append-nil (r .raw))
-
-    laid-here : Laid e (e .header + length (join xs)) (r ∷ ys)
-    laid-here = place-of e sane b h a xs (r ∷ []) ys q
-
-    far : length hd ≡ r .off
-    unfolding hd
-    far = rw (length-append, fit-of e sane b h a .head) (sym (laid-here .0))
-
-    -- its name stands where its step says
-    name-part : is-gap r ≡ false → part (r .off + 9) (namelen r) b ≡ name r
-    name-part g = ap (part (r .off + 9) (namelen r)) around ∙ part-there e hd tl r (laid-here .1) g far
-
-    -- and all of its bytes where its tag says
-    tag-part : (r .off ≡ tag r) × (part (tag r) (size r) b ≡ r .raw)
-    tag-part = (
-      sym (laid-here .1 .tagged),
-      ap (part (tag r) (size r)) around ∙ ap (take (size r)) (drop-at hd (r .raw ++ tl) (tag r) (far ∙ sym (laid-here .1 .tagged))) ∙ take-at (r .raw) tl (size r) refl,
-    )
-
   elsewhere : (p : ℕ) → is-place p (data-end b) (records e b) ≡ false → walk-step e b p ≡ Refused ASKED
   unfolding walk-step step-code
   elsewhere p q = rw (a, q) refl
 
   pub walks : Walks e b
-  walks = record { whole = whole-walk; rises = climbs-laid e (e .header) (records e b) (fit-of e sane b h a .laid); again = at-end; names = name-part; tags = tag-part; elsewhere = elsewhere }
+  walks = record { whole = whole-walk; rises = climbs-laid e (e .header) (records e b) (fit-of e sane b h a .laid); again = at-end; names = name-part e sane b h a; tags = λ xs r ys q. (sym (tag-own e sane b h a xs r ys q), raw-part e sane b h a xs r ys q); elsewhere = elsewhere }
 
 pub walk-right : (e : Edition) → Sane e → Walk-right e
 unfolding Walk-right

@@ -29,11 +29,11 @@ use Rattle.dir_block_rules.specs.Walk.{entry-of, step-over, step-end, is
 abbrev pub borne : Edition → List ℕ → List ℕ → Bool
 borne e b n = some-of (λ r. same-name e n (name r)) (entries (records e b))
 
--- demand 2: a lookup in an accepted block gives number, type and tag of whichever live entry bears the name, and is absent exactly when
--- none does; both tell the names compared
+-- demand 2: a lookup in an accepted block gives number, type and tag of whichever live entry bears the name, whose bytes stand where the tag
+-- says, and is absent exactly when none does; both tell the names compared
 pub record Looks-up (e : Edition) (b n : List ℕ) : Type 0 where
   pub found : (xs : List Rec) (r : Rec) (ys : List Rec) → entries (records e b) ≡ xs ++ r ∷ ys → same-name e n (name r) ≡ true
-      → lookup e b n ≡ Found (target-of e r) (tag r) (names-compared e b n)
+      → (lookup e b n ≡ Found (target-of e r) (tag r) (names-compared e b n)) × (part (tag r) (size r) b ≡ r .raw)
   pub absent : borne e b n ≡ false → lookup e b n ≡ Absent (names-compared e b n)
   pub exactly : looked-code (lookup e b n) ≡ cond (borne e b n) 0 ABSENT
 
@@ -47,8 +47,8 @@ climbs (m ∷ []) = true
 climbs (m ∷ n ∷ ns) = ltb m n && climbs (n ∷ ns)
 
 -- from the header's end (16) repeated steps meet each record once by rising tag, live entries and gaps as they are, and end after
--- records plus one steps; at the end a step says end again; a live entry's name is the part of the block that its step says; its tag is
--- the stored one, and where its bytes stand; any other place is refused with 11
+-- records plus one steps; at the end a step says end again; a live entry's name is the part of the block that its step says; a record's
+-- tag, gaps' too, is as it stores it and where its bytes stand; any other place is refused with 11
 pub record Walks (e : Edition) (b : List ℕ) : Type 0 where
   pub whole : walk e b (suc (length (records e b))) (e .header) ≡ map (λ r. Stepped (step-over e r)) (records e b) ++ (Stepped (step-end (data-end b)) ∷ [])
   pub rises : climbs (map tag (records e b)) ≡ true

@@ -19,7 +19,7 @@ use Rattle.name.specs.Name.{legal-name, same-name}
 use Rattle.dir.specs.declared.Looked.the-variants.{Found, Absent, Refused}
 use Rattle.dir.specs.declared.Target.{Target}
 use Rattle.dir.specs.Target.{target, no-target, kept-of}
-use Rattle.dir_sf.specs.Entry.{SfEntry, no-entry, width-of, size-at, entry-at, entries-in}
+use Rattle.dir_sf.specs.Entry.{SfEntry, empty-entry, width-of, size-at, entry-at, entries-in}
 use Rattle.dir_sf.specs.Fork.{entries, holds, count-of}
 use Rattle.dir_sf.specs.Change.{entry-in, target-in, tag-in, entry-for}
 use Rattle.dir_sf.specs.Inner.{enough, Readable, Hits, seek}
@@ -62,7 +62,7 @@ module _ (e : Edition) (u n : List ℕ) (k wides w i q : ℕ) (a : k ≡ byte 0 
   pub hit-none : i ≡ k → Hits e n u (record { held = false; index = i; at = q; target = no-target; tag = 0 })
   hit-none f =
       let z : holds e n (entries e u) ≡ false = held ∙ le-ltb i k (omega arith) in
-      let none : entry-in e n (entries e u) ≡ no-entry = absent-entry e n (entries e u) z in
+      let none : entry-in e n (entries e u) ≡ empty-entry = absent-entry e n (entries e u) z in
       record {
         held-is = sym z;
         index-is = index;

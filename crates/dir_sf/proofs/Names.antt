@@ -10,7 +10,7 @@ use Rattle.name.specs.Name.{same-name}
 use Rattle.name.proofs.Same.{same-name-trans}
 use Rattle.be.proofs.Bools.{and-left, and-right, by-cases, clash, or-right, neither}
 use Rattle.dir.specs.Target.{no-target}
-use Rattle.dir_sf.specs.Entry.{SfEntry, no-entry}
+use Rattle.dir_sf.specs.Entry.{SfEntry, empty-entry}
 use Rattle.dir_sf.specs.Fork.{holds, once-ok}
 use Rattle.dir_sf.specs.Change.{entry-in, target-in}
 
@@ -32,7 +32,7 @@ pub absent-same : (e : Edition) (m n : List ℕ) (xs : List SfEntry) → same-na
 absent-same e m n xs s h = fails (holds e n xs) (holds e m xs) (holds-same e m n xs s) h
 
 -- a name that no entry bears has none
-pub absent-entry : (e : Edition) (n : List ℕ) (xs : List SfEntry) → holds e n xs ≡ false → entry-in e n xs ≡ no-entry
+pub absent-entry : (e : Edition) (n : List ℕ) (xs : List SfEntry) → holds e n xs ≡ false → entry-in e n xs ≡ empty-entry
 unfolding holds entry-in
 absent-entry e n [] h = refl
 absent-entry e n (x ∷ xs) h =

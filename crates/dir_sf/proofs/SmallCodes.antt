@@ -6,27 +6,25 @@ use mathlib.Core.Bool.{true}
 use mathlib.Core.Path.{_≡_}
 use mathlib.Core.List.{List}
 use lib.Dec.{eqb}
-use lib.ListN.{drop}
 use borrow.Author.Tests.{leb-true}
 use Rattle.refusal.specs.Refusal.{HIGHEST}
 use Rattle.be.specs.Bytes.{byte, bytes, part}
 use Rattle.be.specs.Lists.{same}
 use Rattle.be.proofs.Bools.{by-cases}
 use Rattle.be.proofs.Codes.{unless-le}
-use Rattle.be.proofs.Parts.{bytes-take, bytes-drop}
 use Rattle.records.specs.Records.{places}
 use Rattle.edition.specs.declared.Edition.{Edition}
 use Rattle.edition.specs.Edition.{Sane}
 use Rattle.name.specs.Name.{same-name, dotdot}
-use Rattle.dinode.specs.Core.{data-fork, data-length}
 use Rattle.dinode.proofs.SmallCodes.{directory-small}
 use Rattle.dir.specs.declared.Target.{Target}
-use Rattle.dir.proofs.FileTypes.{kind-byte, parent-byte}
+use Rattle.dir.proofs.FileTypes.{kind-byte, parent-kind-byte}
 use Rattle.dir_sf.specs.Entry.{size-at, entry-at, entries-in}
 use Rattle.dir_sf.specs.Fork.{count-of, used-width, parent, entries, used-verdict, fork-verdict}
 use Rattle.dir_sf.specs.Change.{entry-in, entry-for, lookup-request, insert-request, remove-request}
-use Rattle.dir_sf.specs.Inode.{size-of, used, verdict, lookup-code, lookup-target, insert-code, remove-code}
+use Rattle.dir_sf.specs.Inode.{used, verdict, lookup-code, lookup-target, insert-code, remove-code}
 use Rattle.dir_sf.specs.Walk.{step-code}
+use Rattle.dir_sf.proofs.Tested.{used-bytes}
 
 fork-small : (e : Edition) (told : ℕ) (f : List ℕ) (size : ℕ) → fork-verdict e told f size ≤ HIGHEST
 unfolding fork-verdict used-verdict
@@ -42,10 +40,6 @@ module _ (e : Edition) (sane : Sane e) where
       (λ q. rw q (kind-byte e sane (at + 3 + byte at u) u h))
       (λ q. rw q (entry-type w u n k (at + size-at e w u at) h))
 
-  used-bytes : (b : List ℕ) → bytes b ≡ true → bytes (used e b) ≡ true
-  unfolding used data-fork
-  used-bytes b h = bytes-take (size-of b) (data-fork e b) (bytes-take (data-length e b) (drop (e .literal) b) (bytes-drop (e .literal) b h))
-
   pub type-small : (told : ℕ) (b n : List ℕ) → bytes b ≡ true → lookup-target e told b n .kind < 256
   unfolding lookup-target entry-for entries
   type-small told b n h =
@@ -53,8 +47,8 @@ module _ (e : Edition) (sane : Sane e) where
       by-cases (eqb (lookup-code e told b n) 0)
       (λ q.
       by-cases (same n dotdot)
-      (λ d. rw (q, d) (parent-byte e (parent (used e b))))
-      (λ d. rw (q, d) (entry-type (used-width u) u n (count-of u) (2 + used-width u) (used-bytes b h))))
+      (λ d. rw (q, d) (parent-kind-byte e (parent (used e b))))
+      (λ d. rw (q, d) (entry-type (used-width u) u n (count-of u) (2 + used-width u) (used-bytes e b h))))
       (λ q. rw q (omega arith))
 
 module _ (e : Edition) (told : ℕ) (b : List ℕ) where

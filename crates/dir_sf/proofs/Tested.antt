@@ -10,16 +10,17 @@ use lib.ListN.{length, take, drop, length-take, length-drop}
 use lib.Seq.{take-take, getD-take}
 use borrow.Author.Tests.{eqb-true, eq-eqb, ne-eqb, leb-true}
 use Rattle.refusal.specs.Refusal.{ASKED, FIXED, ABSENT}
+use Rattle.be.specs.Bytes.{bytes, part}
 use Rattle.be.specs.Lists.{same}
 use Rattle.be.specs.Codes.{_unless_then_}
 use Rattle.be.proofs.Bools.{and-left, and-right, by-cases}
 use Rattle.be.proofs.Codes.{passes, both}
+use Rattle.be.proofs.Parts.{bytes-take, bytes-drop}
 use Rattle.edition.specs.declared.Edition.{Edition}
 use Rattle.edition.specs.Edition.{block-size, Sane}
 use Rattle.dinode.specs.Core.{size-place, directory-code, data-length, data-fork}
 use Rattle.dir.specs.declared.Looked.{Looked}
-use Rattle.dir.specs.declared.Looked.the-variants.{Found, Absent, Refused}
-use Rattle.dir.specs.declared.Target.{Target}
+use Rattle.dir.specs.declared.Looked.the-variants.{Absent, Refused}
 use Rattle.dir.specs.Target.{no-target}
 use Rattle.dir.specs.Answers.{looked-code, looked-target, looked-tag, looked-compared}
 use Rattle.name.specs.Name.{legal-name, dot, dotdot}
@@ -133,6 +134,11 @@ module _ (e : Edition) (sane : Sane e) (told : ℕ) (b : List ℕ) (h : verdict 
 
   pub used-readable : Readable e (used e b)
   used-readable = record { header = used-header; listed = used-enough; wides = used-wides }
+
+-- bytes of the inode are bytes of the fork
+pub used-bytes : (e : Edition) (b : List ℕ) → bytes b ≡ true → bytes (used e b) ≡ true
+unfolding used data-fork
+used-bytes e b h = bytes-take (size-of b) (part (e .literal) (data-length e b) b) (bytes-take (data-length e b) (drop (e .literal) b) (bytes-drop (e .literal) b h))
 
 pub lookup-refused : (e : Edition) (told c : ℕ) (b n : List ℕ) → c ≡ verdict e told b → (c ≡ 0 → ⊥) → Refused c ≡ lookup e told b n
 unfolding lookup

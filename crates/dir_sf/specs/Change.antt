@@ -15,14 +15,14 @@ use Rattle.dir.specs.declared.Target.{Target}
 use Rattle.dir.specs.Target.{target, legal-target, kept-of}
 use Rattle.dir_sf.specs.declared.FreeTag.{FreeTag}
 use Rattle.dir_sf.specs.declared.FreeTag.the-variants.{At, Nowhere}
-use Rattle.dir_sf.specs.Entry.{SfEntry, entry, no-entry, is-wide, wides-of, next-tag, end-tag, in-block}
+use Rattle.dir_sf.specs.Entry.{SfEntry, entry, empty-entry, is-wide, wides-of, next-tag, end-tag, in-block}
 use Rattle.dir_sf.specs.Fork.{lay, holds}
 
 -- ---- lookup
 
 -- the first entry of the name; where there is none, an empty one
 unfoldable pub entry-in : Edition → List ℕ → List SfEntry → SfEntry
-entry-in e n [] = no-entry
+entry-in e n [] = empty-entry
 entry-in e n (x ∷ xs) = cond (same-name e n (x .name)) x (entry-in e n xs)
 
 -- what its name stands for, and its tag
@@ -39,7 +39,7 @@ lookup-request e n xs =
     FIXED unless not (same n dot) then
     ABSENT unless same n dotdot || holds e n xs then 0
 
--- Lookup of ".." gives the parent, a directory: type 2 where the edition has one; it reports tag 0
+-- Lookup of ".." gives the parent, a directory: type 2 where the edition has one. It is told as an entry is, with tag 0
 abbrev pub parent-entry : Edition → ℕ → SfEntry
 parent-entry e p = entry 0 dotdot (kept-of e (target p 2))
 

@@ -22,9 +22,9 @@ pub record SfEntry : Type 0 where
 abbrev pub entry : ℕ → List ℕ → Target → SfEntry
 entry o n t = record { tag = o; name = n; target = t }
 
--- none: what a search that misses has
-abbrev pub no-entry : SfEntry
-no-entry = entry 0 [] no-target
+-- what a search that misses gives
+abbrev pub empty-entry : SfEntry
+empty-entry = entry 0 [] no-target
 
 -- Numbers are 8 bytes when i8count is not 0, else 4
 unfoldable pub width-of : ℕ → ℕ

@@ -437,7 +437,7 @@ fn look_up<'a, 'b>(e: Edition, b: &'a [u8], told: usize, name: &'b [u8]) -> Look
     look(e, &b[start..end], name)
 }
 
-// What a name stands for; ".." gives the parent.
+// What a name stands for, and its entry's tag; ".." gives the parent, and tag 0.
 pub fn lookup<'a, 'b>(b: &'a [u8], told: usize, name: &'b [u8]) -> Looked
     ensures { λ r. ⌜ Lookup-promise v4 told (now (b .entry)) (now (name .entry)) r ⌝ }
 {

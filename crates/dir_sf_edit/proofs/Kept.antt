@@ -18,7 +18,7 @@ use Rattle.dir_sf.specs.Entry.{SfEntry, entry}
 use Rattle.dir_sf.specs.Fork.{parent, entries, holds, lay}
 use Rattle.dir_sf.specs.Change.{target-in, tag-for, is-free, placed, inserted, removed}
 use Rattle.dir_sf.specs.Inode.{used, verdict, insert-code, remove-code, with-entries, insert-bytes, remove-bytes}
-use Rattle.dir_sf.proofs.Tested.{is-told, used-passes, used-header}
+use Rattle.dir_sf.proofs.Tested.{is-told, used-passes, used-header, used-bytes}
 use Rattle.dir_sf_edit.specs.Laws.{Insert-accepted, Remove-accepted, Differs, Insert-names, Remove-names, Put-back}
 use Rattle.dir_sf_edit.proofs.ReadBack.{lay-entries, lay-parent}
 use Rattle.dir_sf_edit.proofs.Accepted.{Good, good-fit, good-parent, used-good, laid-accepted}
@@ -26,7 +26,7 @@ use Rattle.dir_sf_edit.proofs.Removes.{removed-good, removed-target, re
 use Rattle.dir_sf_edit.proofs.Inserts.{Tags, number-of, inserted-is, placed-holds, placed-target}
 use Rattle.dir_sf_edit.proofs.Keeps.{inserts, inserted-good}
 use Rattle.dir_sf_edit.proofs.Changes.{insert-passes, insert-answers, insert-fits, remove-passes, remove-answers, remove-fits, lay-fits}
-use Rattle.dir_sf_edit.proofs.Untouched.{fork-kept, used-after, verdict-after, used-bytes}
+use Rattle.dir_sf_edit.proofs.Untouched.{fork-kept, used-after, verdict-after}
 use Rattle.dir_sf_edit.proofs.PutBack.{back-in}
 
 tags-of : (e : Edition) → Sane e → Tags e

@@ -2,13 +2,12 @@
 -- Assumes nothing.
 use Prim.Native.Nat.{ℕ, _+_, _≤_, _<_}
 use native.Mathlib.Omega.{arith}
-use mathlib.Core.Bool.{true}
 use mathlib.Core.Path.{_≡_, refl, sym, _∙_, ap, ap₂}
 use mathlib.Core.List.{List}
-use lib.ListN.{length, take, drop}
-use Rattle.be.specs.Bytes.{bytes, be, byte, part, field, to-be, put, written}
+use lib.ListN.{length, take}
+use Rattle.be.specs.Bytes.{be, byte, part, field, to-be, put, written}
 use Rattle.be.proofs.Numbers.{length-to-be}
-use Rattle.be.proofs.Parts.{field-1, bytes-take, bytes-drop}
+use Rattle.be.proofs.Parts.{field-1}
 use Rattle.be.proofs.Writes.{length-put, part-before, part-behind, part-inside, field-put}
 use Rattle.edition.specs.declared.Edition.{Edition}
 use Rattle.edition.specs.Edition.{Sane}
@@ -101,8 +100,3 @@ module _ (e : Edition) (sane : Sane e) (told : ℕ) (b : List ℕ) (v : verdict 
   unfolding verdict F L
   verdict-after h =
       rw (is-told e sane told b v, same-dir) (ap₂ (λ (l : List ℕ) (k : ℕ). fork-verdict e told l k) fork-written size-written ∙ h)
-
--- bytes of the inode are bytes of the fork
-pub used-bytes : (e : Edition) (b : List ℕ) → bytes b ≡ true → bytes (used e b) ≡ true
-unfolding used data-fork
-used-bytes e b h = bytes-take (size-of b) (part (e .literal) (data-length e b) b) (bytes-take (data-length e b) (drop (e .literal) b) (bytes-drop (e .literal) b h))

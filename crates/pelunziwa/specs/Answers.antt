@@ -15,7 +15,7 @@ use Rattle.attr_sf.specs.declared.Walked.the-variants.{Stepped as Attr-stepped,
 use Rattle.dir.specs.declared.Target.{Target}
 use Rattle.dir.specs.declared.Entry.{Entry}
 use Rattle.dir.specs.declared.Looked.{Looked}
-use Rattle.dir.specs.declared.Looked.the-variants.{Found as Found-target, Absent, Refused as Not-found}
+use Rattle.dir.specs.declared.Looked.the-variants.{Found as Looked-found, Absent, Refused as Looked-refused}
 use Rattle.dir.specs.declared.Seen.{Seen}
 use Rattle.dir.specs.declared.Seen.the-variants.{Live, Gap, End}
 use Rattle.dir.specs.declared.Walked.{Walked}
@@ -58,18 +58,18 @@ as-core (Not-sound k) =
 -- ---- a lookup in a directory
 
 -- found: what the name stands for, its entry's tag, and the names compared
-abbrev pub hit : Target → ℕ → ℕ → Found
-hit t g c = record { refusal = 0; kind = t .kind; number = t .inode; tag = g; compared = c }
+abbrev pub found-target : Target → ℕ → ℕ → Found
+found-target t g c = record { refusal = 0; kind = t .kind; number = t .inode; tag = g; compared = c }
 
 -- not found: the refusal, and the names compared
-abbrev pub miss : ℕ → ℕ → Found
-miss k c = record { refusal = k; kind = 0; number = 0; tag = 0; compared = c }
+abbrev pub not-found : ℕ → ℕ → Found
+not-found k c = record { refusal = k; kind = 0; number = 0; tag = 0; compared = c }
 
 -- 13 ABSENT has the names compared; in a short form none are
 abbrev pub as-found : Looked → Found
-as-found (Found-target t g c) = hit t g c
-as-found (Absent c) = miss ABSENT c
-as-found (Not-found k) = miss k 0
+as-found (Looked-found t g c) = found-target t g c
+as-found (Absent c) = not-found ABSENT c
+as-found (Looked-refused k) = not-found k 0
 
 -- ---- a step of a directory's walk. seen: 0 end, 1 gap, 2 live
 

@@ -1,10 +1,10 @@
 // What C and Rust call: each call of the library under a fixed name. An answer that is an enum goes out as a struct of numbers:
 // `refusal` is 0 or the refusal's number, and the other fields are 0 when it is not 0, except `compared` of a block lookup's ABSENT.
-// include/pelunziwa.h declares the same structs and calls for C; the layouts are fixed.
+// include/pelunziwa.h declares the same structs and calls for C.
 ghost use mathlib.Core.Path.{_≡_};
 ghost use Prim.Native.Nat.{_≤_, _<_};
 ghost use Rattle.refusal.specs.Refusal.{HIGHEST};
-ghost use Rattle.pelunziwa.specs.Answers.{hit, miss, as-found, live, no-entry, as-seen, as-step};
+ghost use Rattle.pelunziwa.specs.Answers.{found-target, not-found, as-found, live, no-entry, as-seen, as-step};
 ghost use Rattle.dir.specs.Answers.{looked-code, looked-target, walked-code};
 use dir::Entry;
 use dir::Looked;
@@ -83,9 +83,9 @@ fn code(n: usize) -> u32
 }
 
 // A lookup that finds: a file type is one byte, so that no bits are lost.
-fn hit(target: Target, tag: usize, compared: usize) -> Found
+fn found_target(target: Target, tag: usize, compared: usize) -> Found
     requires { ⌜ target .kind < 256 ⌝ }
-    ensures { λ r. ⌜ r ≡ hit target tag compared ⌝ }
+    ensures { λ r. ⌜ r ≡ found-target target tag compared ⌝ }
 {
     Found {
         refusal: 0,
@@ -97,8 +97,8 @@ fn hit(target: Target, tag: usize, compared: usize) -> Found
 }
 
 // A lookup that does not.
-fn miss(refusal: u32, compared: usize) -> Found
-    ensures { λ r. ⌜ r ≡ miss refusal compared ⌝ }
+fn not_found(refusal: u32, compared: usize) -> Found
+    ensures { λ r. ⌜ r ≡ not-found refusal compared ⌝ }
 {
     Found {
         refusal,
@@ -119,9 +119,9 @@ fn lookup_answer(answer: Looked) -> Found
             target,
             tag,
             compared,
-        } => hit(target, tag, compared),
-        Looked::Absent { compared } => miss(code(refusal::ABSENT), compared),
-        Looked::Refused(n) => miss(code(n), 0),
+        } => found_target(target, tag, compared),
+        Looked::Absent { compared } => not_found(code(refusal::ABSENT), compared),
+        Looked::Refused(n) => not_found(code(n), 0),
     }
 }
 
