@@ -31,31 +31,15 @@ use Rattle.dir_block_rules.proofs.AcceptedParts.{good-of, apart-of, rea
 use Rattle.dir_block_rules.proofs.BooksAgree.{one-target, one-tag}
 use Rattle.dir_block_rules.proofs.LookupFinds.{hit-of, spot, spot-name, target-found, tag-found}
 
--- a lookup's number
-pub lookup-is : (e : Edition) (b n : List ℕ) → looked-code (lookup e b n) ≡ lookup-code e b n
-unfolding lookup lookup-code
-lookup-is e b n =
+-- a lookup's number and values
+pub values : (e : Edition) (b n : List ℕ)
+    → (looked-code (lookup e b n) ≡ lookup-code e b n) × (looked-target (lookup e b n) ≡ lookup-target e b n)
+    × (looked-tag (lookup e b n) ≡ lookup-tag e b n) × (looked-compared (lookup e b n) ≡ lookup-compared e b n)
+unfolding lookup lookup-code lookup-target lookup-tag lookup-compared
+values e b n =
     by-cases (eqb (lookup-refusal e b n) 0)
-    (λ q. by-cases (sought e b n .hit) (λ h. rw (q, h) refl) (λ h. rw (q, h) refl)) (λ q. rw q refl)
-
--- and its values
-pub target-is : (e : Edition) (b n : List ℕ) → looked-target (lookup e b n) ≡ lookup-target e b n
-unfolding lookup lookup-code lookup-target
-target-is e b n =
-    by-cases (eqb (lookup-refusal e b n) 0)
-    (λ q. by-cases (sought e b n .hit) (λ h. rw (q, h) refl) (λ h. rw (q, h) refl)) (λ q. rw (q, q) refl)
-
-pub tag-is : (e : Edition) (b n : List ℕ) → looked-tag (lookup e b n) ≡ lookup-tag e b n
-unfolding lookup lookup-code lookup-tag
-tag-is e b n =
-    by-cases (eqb (lookup-refusal e b n) 0)
-    (λ q. by-cases (sought e b n .hit) (λ h. rw (q, h) refl) (λ h. rw (q, h) refl)) (λ q. rw (q, q) refl)
-
-pub compared-is : (e : Edition) (b n : List ℕ) → looked-compared (lookup e b n) ≡ lookup-compared e b n
-unfolding lookup lookup-compared
-compared-is e b n =
-    by-cases (eqb (lookup-refusal e b n) 0)
-    (λ q. by-cases (sought e b n .hit) (λ h. rw (q, h) refl) (λ h. rw (q, h) refl)) (λ q. rw q refl)
+    (λ q. by-cases (sought e b n .hit) (λ h. rw (q, h) (refl, refl, refl, refl)) (λ h. rw (q, h) (refl, refl, refl, refl)))
+    (λ q. rw (q, q) (refl, refl, refl, refl))
 
 -- a candidate is counted, any other slot is not
 counted : (t : Bool) (c m : ℕ) → step-if t c + m ≡ c + (cond t 1 0 + m)
@@ -141,7 +125,12 @@ module _ (e : Edition) (sane : Sane e) (b : List ℕ) (h : bytes b ≡ true) (a 
 
 pub lookup-right : (e : Edition) → Sane e → Lookup-right e
 unfolding Lookup-right
-lookup-right e sane b n h a l = record { found = λ xs r ys q sn. (looked-found e sane b h a n l xs r ys q sn, entry-part e sane b h a (record { before = xs; here = r; behind = ys; is = q })); absent = looked-absent e sane b h a n l; exactly = looked-exactly e sane b h a n l }
+lookup-right e sane b n h a l =
+    record {
+      found = λ xs r ys q sn. (looked-found e sane b h a n l xs r ys q sn, entry-part e sane b h a (record { before = xs; here = r; behind = ys; is = q }));
+      absent = looked-absent e sane b h a n l;
+      exactly = looked-exactly e sane b h a n l;
+    }
 
 pub v4-lookup-right : Lookup-right v4
 v4-lookup-right = lookup-right v4 v4-sane

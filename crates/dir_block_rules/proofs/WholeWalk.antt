@@ -104,7 +104,15 @@ module _ (e : Edition) (sane : Sane e) (b : List ℕ) (h : bytes b ≡ true) (a 
   elsewhere p q = rw (a, q) refl
 
   pub walks : Walks e b
-  walks = record { whole = whole-walk; rises = climbs-laid e (e .header) (records e b) (fit-of e sane b h a .laid); again = at-end; names = name-part e sane b h a; tags = λ xs r ys q. (sym (tag-own e sane b h a xs r ys q), raw-part e sane b h a xs r ys q); elsewhere = elsewhere }
+  walks =
+      record {
+        whole = whole-walk;
+        rises = climbs-laid e (e .header) (records e b) (fit-of e sane b h a .laid);
+        again = at-end;
+        names = name-part e sane b h a;
+        tags = λ xs r ys q. (sym (tag-own e sane b h a xs r ys q), raw-part e sane b h a xs r ys q);
+        elsewhere = elsewhere;
+      }
 
 pub walk-right : (e : Edition) → Sane e → Walk-right e
 unfolding Walk-right

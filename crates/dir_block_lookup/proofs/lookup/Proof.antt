@@ -7,7 +7,7 @@ use Rattle.edition.specs.Edition.{v4}
 use Rattle.dir.specs.declared.Looked.{Looked}
 use Rattle.dir.specs.Answers.{looked-code, looked-target, looked-tag, looked-compared}
 use Rattle.dir_block_rules.specs.Lookup.{lookup, Lookup-promise}
-use Rattle.dir_block_rules.proofs.LookupRight.{lookup-is, target-is, tag-is, compared-is}
+use Rattle.dir_block_rules.proofs.LookupRight.{values}
 use Rattle.dir_block_lookup.proofs.lookup.Statement.{statement}
 use Rattle.dir_block_lookup.proofs.lookup.Tie as tie
 
@@ -16,7 +16,8 @@ made : {e : Edition} {r : Looked} (b n : List ℕ) → r ≡ lookup e b n → e 
     → Lookup-promise v4 b n r
 made b n h q =
     let k = rw q at h in
-    (k, ap looked-code k ∙ lookup-is v4 b n, ap looked-target k ∙ target-is v4 b n, ap looked-tag k ∙ tag-is v4 b n, ap looked-compared k ∙ compared-is v4 b n)
+    let v = values v4 b n in
+    (k, ap looked-code k ∙ v .0, ap looked-target k ∙ v .1, ap looked-tag k ∙ v .2, ap looked-compared k ∙ v .3)
 
 pub lookup-spec : {M : Type 1} → statement M
 lookup-spec =
