@@ -22,7 +22,7 @@
  *   13 ABSENT  lookup or removal: no such live entry
  *   14 EXISTS  directory insert: the name is there
  *   15 NOROOM  the new entry does not fit
- *   16 NARROW  short-form removal that takes out the last wide entry under a wide parent
+ *   16         retired, not given
  *
  * After a refusal every other field is 0, except `compared` of a block lookup's 13, and all lent bytes are as they were.
  * In a block an entry's tag is its offset. In a short form it is the stored one, and "..", which is not stored, reports 0.
@@ -43,7 +43,7 @@ extern "C" {
 /* The refusals by name: the first test that fails. */
 enum {
     PZW_SIZE = 1, PZW_MAGIC, PZW_KIND, PZW_SPAN, PZW_TILE, PZW_NAME, PZW_NUMBER, PZW_INDEX, PZW_BEST, PZW_TWICE,
-    PZW_ASKED, PZW_FIXED, PZW_ABSENT, PZW_EXISTS, PZW_NOROOM, PZW_NARROW
+    PZW_ASKED, PZW_FIXED, PZW_ABSENT, PZW_EXISTS, PZW_NOROOM
 };
 
 /* What is wrong, in a sentence. */
@@ -66,7 +66,6 @@ static inline const char *pzw_sentence(uint32_t refusal)
     case PZW_ABSENT: return "there is no such live entry";
     case PZW_EXISTS: return "the name is there already";
     case PZW_NOROOM: return "there is no room for the entry";
-    case PZW_NARROW: return "the last wide entry may not leave a short form under a wide parent";
     default: return "no such refusal";
     }
 }

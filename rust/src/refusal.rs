@@ -36,13 +36,12 @@ pub enum Refusal {
     Exists = 14,
     /// No room by the room rules.
     NoRoom = 15,
-    /// The last wide entry may not leave a short form under a wide parent.
-    Narrow = 16,
+    // 16 is retired: it is not given, and not used again.
 }
 
 impl Refusal {
     /// By number: the paper's name, and a sentence. include/pelunziwa.h has the same words for C.
-    const ALL: [(Refusal, &'static str, &'static str); 16] = [
+    const ALL: [(Refusal, &'static str, &'static str); 15] = [
         (
             Refusal::Size,
             "SIZE",
@@ -86,17 +85,17 @@ impl Refusal {
         (Refusal::Absent, "ABSENT", "there is no such live entry"),
         (Refusal::Exists, "EXISTS", "the name is there already"),
         (Refusal::NoRoom, "NOROOM", "there is no room for the entry"),
-        (
-            Refusal::Narrow,
-            "NARROW",
-            "the last wide entry may not leave a short form under a wide parent",
-        ),
     ];
 
-    /// The refusal with this number, 1 to 16.
+    /// The refusal with this number. 16 is retired, and no refusal's.
     pub fn from_number(number: u32) -> Option<Refusal> {
-        let place = usize::try_from(number).ok()?.checked_sub(1)?;
-        Refusal::ALL.get(place).map(|row| row.0)
+        let row = Refusal::ALL.iter().find(|row| row.0.number() == number);
+        row.map(|row| row.0)
+    }
+
+    fn row(self) -> &'static (Refusal, &'static str, &'static str) {
+        let row = Refusal::ALL.iter().find(|row| row.0 == self);
+        row.expect("each refusal has its row")
     }
 
     /// The paper's number.
@@ -106,19 +105,19 @@ impl Refusal {
 
     /// The paper's name.
     pub fn name(self) -> &'static str {
-        Refusal::ALL[self as usize - 1].1
+        self.row().1
     }
 
     /// What is wrong, in a sentence.
     pub fn sentence(self) -> &'static str {
-        Refusal::ALL[self as usize - 1].2
+        self.row().2
     }
 
     /// The library's number, 0 for done, as a result.
     pub(crate) fn check(number: u32) -> Result<(), Refusal> {
         match number {
             0 => Ok(()),
-            _ => Err(Refusal::from_number(number).expect("the library answers 0 to 16")),
+            _ => Err(Refusal::from_number(number).expect("the library gives numbers of the table")),
         }
     }
 }

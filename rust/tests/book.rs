@@ -1,11 +1,11 @@
-//! A block over a long list of calls, held to a book of names with numbers that sees no answers: the paper's
-//! demand 3, tried on the library through the safe wrappers.
+//! A directory over a long list of calls, held to a book of names with numbers that sees no answers: the
+//! paper's demand 3 for blocks, and the same for short forms, tried on the library through the safe wrappers.
 
 mod common;
 
-use common::build::{self, BLOCK_SIZES};
+use common::build::{self, BLOCK_SIZES, INODE_SIZES};
 use common::{names, rounds, Rng, V4};
-use pelunziwa::{block, model, Refusal};
+use pelunziwa::{block, model, sfdir, Refusal};
 use std::collections::BTreeMap;
 
 type Book = BTreeMap<Vec<u8>, u64>;
@@ -14,34 +14,62 @@ fn code<T>(result: Result<T, Refusal>) -> Result<T, u32> {
     result.map_err(Refusal::number)
 }
 
-#[test]
-fn calls_agree_with_the_book() {
-    let mut rng = Rng::new(0xb00c);
-    let mut done = BTreeMap::new();
-    for len in BLOCK_SIZES {
-        for _ in 0..rounds(3) {
-            let mut bytes = build::block(&mut rng, len, &[]);
-            let mut book = held(&bytes);
-            for _ in 0..400 {
-                let call = one_call(&mut rng, &mut bytes, &mut book);
-                *done.entry(call).or_insert(0) += 1;
-                assert_eq!(held(&bytes), book);
-                assert_eq!(parts(&bytes), len);
-            }
-        }
-    }
-    println!("{done:?}");
-    for call in ["lookup", "insert", "removal", "insert after removal"] {
-        assert!(done.keys().any(|(what, code)| *what == call && *code == 0));
-    }
+/// A directory in one of its forms. The room rule is the model's.
+trait Directory {
+    /// The names with their numbers; the directory must be right.
+    fn held(&self) -> Book;
+    fn lookup(&self, name: &[u8]) -> Result<u64, u32>;
+    fn insert(&mut self, name: &[u8], number: u64) -> Result<(), u32>;
+    fn remove(&mut self, name: &[u8]) -> Result<(), u32>;
+    fn has_room(&self, name: &[u8], number: u64) -> bool;
+    /// What the book says to a lookup.
+    fn wanted(book: &Book, name: &[u8]) -> Result<u64, u32>;
+    /// Right after a removal its room serves again: the answer to an insert that must be done.
+    fn refill(&self, rng: &mut Rng, removed: (&[u8], u64)) -> Result<(), u32>;
 }
 
-/// The live names with their numbers; the block must be right.
-fn held(bytes: &[u8]) -> Book {
-    assert_eq!(block::test(bytes), Ok(()));
-    let entry = |live: (usize, u64, &[u8])| (live.2.to_vec(), live.1);
-    let block = model::block::read(V4, bytes).expect("a right block");
-    block.live().map(entry).collect()
+struct Block(Vec<u8>);
+
+impl Directory for Block {
+    fn held(&self) -> Book {
+        assert_eq!(block::test(&self.0), Ok(()));
+        assert_eq!(parts(&self.0), self.0.len());
+        let entry = |live: (usize, u64, &[u8])| (live.2.to_vec(), live.1);
+        let block = model::block::read(V4, &self.0).expect("a right block");
+        block.live().map(entry).collect()
+    }
+
+    fn lookup(&self, name: &[u8]) -> Result<u64, u32> {
+        let found = block::lookup(&self.0, name).map_err(Refusal::from);
+        code(found.map(|found| found.number))
+    }
+
+    fn insert(&mut self, name: &[u8], number: u64) -> Result<(), u32> {
+        code(block::insert(&mut self.0, name, number))
+    }
+
+    fn remove(&mut self, name: &[u8]) -> Result<(), u32> {
+        code(block::remove(&mut self.0, name))
+    }
+
+    fn has_room(&self, name: &[u8], _number: u64) -> bool {
+        let block = model::block::read(V4, &self.0).expect("a right block");
+        block.room(V4, name.len()).is_some()
+    }
+
+    fn wanted(book: &Book, name: &[u8]) -> Result<u64, u32> {
+        book_lookup(book, name)
+    }
+
+    /// Every legal absent name that is no longer, with any number.
+    fn refill(&self, rng: &mut Rng, removed: (&[u8], u64)) -> Result<(), u32> {
+        let len = rng.between(1, removed.0.len());
+        let name = names::of_len(rng, len);
+        match self.held().contains_key(&name) {
+            true => Ok(()),
+            false => Block(self.0.clone()).insert(&name, 1),
+        }
+    }
 }
 
 /// Header, live entries, gaps, slots and tail.
@@ -53,49 +81,136 @@ fn parts(bytes: &[u8]) -> usize {
     16 + live + gaps + 8 * block.slots.len() + 8
 }
 
+#[derive(Clone)]
+struct ShortForm {
+    inode: Vec<u8>,
+    told: u64,
+}
+
+impl Directory for ShortForm {
+    /// The entries, and ".." with the parent.
+    fn held(&self) -> Book {
+        assert_eq!(sfdir::test(&self.inode, self.told), Ok(()));
+        let dir = model::sfdir::read(V4, &self.inode, self.told).expect("a right directory");
+        let entries = dir.entries.into_iter().map(|e| (e.name, e.number));
+        entries.chain([(b"..".to_vec(), dir.parent)]).collect()
+    }
+
+    fn lookup(&self, name: &[u8]) -> Result<u64, u32> {
+        let found = sfdir::lookup(&self.inode, self.told, name);
+        code(found.map(|found| found.number))
+    }
+
+    fn insert(&mut self, name: &[u8], number: u64) -> Result<(), u32> {
+        code(sfdir::insert(&mut self.inode, self.told, name, number))
+    }
+
+    fn remove(&mut self, name: &[u8]) -> Result<(), u32> {
+        code(sfdir::remove(&mut self.inode, self.told, name))
+    }
+
+    fn has_room(&self, name: &[u8], number: u64) -> bool {
+        let tried = model::sfdir::insert(V4, &self.inode, self.told, name, number);
+        tried.refusal != model::NOROOM
+    }
+
+    /// A short form holds no ".": looking it up is 12.
+    fn wanted(book: &Book, name: &[u8]) -> Result<u64, u32> {
+        match name {
+            b"." => Err(model::FIXED),
+            _ => book_lookup(book, name),
+        }
+    }
+
+    /// The same name with the same number.
+    fn refill(&self, _rng: &mut Rng, removed: (&[u8], u64)) -> Result<(), u32> {
+        self.clone().insert(removed.0, removed.1)
+    }
+}
+
+#[test]
+fn blocks_follow_the_book() {
+    let mut rng = Rng::new(0xb00c);
+    let mut done = BTreeMap::new();
+    for len in BLOCK_SIZES {
+        for _ in 0..rounds(3) {
+            let block = Block(build::block(&mut rng, len, &[]));
+            follow(&mut rng, block, &mut done);
+        }
+    }
+    all_reached(&done);
+}
+
+#[test]
+fn short_forms_follow_the_book() {
+    let mut rng = Rng::new(0xb00d);
+    let mut done = BTreeMap::new();
+    for len in INODE_SIZES {
+        for _ in 0..rounds(6) {
+            let (inode, told) = build::sfdir(&mut rng, len, &[]);
+            follow(&mut rng, ShortForm { inode, told }, &mut done);
+        }
+    }
+    all_reached(&done);
+}
+
+type Reached = BTreeMap<(&'static str, u32), usize>;
+
+fn follow<D: Directory>(rng: &mut Rng, mut dir: D, done: &mut Reached) {
+    let mut book = dir.held();
+    for _ in 0..400 {
+        let call = one_call(rng, &mut dir, &mut book);
+        *done.entry(call).or_insert(0) += 1;
+        assert_eq!(dir.held(), book);
+    }
+}
+
+/// Every answer that the book has.
+fn all_reached(done: &Reached) {
+    println!("{done:?}");
+    let answers = [
+        ("lookup", &[0, 11, 13][..]),
+        ("insert", &[0, 11, 12, 14, 15]),
+        ("removal", &[0, 11, 12, 13]),
+        ("insert after removal", &[0]),
+    ];
+    for (call, codes) in answers {
+        for code in codes {
+            assert!(done.contains_key(&(call, *code)), "{call} {code}");
+        }
+    }
+}
+
 /// One call; which it was and the answer that library and book agree on.
-fn one_call(rng: &mut Rng, bytes: &mut [u8], book: &mut Book) -> (&'static str, u32) {
+fn one_call<D: Directory>(rng: &mut Rng, dir: &mut D, book: &mut Book) -> (&'static str, u32) {
     let all: Vec<Vec<u8>> = book.keys().cloned().collect();
     let name = names::asked(rng, &all);
     match rng.below(5) {
         0 => {
-            let want = book_lookup(book, &name);
-            let got = block::lookup(bytes, &name).map_err(Refusal::from);
-            assert_eq!(code(got.map(|found| found.number)), want);
+            let want = D::wanted(book, &name);
+            assert_eq!(dir.lookup(&name), want);
             ("lookup", want.err().unwrap_or(0))
         }
         1 | 2 => {
             let number = names::number(rng);
             let new = names::legal(rng);
             let name = rng.pick(&[name, new]);
-            let block = model::block::read(V4, bytes).expect("a right block");
-            let room = block.room(V4, name.len()).is_some();
+            let room = dir.has_room(&name, number);
             let want = book_insert(book, &name, number, room);
-            assert_eq!(code(block::insert(bytes, &name, number)), want);
+            assert_eq!(dir.insert(&name, number), want);
             ("insert", want.err().unwrap_or(0))
         }
         _ => {
+            let number = book.get(&name).copied();
             let want = book_remove(book, &name);
-            assert_eq!(code(block::remove(bytes, &name)), want);
-            if want.is_ok() && rng.one_in(2) {
-                return ("insert after removal", refill(rng, bytes, book, name.len()));
+            assert_eq!(dir.remove(&name), want);
+            if let (Ok(()), Some(number), true) = (want, number, rng.one_in(2)) {
+                assert_eq!(dir.refill(rng, (&name, number)), Ok(()));
+                return ("insert after removal", 0);
             }
             ("removal", want.err().unwrap_or(0))
         }
     }
-}
-
-/// After a removal, every legal absent name that is no longer goes in.
-fn refill(rng: &mut Rng, bytes: &[u8], book: &Book, removed: usize) -> u32 {
-    let len = rng.between(1, removed);
-    let name = names::of_len(rng, len);
-    let mut copy = bytes.to_vec();
-    let answer = code(block::insert(&mut copy, &name, 1));
-    match book.contains_key(&name) {
-        true => assert_eq!(answer, Err(model::EXISTS)),
-        false => assert_eq!(answer, Ok(())),
-    }
-    answer.err().unwrap_or(0)
 }
 
 fn book_lookup(book: &Book, name: &[u8]) -> Result<u64, u32> {

@@ -28,7 +28,7 @@ fn index() {
         ("inodes", 127),
         ("inodes told in full", 38),
         ("short-form directories", 90),
-        ("short-form directories listed", 44),
+        ("short-form directories listed", 47),
         ("blocks", 34),
         ("blocks listed", 33),
         ("attribute forks", 82),

@@ -8,7 +8,7 @@ use common::calls::Lab;
 use common::damage::{self, Fields};
 use common::frame::{self, Case, Structure};
 use common::{names, rounds, Rng, V4};
-use pelunziwa::model::{sfdir, Change, END};
+use pelunziwa::model::{self, sfdir, Change, END};
 
 const TESTS: [u32; 9] = [1, 2, 3, 4, 5, 6, 7, 8, 10];
 
@@ -16,7 +16,8 @@ const TESTS: [u32; 9] = [1, 2, 3, 4, 5, 6, 7, 8, 10];
 fn short_form_directories() {
     let mut lab = Lab::new(0x5fd1);
     frame::run::<ShortForms>(&mut lab);
-    lab.cover.require("sfdir_test", &TESTS, &[], &[]);
+    lab.cover
+        .require("sfdir_test", &TESTS, &[], &["parent not counted"]);
     lab.cover
         .require("sfdir_lookup", &TESTS, &[11, 12, 13], &["the parent"]);
     let rooms = [
@@ -26,13 +27,19 @@ fn short_form_directories() {
         "over the fork",
         "narrow to wide",
         "width kept",
+        "wide for the parent alone",
         "fills the fork",
     ];
     lab.cover
         .require("sfdir_insert", &TESTS, &[11, 12, 14, 15], &rooms);
-    let widths = ["wide to narrow", "width kept"];
+    let widths = [
+        "wide to narrow",
+        "width kept",
+        "last wide entry out, still wide",
+        "empty and wide",
+    ];
     lab.cover
-        .require("sfdir_remove", &TESTS, &[11, 12, 13, 16], &widths);
+        .require("sfdir_remove", &TESTS, &[11, 12, 13], &widths);
     lab.cover
         .require("sfdir_step", &TESTS, &[11], &["live", "end"]);
 }
@@ -127,11 +134,18 @@ impl Structure for ShortForms {
         INODE_SIZES.map(|len| built(rng, len, &[])).into()
     }
 
-    /// Inserts that leave no byte of the fork, or miss it by one.
+    /// An i8count that leaves the parent out; inserts that leave no byte of the fork, or miss it by one.
     fn edges(lab: &mut Lab, case: &Case) {
         let Ok(dir) = sfdir::read(V4, &case.bytes, case.told) else {
             return;
         };
+        if dir.i8count > 1 && dir.parent > model::NARROW_MAX {
+            let mut bytes = case.bytes.clone();
+            bytes[dir.fork.start + 1] -= 1;
+            lab.sfdir_test(&bytes, case.told);
+            assert_eq!(sfdir::test(V4, &bytes, case.told), model::INDEX);
+            lab.cover.note("sfdir_test", "parent not counted");
+        }
         let wide = lab.rng.one_in(2);
         let number = names::legal_number(&mut lab.rng, wide);
         let widened = wide && dir.i8count == 0;

@@ -24,11 +24,14 @@ fn told_by(model: model::Found) -> (u64, u64, u64) {
 
 #[test]
 fn refusals() {
-    assert_eq!(Refusal::from_number(0), None);
-    assert_eq!(Refusal::from_number(17), None);
+    for none in [0, 16, 17, u32::MAX] {
+        assert_eq!(Refusal::from_number(none), None);
+    }
     let header = include_str!("../../include/pelunziwa.h");
-    for number in 1..=16 {
-        let refusal = Refusal::from_number(number).expect("1 to 16");
+    assert!(header.contains("   16         retired, not given\n"));
+    assert!(!header.contains("NARROW"));
+    for number in 1..=15 {
+        let refusal = Refusal::from_number(number).expect("1 to 15");
         assert_eq!(refusal.number(), number);
         let (name, sentence) = (refusal.name(), refusal.sentence());
         let said = format!("refused {number} ({name}): {sentence}");

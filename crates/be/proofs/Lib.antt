@@ -5,3 +5,4 @@ pub mod Parts
 pub mod Writes
 pub mod Stores
 pub mod Splits
+pub mod BytesStay

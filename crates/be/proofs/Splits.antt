@@ -4,7 +4,7 @@ use Prim.Native.Nat.{ℕ, suc, _+_, _<_}
 use native.Mathlib.Omega.{arith}
 use mathlib.Core.Bool.{Bool, true, false, not, _&&_, _||_, cond, true≢false, false≢true}
 use mathlib.Core.Path.{_≡_, refl, sym, _∙_, ap}
-use mathlib.Core.List.{List, [], _∷_, _++_, map}
+use mathlib.Core.List.{List, [], _∷_, _++_, map, map-append}
 use lib.ListN.{length}
 use Rattle.be.specs.Lists.{every, some-of, tally, total}
 use Rattle.be.proofs.Bools.{by-cases, and-left, and-swap}
@@ -78,3 +78,16 @@ module _ {A : Type 0} where
 pub some-map : {A B : Type 0} (p : B → Bool) (f : A → B) (l : List A) → some-of p (map f l) ≡ some-of (λ a. p (f a)) l
 some-map p f [] = refl
 some-map p f (x ∷ l) = ap (λ (t : Bool). p (f x) || t) (some-map p f l)
+
+abbrev pub split-map : {A B : Type 0} (f : A → B) (l : List A) → Split l → Split (map f l)
+split-map f l s =
+    record {
+      before = map f (s .before);
+      here = f (s .here);
+      behind = map f (s .behind);
+      is = ap (map f) (s .is) ∙ map-append f (s .before) (s .here ∷ s .behind);
+    }
+
+pub tally-map : {A B : Type 0} (p : B → Bool) (f : A → B) (l : List A) → tally p (map f l) ≡ tally (λ a. p (f a)) l
+tally-map p f [] = refl
+tally-map p f (x ∷ l) = ap (λ (n : ℕ). cond (p (f x)) 1 0 + n) (tally-map p f l)

@@ -3,7 +3,7 @@
 use Prim.Native.Nat.{ℕ, _+_}
 use native.Mathlib.Omega.{arith}
 use mathlib.Core.Bool.{Bool, true, cond, false≢true}
-use mathlib.Core.Path.{_≡_, refl, sym, _∙_, ap, ap₂}
+use mathlib.Core.Path.{_≡_, refl, sym, _∙_, ap, ap₂, subst}
 use mathlib.Core.List.{List, [], _∷_, _++_}
 use lib.Dec.{eqb}
 use borrow.Author.Tests.{eqb-true, eq-eqb}
@@ -13,9 +13,10 @@ use Rattle.be.proofs.Splits.{Split, split-cons, some-split, some-at, tally-spli
 use Rattle.edition.specs.declared.Edition.{Edition}
 use Rattle.name.specs.Name.{same-name}
 use Rattle.name.proofs.Same.{same-refl, same-eq}
+use Rattle.name.proofs.Once.{once, only-one}
 use Rattle.dir.specs.declared.Target.{Target}
 use Rattle.dir.specs.Target.{target, same-target}
-use Rattle.dir.specs.Book.{Held, Book, named, holds, target-held, same-held, SameBook}
+use Rattle.dir.specs.Book.{Held, held, Book, named, holds, target-held, same-held, SameBook}
 
 pub target-self : (t : Target) → same-target t t ≡ true
 target-self t = and-both (eqb (t .inode) (t .inode)) (eqb (t .kind) (t .kind)) (eq-eqb (t .inode) (t .inode) refl) (eq-eqb (t .kind) (t .kind) refl)
@@ -71,3 +72,36 @@ first-named e n (x ∷ k) h =
     (λ q. record { split = record { before = []; here = x; behind = k; is = refl }; is-named = q; target-is = rw q refl; without = λ p. rw q refl })
     (λ q. let r : First-named e n k = first-named e n k (rw q at h) in
     record { split = split-cons x k (r .split); is-named = r .is-named; target-is = rw q (r .target-is); without = λ p. rw q (omega (arith, r .without p)) })
+
+-- each name is held once
+abbrev pub once-held : Edition → Book → Bool
+once-held e k = once e (λ h. h .name) k
+
+module _ (e : Edition) (n : List ℕ) where
+  -- two books that hold the same, one of them each name once: the name finds the same in both
+  module _ (j k : Book) (m : SameBook j k) (single : once-held e j ≡ true) where
+    pub first-same : (s : Split j) → named e n (s .here) ≡ true → (f : First-named e n k) → f .split .here ≡ s .here
+    first-same s q f =
+        let t : (t : Split j) × (t .here .name ≡ f .split .here .name) × (t .here .target ≡ f .split .here .target) = in-other k j (book-sym j k m) (f .split) in
+        let h : t .0 .here ≡ f .split .here = ap₂ (λ (a : List ℕ) (b : Target). held a b) (t .1) (t .2) in
+        sym h ∙ only-one e (λ x. x .name) n j single (t .0) s (subst (λ (x : Held). named e n x ≡ true) (sym h) (f .is-named)) q
+
+    module _ (there : holds e n j ≡ true) where
+      here : First-named e n j
+      here = first-named e n j there
+
+      other : First-named e n k
+      other = first-named e n k (sym (holds-same e n j k m) ∙ there)
+
+      one : other .split .here ≡ here .split .here
+      one = first-same (here .split) (here .is-named) other
+
+      pub target-same : target-held e n k ≡ target-held e n j
+      target-same = other .target-is ∙ ap (λ (h : Held). h .target) one ∙ sym (here .target-is)
+
+      pub without-same : SameBook (without-first (named e n) j) (without-first (named e n) k)
+      unfolding SameBook
+      without-same = λ h.
+          let w : cond (same-held h (here .split .here)) 1 0 + tally (same-held h) (without-first (named e n) k) ≡ tally (same-held h) k =
+          subst (λ (x : Held). cond (same-held h x) 1 0 + tally (same-held h) (without-first (named e n) k) ≡ tally (same-held h) k) one (other .without (same-held h)) in
+          omega (arith, here .without (same-held h), m h)

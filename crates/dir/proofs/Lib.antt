@@ -1,3 +1,4 @@
 pub mod FileTypes
 pub mod EveryList
 pub mod Books
+pub mod Replies

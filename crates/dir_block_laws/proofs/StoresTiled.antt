@@ -26,7 +26,8 @@ use Rattle.dir_block_rules.proofs.WritesLeave.{written-append}
 use Rattle.dir_block_rules.proofs.GoodParts.{block-bound, length-pair-bytes, length-best}
 use Rattle.dir_block_rules.proofs.Acceptance.{Passed, passed}
 use Rattle.dir_block_rules.proofs.WholeRecords.{tile-whole}
-use Rattle.dir_block_rules.proofs.StaysBytes.{bytes-written, all-remove}
+use Rattle.be.proofs.BytesStay.{bytes-written}
+use Rattle.dir_block_rules.proofs.StaysBytes.{all-remove}
 use Rattle.dir_block_rules.proofs.LookupFinds.{removed-of}
 use Rattle.dir_block_rules.proofs.Sealing.{seals, unsealed}
 use Rattle.dir_block_laws.specs.Tiled.{Tiled, Ready}

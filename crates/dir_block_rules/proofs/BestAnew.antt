@@ -21,7 +21,8 @@ use Rattle.dir_block_rules.specs.Calls.{reply, after}
 use Rattle.dir.specs.Book.{is-done}
 use Rattle.dir.specs.Along.{call-bytes}
 use Rattle.dir_block_rules.specs.Claims.{Best-written, Best-right}
-use Rattle.dir_block_rules.proofs.EachCall.{refused-not-done, insert-done, remove-done, stays-bytes}
+use Rattle.dir.proofs.Replies.{refused-not-done}
+use Rattle.dir_block_rules.proofs.EachCall.{insert-done, remove-done, stays-bytes}
 use Rattle.dir_block_rules.proofs.AcceptedParts.{fit-of}
 use Rattle.dir_block_rules.proofs.InsertCases.{Inserted}
 use Rattle.dir_block_rules.proofs.LookupFinds.{Removed}

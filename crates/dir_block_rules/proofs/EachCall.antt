@@ -3,7 +3,7 @@
 use Prim.Native.Nat.{ℕ, _+_, _^_, _≤_, _<_}
 use native.Mathlib.Omega.{arith}
 use native.Mathlib.Nat.{le-trans}
-use mathlib.Core.Bool.{Bool, true, false, not, _&&_, cond, false≢true, Bool·beq}
+use mathlib.Core.Bool.{Bool, true, false, not, _&&_, false≢true, Bool·beq}
 use mathlib.Core.Path.{_≡_, refl, sym, _∙_, ap, ap₂, subst}
 use mathlib.Core.List.{List, _∷_}
 use lib.Dec.{eqb, leb}
@@ -27,9 +27,9 @@ use Rattle.dir_block_rules.specs.Verdict.{Accepted, names-ok, name-ok, e
 use Rattle.dir_block_rules.specs.Lookup.{lookup, lookup-refusal, sought, target-at}
 use Rattle.dir_block_rules.specs.Room.{some-stale, room-of, has-room}
 use Rattle.dir_block_rules.specs.Change.{insert-writes, insert-code, insert-bytes, remove-writes, remove-code, remove-bytes}
-use Rattle.dir.specs.Calls.{done-or, Call, look-up, insert, remove, found, done, refuse, call-name}
+use Rattle.dir.specs.Calls.{done-or, Call, look-up, insert, remove, found, done, call-name}
 use Rattle.dir_block_rules.specs.Calls.{reply, after, book-of}
-use Rattle.dir.specs.Book.{held, Book, named, holds, target-held, SameBook, book-reply, book-after, entered, is-done}
+use Rattle.dir.specs.Book.{Held, held, Book, named, holds, target-held, SameBook, book-reply, book-after, is-done}
 use Rattle.dir.specs.Along.{call-bytes}
 use Rattle.dir_block_rules.specs.Demand.{Reuse, Call-right, book-next}
 use Rattle.be.proofs.Bools.{and-left, and-right, by-cases, clash}
@@ -38,6 +38,7 @@ use Rattle.name.proofs.Same.{same-eq, same-name-refl}
 use Rattle.dir_block_rules.proofs.AcceptedParts.{good-of}
 use Rattle.dir_block_rules.proofs.PartsAddUp.{adds-up}
 use Rattle.dir.proofs.Books.{holds-same, first-named, First-named}
+use Rattle.dir.proofs.Replies.{insert-is, remove-is, refused-not-done, done-is, refused-is, look-up-keeps}
 use Rattle.dir_block_rules.proofs.BooksAgree.{holds-entries, first-is, book-inserted, book-removed}
 use Rattle.dir_block_rules.proofs.InsertFree.{Asked}
 use Rattle.dir_block_rules.proofs.InsertCases.{Inserted, insert-any}
@@ -50,29 +51,6 @@ number-lt i h = number-bounds i h .1
 pub name-lt : (e : Edition) (n : List ℕ) → legal-name e n ≡ true → length n < 256
 name-lt e n h = omega (arith, legal-bounds e n h)
 
--- the order of the tests is the same on both sides
-insert-chain : (l f h r : Bool) → done-or (ASKED unless l then FIXED unless f then EXISTS unless h then NOROOM unless r then 0)
-    ≡ (refuse ASKED unless l then refuse FIXED unless f then refuse EXISTS unless h then refuse NOROOM unless r then done)
-insert-chain false f h r = refl
-insert-chain true false h r = refl
-insert-chain true true false r = refl
-insert-chain true true true false = refl
-insert-chain true true true true = refl
-
-remove-chain : (l f h : Bool) → done-or (ASKED unless l then FIXED unless f then ABSENT unless h then 0)
-    ≡ (refuse ASKED unless l then refuse FIXED unless f then refuse ABSENT unless h then done)
-remove-chain false f h = refl
-remove-chain true false h = refl
-remove-chain true true false = refl
-remove-chain true true true = refl
-
-keeps : {A : Type 0} (t : Bool) (x : A) → cond t x x ≡ x
-keeps true x = refl
-keeps false x = refl
-
-pub refused-not-done : (k : ℕ) → eqb k 0 ≡ false → is-done (done-or k) ≡ false
-refused-not-done k h = rw h refl
-
 module _ (e : Edition) (sane : Sane e) (b : List ℕ) (h : bytes b ≡ true) (a : Accepted e b) where
   -- what the search finds is what the book holds
   hit-holds : (k : Book) → SameBook (book-of e b) k → (n : List ℕ) → sought e b n .hit ≡ holds e n k
@@ -83,7 +61,7 @@ module _ (e : Edition) (sane : Sane e) (b : List ℕ) (h : bytes b ≡ true) (a 
   lookup-hit k m n q =
       let f : First-named e n k = first-named e n k (sym (hit-holds k m n) ∙ q) in
       target-found e sane b h a n q
-      ∙ sym (f .target-is ∙ first-is e b n k m (good-of e sane b h a .once) (spot e sane b h a n q) (spot-name e sane b h a n q) f .1)
+      ∙ sym (f .target-is ∙ ap (λ (x : Held). x .target) (first-is e b n k m (good-of e sane b h a .once) (spot e sane b h a n q) (spot-name e sane b h a n q) f))
 
   lookup-reply : (k : Book) → SameBook (book-of e b) k → (n : List ℕ) (r : Bool) → reply e b (look-up n) ≡ book-reply e k r (look-up n)
   unfolding reply lookup lookup-refusal book-reply
@@ -104,16 +82,12 @@ module _ (e : Edition) (sane : Sane e) (b : List ℕ) (h : bytes b ≡ true) (a 
   remove-code-is n = rw a refl
 
   insert-reply : (k : Book) → SameBook (book-of e b) k → (n : List ℕ) (i : Target) → reply e b (insert n i) ≡ book-reply e k (has-room e b n) (insert n i)
-  unfolding reply book-reply
-  insert-reply k m n i =
-      ap done-or (insert-code-is n i) ∙ insert-chain (legal-name e n && legal-target e i) (not (fixed-name n)) (not (sought e b n .hit)) (has-room e b n)
-      ∙ ap (λ (t : Bool). refuse ASKED unless legal-name e n && legal-target e i then refuse FIXED unless not (fixed-name n) then refuse EXISTS unless not t then refuse NOROOM unless has-room e b n then done) (hit-holds k m n)
+  unfolding reply
+  insert-reply k m n i = ap done-or (insert-code-is n i) ∙ insert-is e k n (sought e b n .hit) (λ f. hit-holds k m n) i (has-room e b n)
 
   remove-reply : (k : Book) → SameBook (book-of e b) k → (n : List ℕ) (r : Bool) → reply e b (remove n) ≡ book-reply e k r (remove n)
-  unfolding reply book-reply
-  remove-reply k m n r =
-      ap done-or (remove-code-is n) ∙ remove-chain (legal-name e n) (not (fixed-name n)) (sought e b n .hit)
-      ∙ ap (λ (t : Bool). refuse ASKED unless legal-name e n then refuse FIXED unless not (fixed-name n) then refuse ABSENT unless t then done) (hit-holds k m n)
+  unfolding reply
+  remove-reply k m n r = ap done-or (remove-code-is n) ∙ remove-is e k n (sought e b n .hit) (λ f. hit-holds k m n) r
 
   -- an insert that is done
   pub insert-facts : (n : List ℕ) (i : Target) → insert-code e b n i ≡ 0
@@ -216,17 +190,8 @@ module _ (e : Edition) (sane : Sane e) (b : List ℕ) (h : bytes b ≡ true) (a 
 
 module _ (e : Edition) (sane : Sane e) (b : List ℕ) (h : bytes b ≡ true) (a : Accepted e b) (k : Book) (m : SameBook (book-of e b) k) where
   look-right : (n : List ℕ) → Call-right e k b (look-up n)
-  unfolding after book-after Reuse
-  look-right n =
-      unchanged e sane b h a k m (look-up n) (lookup-reply e sane b h a k m n (has-room e b n)) refl (keeps (is-done (book-reply e k (has-room e b n) (look-up n))) k) tt
-
-  done-is : (c : Call) → reply e b c ≡ book-reply e k (has-room e b (call-name c)) c → reply e b c ≡ done → book-after e k (has-room e b (call-name c)) c ≡ entered e k c
-  unfolding book-after
-  done-is c an q = rw (sym an ∙ q) refl
-
-  refused-is : (c : Call) → reply e b c ≡ book-reply e k (has-room e b (call-name c)) c → is-done (reply e b c) ≡ false → book-after e k (has-room e b (call-name c)) c ≡ k
-  unfolding book-after
-  refused-is c an q = rw (ap is-done (sym an) ∙ q) refl
+  unfolding after Reuse
+  look-right n = unchanged e sane b h a k m (look-up n) (lookup-reply e sane b h a k m n (has-room e b n)) refl (look-up-keeps e k (has-room e b n) n) tt
 
   insert-right : (n : List ℕ) (i : Target) → bytes n ≡ true → Call-right e k b (insert n i)
   unfolding after reply Reuse insert-bytes
@@ -235,7 +200,7 @@ module _ (e : Edition) (sane : Sane e) (b : List ℕ) (h : bytes b ≡ true) (a 
       by-cases (eqb (insert-code e b n i) 0)
       (λ z. let q : insert-code e b n i ≡ 0 = eqb-true (insert-code e b n i) 0 z in
       let w : Inserted e b n i (insert-bytes e b n i) = insert-done e sane b h a n i nb q in
-      let bk : book-after e k (has-room e b n) (insert n i) ≡ held n (kept-of e i) ∷ k = done-is (insert n i) an (rw z refl) in
+      let bk : book-after e k (has-room e b n) (insert n i) ≡ held n (kept-of e i) ∷ k = done-is e k (has-room e b n) (insert n i) (sym an ∙ rw z refl) in
       record {
         answers = an;
         accepted = w .accepted;
@@ -245,7 +210,7 @@ module _ (e : Edition) (sane : Sane e) (b : List ℕ) (h : bytes b ≡ true) (a 
         adds-up = adds-up e sane (insert-bytes e b n i) (stays-bytes e sane b h a (insert n i) nb) (w .accepted);
         reuse = tt;
       })
-      (λ z. unchanged e sane b h a k m (insert n i) an (rw z refl) (refused-is (insert n i) an (refused-not-done (insert-code e b n i) z)) tt)
+      (λ z. unchanged e sane b h a k m (insert n i) an (rw z refl) (refused-is e k (has-room e b n) (insert n i) (ap is-done (sym an) ∙ refused-not-done (insert-code e b n i) z)) tt)
 
   remove-right : (n : List ℕ) → bytes n ≡ true → Call-right e k b (remove n)
   unfolding after reply Reuse remove-bytes
@@ -256,7 +221,7 @@ module _ (e : Edition) (sane : Sane e) (b : List ℕ) (h : bytes b ≡ true) (a 
       let w : Removed e b n (remove-bytes e b n) = remove-done e sane b h a n q in
       let c : List ℕ = remove-bytes e b n in
       let cb : bytes c ≡ true = stays-bytes e sane b h a (remove n) nb in
-      let bk : book-after e k (has-room e b n) (remove n) ≡ without-first (named e n) k = done-is (remove n) an (rw z refl) in
+      let bk : book-after e k (has-room e b n) (remove n) ≡ without-first (named e n) k = done-is e k (has-room e b n) (remove n) (sym an ∙ rw z refl) in
       let f : First-named e n k = first-named e n k (sym (hit-holds e sane b h a k m n) ∙ remove-facts e sane b h a n q .2) in
       record {
         answers = an;
@@ -270,7 +235,7 @@ module _ (e : Edition) (sane : Sane e) (b : List ℕ) (h : bytes b ≡ true) (a 
             (room-by-a e sane c cb (w .accepted) x (omega (arith, w .one-more))
             (w .gap-split) (le-trans (entry-size-mono e (length x) (length n) len) (w .gap-long)));
       })
-      (λ z. unchanged e sane b h a k m (remove n) an (rw z refl) (refused-is (remove n) an (refused-not-done (remove-code e b n) z))
+      (λ z. unchanged e sane b h a k m (remove n) an (rw z refl) (refused-is e k (has-room e b n) (remove n) (ap is-done (sym an) ∙ refused-not-done (remove-code e b n) z))
       (λ dn x i xb lg ln hd len. absurd (clash (ap is-done dn) (refused-not-done (remove-code e b n) z))))
 
 -- an accepted block whose names and numbers are the book's

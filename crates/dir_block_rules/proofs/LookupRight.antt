@@ -28,7 +28,7 @@ use Rattle.dir_block_rules.specs.Claims.{borne, Lookup-right}
 use Rattle.be.proofs.Splits.{Split, split-cons, some-at, some-split}
 use Rattle.dir_block_rules.proofs.SearchFinds.{Owner, owner, read-at}
 use Rattle.dir_block_rules.proofs.AcceptedParts.{good-of, apart-of, reads-of, entry-part}
-use Rattle.dir_block_rules.proofs.BooksAgree.{one-target, one-tag}
+use Rattle.dir_block_rules.proofs.BooksAgree.{one-entry}
 use Rattle.dir_block_rules.proofs.LookupFinds.{hit-of, spot, spot-name, target-found, tag-found}
 
 -- a lookup's number and values
@@ -106,8 +106,8 @@ module _ (e : Edition) (sane : Sane e) (b : List ℕ) (h : bytes b ≡ true) (a 
         let rs : same-name e (name r) (name (s .here)) ≡ true =
         same-name-trans e (name r) n (name (s .here)) (same-name-sym e n (name r) sn) (spot-name e sane b h a n ht) in
         let tr : target-at e b (sought e b n .at) ≡ target-of e r =
-        target-found e sane b h a n ht ∙ one-target e (entries (records e b)) (good-of e sane b h a .once) t s rs in
-        let tg : sought e b n .at ≡ tag r = tag-found e sane b h a n ht ∙ one-tag e (entries (records e b)) (good-of e sane b h a .once) t s rs in
+        target-found e sane b h a n ht ∙ ap (target-of e) (one-entry e (entries (records e b)) (good-of e sane b h a .once) t s rs) in
+        let tg : sought e b n .at ≡ tag r = tag-found e sane b h a n ht ∙ ap tag (one-entry e (entries (records e b)) (good-of e sane b h a .once) t s rs) in
         rw (a, l, ht) (ap₂ (λ (i : Target) (g : ℕ). Found i g (names-compared e b n)) tr tg)
 
     looked-absent : borne e b n ≡ false → lookup e b n ≡ Absent (names-compared e b n)

@@ -22,7 +22,7 @@ use Rattle.dir_sf.proofs.Names.{fails, once-head, once-tail}
 use Rattle.dir_sf.proofs.Tested.{used-passes, names-known, once-known}
 
 -- not "." and not ".."
-not-fixed : (n : List ℕ) → fixed-name n ≡ false → (same n dot ≡ false) × (same n dotdot ≡ false)
+pub not-fixed : (n : List ℕ) → fixed-name n ≡ false → (same n dot ≡ false) × (same n dotdot ≡ false)
 unfolding fixed-name
 not-fixed n h = neither (same n dot) (same n dotdot) h
 

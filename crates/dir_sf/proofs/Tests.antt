@@ -213,7 +213,7 @@ pub record Wide (e : Edition) (w : ℕ) (u : List ℕ) (at k parent i p c : ℕ)
 
 wides-cons : (parent : ℕ) (x : SfEntry) (xs : List SfEntry) → wides-of parent (x ∷ xs) ≡ cond (is-wide (x .target .inode)) 1 0 + wides-of parent xs
 unfolding wides-of
-wides-cons parent x xs = refl
+wides-cons parent x xs = omega arith
 
 pub wide-start : (e : Edition) (w : ℕ) (u : List ℕ) (at k parent : ℕ) → enough e w u k at ≡ true → Wide e w u at k parent 0 at 0
 wide-start e w u at k parent f =
@@ -229,10 +229,12 @@ wide-on e w u at k parent i p c n v j r s h a b e₀ f l =
     ap (wides-of parent) (run-rest e w u at k i p n v (s .run) h a b) ∙ wides-cons parent x _ in
     record { run = run-on e w u at k i p n v (s .run) h a b; few = omega (arith, s .few); rest = omega (arith, s .rest) }
 
-pub wide-done : (e : Edition) (w : ℕ) (u : List ℕ) (at k parent i p c : ℕ) → Wide e w u at k parent i p c → k ≤ i → c ≡ wides-of parent (entries-in e w u k at)
+-- the parent's comes last
+pub wide-done : (e : Edition) (w : ℕ) (u : List ℕ) (at k parent i p c one : ℕ) → Wide e w u at k parent i p c → k ≤ i → one ≡ cond (is-wide parent) 1 0
+    → c + one ≡ wides-of parent (entries-in e w u k at)
 unfolding wides-of
-wide-done e w u at k parent i p c s h =
-    let q : wides-of parent (entries-in e w u (k - i) p) ≡ 0 = ap (wides-of parent) (run-over e w u k i p h) in
+wide-done e w u at k parent i p c one s h a =
+    let q : wides-of parent (entries-in e w u (k - i) p) ≡ 0 + cond (is-wide parent) 1 0 = ap (wides-of parent) (run-over e w u k i p h) in
     omega (arith, s .rest)
 
 -- ---- TWICE

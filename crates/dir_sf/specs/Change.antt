@@ -3,9 +3,9 @@
 use Prim.Native.Nat.{ℕ, suc, _+_}
 use mathlib.Core.Bool.{Bool, true, false, not, cond, _&&_, _||_}
 use mathlib.Core.List.{List, [], _∷_}
-use lib.Dec.{eqb, leb, ltb}
+use lib.Dec.{leb, ltb}
 use lib.ListN.{length}
-use Rattle.refusal.specs.Refusal.{ASKED, FIXED, ABSENT, EXISTS, NOROOM, NARROW}
+use Rattle.refusal.specs.Refusal.{ASKED, FIXED, ABSENT, EXISTS, NOROOM}
 use Rattle.be.specs.Lists.{same, without-first}
 use Rattle.be.specs.Codes.{_unless_then_}
 use Rattle.edition.specs.declared.Edition.{Edition}
@@ -15,7 +15,7 @@ use Rattle.dir.specs.declared.Target.{Target}
 use Rattle.dir.specs.Target.{target, legal-target, kept-of}
 use Rattle.dir_sf.specs.declared.FreeTag.{FreeTag}
 use Rattle.dir_sf.specs.declared.FreeTag.the-variants.{At, Nowhere}
-use Rattle.dir_sf.specs.Entry.{SfEntry, entry, empty-entry, is-wide, wides-of, next-tag, end-tag, in-block}
+use Rattle.dir_sf.specs.Entry.{SfEntry, entry, empty-entry, next-tag, end-tag, in-block}
 use Rattle.dir_sf.specs.Fork.{lay, holds}
 
 -- ---- lookup
@@ -102,14 +102,9 @@ insert-request e told fork n t p xs =
 unfoldable pub removed : Edition → List ℕ → List SfEntry → List SfEntry
 removed e n xs = without-first (λ x. same-name e n (x .name)) xs
 
--- 16 NARROW: the last wide entry is taken out under a wide parent
-unfoldable pub narrows : ℕ → List SfEntry → List SfEntry → Bool
-narrows p xs ys = not (eqb (wides-of p xs) 0) && eqb (wides-of p ys) 0 && is-wide p
-
--- 11 ASKED, 12 FIXED, 13 ABSENT, 16 NARROW
-unfoldable pub remove-request : Edition → List ℕ → ℕ → List SfEntry → ℕ
-remove-request e n p xs =
+-- 11 ASKED, 12 FIXED, 13 ABSENT
+unfoldable pub remove-request : Edition → List ℕ → List SfEntry → ℕ
+remove-request e n xs =
     ASKED unless legal-name e n then
     FIXED unless not (fixed-name n) then
-    ABSENT unless holds e n xs then
-    NARROW unless not (narrows p xs (removed e n xs)) then 0
+    ABSENT unless holds e n xs then 0

@@ -64,9 +64,9 @@ entries-bytes e w xs = joined (entry-bytes e w) xs
 unfoldable pub is-wide : ℕ → Bool
 is-wide i = ltb 4294967295 i
 
--- i8count is the number of entries whose inode number is above 4,294,967,295; the parent does not count
+-- i8count is the number of entries whose inode number is above 4,294,967,295, plus 1 for such a parent
 unfoldable pub wides-of : ℕ → List SfEntry → ℕ
-wides-of parent xs = tally (λ x. is-wide (x .target .inode)) xs
+wides-of parent xs = tally (λ x. is-wide (x .target .inode)) xs + cond (is-wide parent) 1 0
 
 -- ---- tags
 

@@ -48,7 +48,7 @@ insert-code e told b n t =
     verdict e told b and-then insert-request e told (data-length e b) n t (parent (used e b)) (entries e (used e b))
 
 unfoldable pub remove-code : Edition → ℕ → List ℕ → List ℕ → ℕ
-remove-code e told b n = verdict e told b and-then remove-request e n (parent (used e b)) (entries e (used e b))
+remove-code e told b n = verdict e told b and-then remove-request e n (entries e (used e b))
 
 -- what the name stands for, when it is found
 unfoldable pub lookup-target : Edition → ℕ → List ℕ → List ℕ → Target

@@ -199,9 +199,9 @@ pub fn one_if_wide(i: u64) -> usize
     0
 }
 
-// How many of the entries are wide.
+// How many numbers are wide, the parent's among them.
 fn count_wide(e: Edition, u: &[u8], parent: u64, at: usize, k: usize, wides: usize) -> usize
-    requires { ⌜ Sane e × (at ≤ length (now u)) × (enough e (width-of wides) (now u) k at ≡ true) ⌝ }
+    requires { ⌜ Sane e × (at ≤ length (now u)) × (k < 256) × (enough e (width-of wides) (now u) k at ≡ true) ⌝ }
     ensures { λ r. ⌜ r ≡ wides-of parent (entries-in e (width-of wides) (now (u .entry)) k at) ⌝ }
 {
     let mut i = 0;
@@ -215,7 +215,7 @@ fn count_wide(e: Edition, u: &[u8], parent: u64, at: usize, k: usize, wides: usi
         p = end + w;
         i += 1;
     }
-    c
+    c + one_if_wide(parent)
 }
 
 // TWICE.

@@ -3,13 +3,13 @@
 use Prim.Native.Nat.{ℕ, _+_, _*_, _%_, _^_, _≤_, _<_}
 use native.Mathlib.Omega.{arith}
 use mathlib.Core.Bool.{Bool, true, false, _&&_}
-use mathlib.Core.Path.{_≡_, refl, _∙_, subst}
+use mathlib.Core.Path.{_≡_, refl}
 use mathlib.Core.List.{List, [], _∷_}
 use lib.Dec.{eqb, leb, ltb}
-use lib.ListN.{length, getD}
-use borrow.Author.Tests.{le-leb, lt-ltb, leb-true, ltb-true, ltb-false, eqb-true, eq-eqb, le-ltb}
+use lib.ListN.{length, drop, getD}
+use borrow.Author.Tests.{le-leb, lt-ltb, leb-true, ltb-true, ltb-false, eqb-true, eq-eqb}
 use Rattle.be.specs.Lists.{every, tally}
-use Rattle.be.specs.Bytes.{bytes, field}
+use Rattle.be.specs.Bytes.{bytes}
 use Rattle.be.proofs.Codes.{passes}
 use Rattle.records.specs.Records.{start}
 use Rattle.records.proofs.Turns.{every-all}
@@ -17,7 +17,7 @@ use Rattle.edition.specs.declared.Edition.{Edition}
 use Rattle.name.specs.Name.{legal-name, legal-number}
 use Rattle.name.proofs.Legality.{legal-bounds, number-bounds}
 use Rattle.be.proofs.Bools.{and-left, and-right, and-both, by-cases, every-head, every-tail}
-use Rattle.be.proofs.Parts.{field-lt}
+use Rattle.be.proofs.Parts.{field-lt, bytes-take, bytes-drop}
 use Rattle.dir_sf.specs.Entry.{SfEntry, width-of, size-at, entry-at, entries-in, filled, is-wide, wides-of, next-tag, tags-ok, end-tag, in-block}
 use Rattle.dir_sf.specs.Fork.{count-of, stored-wides, used-width, parent, entries, lay, lay-fork, span-ok, tile-ok, name-ok, names-ok, numbers-ok, once-ok, used-verdict, fork-verdict}
 use Rattle.dir_sf.proofs.Run.{length-entries-in}
@@ -35,8 +35,6 @@ pub record Good (e : Edition) (told p : ℕ) (xs : List SfEntry) : Type 0 where
   pub numbers : numbers-ok p xs ≡ true
   pub once : once-ok e xs ≡ true
   pub kinds : kinds-ok e xs ≡ true
-  -- a wide parent has a wide entry
-  pub parent-fits : wides-of p xs ≡ 0 → is-wide p ≡ false
 
 -- ---- good entries fit their bytes
 
@@ -51,6 +49,10 @@ narrow-below i h = let a : i ≤ 4294967295 = ltb-false _ _ h in omega arith
 pub number-fits : (wides i : ℕ) → legal-number i ≡ true → (wides ≡ 0 → is-wide i ≡ false) → i < 256 ^ width-of wides
 unfolding width-of
 number-fits wides i h n = by-cases (eqb wides 0) (λ q. rw q (narrow-below i (n (eqb-true _ _ q)))) (λ q. rw q (legal-below i h))
+
+pub narrow-parent : (p : ℕ) (xs : List SfEntry) → wides-of p xs ≡ 0 → is-wide p ≡ false
+unfolding wides-of
+narrow-parent p xs h = by-cases (is-wide p) (λ q. absurd (omega (arith, rw q at h))) (λ q. q)
 
 no-wide-head : (x : SfEntry) (xs : List SfEntry) → tally (λ y. is-wide (y .target .inode)) (x ∷ xs) ≡ 0 → is-wide (x .target .inode) ≡ false
 no-wide-head x xs h = by-cases (is-wide (x .target .inode)) (λ q. absurd (omega (arith, rw q at h))) (λ q. q)
@@ -96,11 +98,11 @@ module _ (e : Edition) (told p : ℕ) (xs : List SfEntry) (small : told ≤ 6553
   pub good-fit : Fits e (width-of (wides-of p xs)) xs
   unfolding wides-of names-ok numbers-ok
   good-fit =
-      good-fits e (e .first) (wides-of p xs) xs (g .tags) end-small (g .names) (and-right (legal-number p) _ (g .numbers)) (g .kinds) (λ q. q)
+      good-fits e (e .first) (wides-of p xs) xs (g .tags) end-small (g .names) (and-right (legal-number p) _ (g .numbers)) (g .kinds) (λ q. omega arith)
 
   pub good-parent : p < 256 ^ width-of (wides-of p xs)
   unfolding numbers-ok
-  good-parent = number-fits (wides-of p xs) p (and-left (legal-number p) _ (g .numbers)) (g .parent-fits)
+  good-parent = number-fits (wides-of p xs) p (and-left (legal-number p) _ (g .numbers)) (narrow-parent p xs)
 
   read-entries : entries e (lay e p xs) ≡ xs
   read-entries = lay-entries e p xs good-fit
@@ -141,18 +143,6 @@ kind-in : (e : Edition) (w : ℕ) (u : List ℕ) → bytes u ≡ true → (p : �
 unfolding entry-at size-at
 kind-in e w u h p l = lt-ltb _ _ (field-lt (p + 3 + getD u p 0) (e .ftype) u h (omega arith))
 
-narrow-width : (wides : ℕ) → wides ≡ 0 → width-of wides ≡ 4
-unfolding width-of
-narrow-width wides h = rw h refl
-
-below-narrow : (i : ℕ) → i < 256 ^ 4 → is-wide i ≡ false
-unfolding is-wide
-below-narrow i h = le-ltb 4294967295 i (omega arith)
-
-is-four : (u : List ℕ) → stored-wides u ≡ 0 → used-width u ≡ 4
-unfolding used-width
-is-four u h = narrow-width (stored-wides u) h
-
 module _ (e : Edition) (told : ℕ) (u : List ℕ) (h : bytes u ≡ true) (long : 2 + used-width u ≤ length u) (a : used-verdict e told u ≡ 0) where
   tests : (tile-ok e told u ≡ true) × (names-ok e (entries e u) ≡ true) × (numbers-ok (parent u) (entries e u) ≡ true)
       × (eqb (stored-wides u) (wides-of (parent u) (entries e u)) ≡ true) × (once-ok e (entries e u) ≡ true)
@@ -182,18 +172,20 @@ module _ (e : Edition) (told : ℕ) (u : List ℕ) (h : bytes u ≡ true) (long 
   pub used-filled : filled e (used-width u) u (count-of u) (2 + used-width u) ≡ true
   used-filled = tile .0
 
-  used-kinds : kinds-ok e (entries e u) ≡ true
+  -- what holds of an entry wherever it lies in the used bytes
+  used-every : (t : SfEntry → Bool) → ((p : ℕ) → p + size-at e (used-width u) u p ≤ length u → t (entry-at e (used-width u) u p) ≡ true) → every t (entries e u) ≡ true
   unfolding entries entries-in filled
-  used-kinds =
+  used-every t f =
       let w : ℕ = used-width u in
       let q : start (size-at e w u) (count-of u) (2 + w) ≡ length u = eqb-true _ _ (tile .0) in
-      every-all (size-at e w u) (entry-at e w u) (λ x. ltb (x .target .kind) (256 ^ e .ftype)) (length u) (kind-in e w u h) (count-of u) (2 + w) (omega arith)
+      every-all (size-at e w u) (entry-at e w u) t (length u) f (count-of u) (2 + w) (omega arith)
 
-  used-parent : wides-of (parent u) (entries e u) ≡ 0 → is-wide (parent u) ≡ false
-  unfolding parent
-  used-parent q =
-      let s : stored-wides u ≡ 0 = eqb-true _ _ (tests .3) ∙ q in
-      below-narrow (field 2 (used-width u) u) (subst (λ (w : ℕ). field 2 (used-width u) u < 256 ^ w) (is-four u s) (field-lt 2 (used-width u) u h long))
+  used-kinds : kinds-ok e (entries e u) ≡ true
+  used-kinds = used-every (λ x. ltb (x .target .kind) (256 ^ e .ftype)) (kind-in e (used-width u) u h)
+
+  pub used-spelled : every (λ x. bytes (x .name)) (entries e u) ≡ true
+  unfolding entry-at
+  used-spelled = used-every (λ x. bytes (x .name)) (λ p l. bytes-take (getD u p 0) (drop (p + 3) u) (bytes-drop (p + 3) u h))
 
   pub used-good : Good e told (parent u) (entries e u)
   used-good =
@@ -204,5 +196,4 @@ module _ (e : Edition) (told : ℕ) (u : List ℕ) (h : bytes u ≡ true) (long 
         numbers = tests .2;
         once = tests .4;
         kinds = used-kinds;
-        parent-fits = used-parent;
       }

@@ -2,7 +2,7 @@
 -- Assumes nothing.
 use Prim.Native.Nat.{ℕ, zero, suc, _+_, _-_, _≤_, _<_}
 use native.Mathlib.Omega.{arith}
-use mathlib.Core.Bool.{true, false, not}
+use mathlib.Core.Bool.{true, false}
 use mathlib.Core.Path.{_≡_, refl, sym, _∙_, ap, ap₂}
 use mathlib.Core.List.{List, [], _∷_, _++_}
 use lib.ListN.{length, take, drop, replicate, length-take, length-drop}
@@ -27,6 +27,7 @@ use Rattle.dir_sf.specs.Change.{tag-for, is-free, placed, inserted, insert-requ
 use Rattle.dir_sf.specs.Inner.{Readable}
 use Rattle.dir_sf.specs.Inode.{size-of, verdict, used, insert-code, remove-code, with-entries, insert-bytes, remove-bytes}
 use Rattle.dir_sf_edit.proofs.ReadBack.{length-entry-bytes, length-lay}
+use Rattle.dir_sf_edit.proofs.Removes.{removes}
 use Rattle.dir_sf_edit.proofs.Keeps.{removed-fits, inserts}
 use Rattle.dir_sf_edit.proofs.Inserts.{number-of, inserted-is, every-placed, length-placed}
 use Rattle.dir_sf_edit.proofs.Insertions.{lay-few}
@@ -40,11 +41,11 @@ unfolding remove-code
 remove-refused e told c b n h f = h ∙ sym (rw (ne-eqb (verdict e told b) 0 (λ q. f (h ∙ q))) refl)
 
 pub remove-passed : (e : Edition) (sane : Sane e) (told c z r : ℕ) (b n : List ℕ) → c ≡ verdict e told b → c ≡ 0 → z ≡ size-of b
-    → r ≡ remove-request e n (parent (take (e .literal + z - e .literal) (drop (e .literal) b))) (entries e (take (e .literal + z - e .literal) (drop (e .literal) b))) → r ≡ remove-code e told b n
+    → r ≡ remove-request e n (entries e (take (e .literal + z - e .literal) (drop (e .literal) b))) → r ≡ remove-code e told b n
 unfolding remove-code
 remove-passed e sane told c z r b n h f q k =
     let v : verdict e told b ≡ 0 = sym h ∙ f in
-    k ∙ ap (λ (u : List ℕ). remove-request e n (parent u) (entries e u)) (used-is e sane told b v z q) ∙ sym (rw (eq-eqb _ _ v) refl)
+    k ∙ ap (λ (u : List ℕ). remove-request e n (entries e u)) (used-is e sane told b v z q) ∙ sym (rw (eq-eqb _ _ v) refl)
 
 -- ---- what is laid out anew is as long as what was there
 
@@ -116,25 +117,21 @@ lay-fits e sane told b v =
 -- ---- removal
 
 module _ (e : Edition) (sane : Sane e) (told : ℕ) (b n : List ℕ) (h : remove-code e told b n ≡ 0) where
-  parts : (verdict e told b ≡ 0) × (remove-request e n (parent (used e b)) (entries e (used e b)) ≡ 0)
+  parts : (verdict e told b ≡ 0) × (remove-request e n (entries e (used e b)) ≡ 0)
   unfolding remove-code
   parts = both (verdict e told b) _ h
 
   pub remove-passes : verdict e told b ≡ 0
   remove-passes = parts .0
 
-  pub remove-answers : remove-request e n (parent (used e b)) (entries e (used e b)) ≡ 0
+  pub remove-answers : remove-request e n (entries e (used e b)) ≡ 0
   remove-answers = parts .1
 
   pub remove-dir : directory-code e b ≡ 0
   remove-dir = is-directory e sane told b remove-passes
 
   there : holds e n (entries e (used e b)) ≡ true
-  unfolding remove-request
-  there =
-      let a = passes (legal-name e n) 10 _ (parts .1) in
-      let c = passes (not (fixed-name n)) 11 _ (a .1) in
-      passes (holds e n (entries e (used e b))) 12 _ (c .1) .0
+  there = removes e n (entries e (used e b)) remove-answers .2
 
   pub remove-fits : length (lay e (parent (used e b)) (removed e n (entries e (used e b)))) ≤ data-length e b
   remove-fits = omega (arith, removed-fits e n (parent (used e b)) (entries e (used e b)), lay-fits e sane told b remove-passes)
@@ -217,7 +214,7 @@ module _ (e : Edition) (sane : Sane e) (told : ℕ) (b n : List ℕ) (to : Targe
   pub insert-fits : length (lay e (parent (used e b)) (inserted e told n to (entries e (used e b)))) ≤ data-length e b
   insert-fits = all-tests .5
 
-  few-entries : count-of (used e b) < 255
+  few-entries : count-of (used e b) < 254
   unfolding names-ok
   few-entries =
       let y : SfEntry = entry (number-of (tag-for e told (length n) (entries e (used e b)))) n (kept-of e to) in
@@ -237,7 +234,7 @@ module _ (e : Edition) (sane : Sane e) (told : ℕ) (b n : List ℕ) (to : Targe
     pub insert-free : is-free (tag-for e told (length n) (entries e (take (e .literal + z - e .literal) (drop (e .literal) b)))) ≡ true
     insert-free = rw lent (all-tests .4)
 
-    pub insert-few : count-of (take (e .literal + z - e .literal) (drop (e .literal) b)) < 255
+    pub insert-few : count-of (take (e .literal + z - e .literal) (drop (e .literal) b)) < 254
     insert-few = rw lent few-entries
 
     pub insert-room : (T : ℕ) → T ≡ 2048

@@ -48,16 +48,16 @@ tally-le : {A : Type 0} (p : A → Bool) (xs : List A) → tally p xs ≤ length
 tally-le p [] = omega arith
 tally-le p (x ∷ xs) = by-cases (p x) (λ q. rw q (omega (arith, tally-le p xs))) (λ q. rw q (omega (arith, tally-le p xs)))
 
-wides-le : (p : ℕ) (xs : List SfEntry) → wides-of p xs ≤ length xs
+pub wides-le : (p : ℕ) (xs : List SfEntry) → wides-of p xs ≤ length xs + 1
 unfolding wides-of
-wides-le p xs = tally-le (λ x. is-wide (x .target .inode)) xs
+wides-le p xs = by-cases (is-wide p) (λ q. rw q (omega (arith, tally-le (λ x. is-wide (x .target .inode)) xs))) (λ q. rw q (omega (arith, tally-le (λ x. is-wide (x .target .inode)) xs)))
 
 -- ---- the size with the new entry in
 
 -- one wide number more, if the new one is wide
 pub placed-wide : (p : ℕ) (y : SfEntry) (xs : List SfEntry) → wides-of p (placed y xs) ≡ cond (is-wide (y .target .inode)) 1 0 + wides-of p xs
 unfolding wides-of
-placed-wide p y xs = tally-placed (λ x. is-wide (x .target .inode)) y xs
+placed-wide p y xs = omega (arith, tally-placed (λ x. is-wide (x .target .inode)) y xs)
 
 pub placed-bytes : (e : Edition) (w : ℕ) (y : SfEntry) (xs : List SfEntry) → length (entries-bytes e w (placed y xs)) ≡ length (entry-bytes e w y) + length (entries-bytes e w xs)
 unfolding placed
@@ -211,7 +211,7 @@ module _ (e : Edition) (u name : List ℕ) (r : Readable e u) (told wides one s 
       → z ≡ length (lay e (parent u) (inserted e told name to (entries e u)))
   grow-size z h = h ∙ ap length grow-is
 
-pub wides-small : (e : Edition) (u : List ℕ) (wides one : ℕ) → Readable e u → wides ≡ byte 1 u → one ≤ 1 → count-of u < 255 → wides + one < 256
+pub wides-small : (e : Edition) (u : List ℕ) (wides one : ℕ) → Readable e u → wides ≡ byte 1 u → one ≤ 1 → count-of u < 254 → wides + one < 256
 unfolding stored-wides
 wides-small e u wides one r b l h = omega (arith, r .wides, wides-le (parent u) (entries e u), count-is e u)
 

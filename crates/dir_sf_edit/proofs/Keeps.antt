@@ -17,13 +17,13 @@ use Rattle.dir.specs.Target.{legal-target, kept-of}
 use Rattle.dir.proofs.FileTypes.{target-number, target-type, kept-fits}
 use Rattle.name.specs.Name.{legal-name, legal-number, same-name, fixed-name}
 use Rattle.dir_sf.specs.declared.FreeTag.the-variants.{At, Nowhere}
-use Rattle.dir_sf.specs.Entry.{SfEntry, entry, width-of, entries-bytes, is-wide, wides-of, next-tag, tags-ok, end-tag, in-block}
+use Rattle.dir_sf.specs.Entry.{SfEntry, entry, width-of, entries-bytes, wides-of, next-tag, tags-ok, end-tag, in-block}
 use Rattle.dir_sf.specs.Fork.{name-ok, names-ok, numbers-ok, holds, lay, lay-fork, fork-verdict}
 use Rattle.dir_sf.specs.Change.{gap-tag, tag-for, is-free, placed, inserted, has-room, insert-request, removed, remove-request}
 use Rattle.dir_sf_edit.proofs.ReadBack.{length-entry-bytes, length-lay}
 use Rattle.dir_sf_edit.proofs.Accepted.{Good, laid-accepted}
 use Rattle.dir_sf_edit.proofs.Removes.{removed-good}
-use Rattle.dir_sf_edit.proofs.Inserts.{Tags, number-of, free-at, inserted-is, every-placed, length-placed, tally-placed, placed-once, placed-last, placed-in-gap, end-eights}
+use Rattle.dir_sf_edit.proofs.Inserts.{Tags, number-of, free-at, inserted-is, every-placed, length-placed, placed-once, placed-last, placed-in-gap, end-eights}
 
 -- what an insert that is done has passed
 module _ (e : Edition) (told p : ℕ) (n : List ℕ) (to : Target) (xs : List SfEntry) (fork : ℕ) (done : insert-request e told fork n to p xs ≡ 0) where
@@ -91,7 +91,6 @@ module _ (e : Edition) (ok : Tags e) (told p : ℕ) (n : List ℕ) (to : Target)
           numbers = and-both _ _ (and-left (legal-number p) _ (g .numbers)) (every-placed (λ x. legal-number (x .target .inode)) y xs (target-number e to legal) (and-right (legal-number p) _ (g .numbers)));
           once = placed-once e y xs (inserts e told p n to xs fork done .3) (g .once);
           kinds = every-placed (λ x. ltb (x .target .kind) (256 ^ e .ftype)) y xs (lt-ltb _ _ (kept-fits e sane to (target-type e to legal))) (g .kinds);
-          parent-fits = λ z. g .parent-fits (omega (arith, tally-placed (λ x. is-wide (x .target .inode)) y xs));
         })
 
     -- 01's law: the fork that is left is accepted
@@ -132,7 +131,7 @@ removed-fits e n p xs =
     let w : width-of (wides-of p (removed e n xs)) ≤ width-of (wides-of p xs) = width-grows _ _ (removed-wides e n p xs) in
     omega (arith, length-lay e p (removed e n xs), length-lay e p xs, removed-shorter e n (width-of (wides-of p (removed e n xs))) (width-of (wides-of p xs)) xs w)
 
-module _ (e : Edition) (told p : ℕ) (n : List ℕ) (xs : List SfEntry) (g : Good e told p xs) (done : remove-request e n p xs ≡ 0) where
+module _ (e : Edition) (told p : ℕ) (n : List ℕ) (xs : List SfEntry) (g : Good e told p xs) (done : remove-request e n xs ≡ 0) where
   pub remove-accepted : (fork : ℕ) → told ≤ 65536 → length (lay e p xs) ≤ fork
       → fork-verdict e told (lay-fork e fork p (removed e n xs)) (length (lay e p (removed e n xs))) ≡ 0
   remove-accepted fork s h =

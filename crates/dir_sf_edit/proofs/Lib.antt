@@ -11,6 +11,8 @@ pub mod TagScans
 pub mod Insertions
 pub mod Changes
 pub mod Untouched
+pub mod LeavesBytes
 pub mod PutBack
 pub mod Kept
+pub mod FollowsBook
 pub mod V4Laws

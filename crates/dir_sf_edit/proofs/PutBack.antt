@@ -2,16 +2,15 @@
 -- Assumes nothing.
 use Prim.Native.Nat.{ℕ, suc, _+_, _≤_}
 use native.Mathlib.Omega.{arith}
-use mathlib.Core.Bool.{Bool, true, false, not, cond}
+use mathlib.Core.Bool.{Bool, true, false, cond}
 use mathlib.Core.Path.{_≡_, refl, sym, _∙_, ap}
 use mathlib.Core.List.{List, [], _∷_}
 use lib.Dec.{leb}
 use lib.ListN.{length, length-append}
-use borrow.Author.Tests.{le-leb, not-true}
+use borrow.Author.Tests.{le-leb}
 use Rattle.dir_sf_edit.proofs.TagScans.{end-cons, end-none, gap-here}
 use Rattle.be.specs.Lists.{every}
 use Rattle.be.proofs.Bools.{by-cases, clash, and-right, every-head, every-tail}
-use Rattle.be.proofs.Codes.{passes}
 use Rattle.edition.specs.declared.Edition.{Edition}
 use Rattle.edition.specs.Edition.{entry-size}
 use Rattle.dir.specs.declared.Target.{Target}
@@ -24,7 +23,7 @@ use Rattle.dir_sf.specs.Fork.{lay, holds, numbers-ok}
 use Rattle.dir_sf.specs.Change.{entry-in, target-in, gap-tag, tag-for, is-free, placed, inserted, has-room, insert-request, removed, remove-request}
 use Rattle.dir_sf_edit.proofs.ReadBack.{length-entry-bytes, length-lay}
 use Rattle.dir_sf_edit.proofs.Accepted.{Good}
-use Rattle.dir_sf_edit.proofs.Removes.{removed-end, removed-length, removed-held, removed-wide, less-in-block}
+use Rattle.dir_sf_edit.proofs.Removes.{removed-end, removed-length, removed-held, removed-wide, less-in-block, removes}
 use Rattle.dir_sf.proofs.Tags.{tagged}
 use Rattle.dir_sf_edit.proofs.Inserts.{number-of, inserted-is}
 use Rattle.dir_sf_edit.proofs.Insertions.{placed-wide, placed-bytes}
@@ -107,15 +106,10 @@ number-legal e n (x ∷ xs) h k =
     (λ q. rw (q, target-in) (every-head (λ y. legal-number (y .target .inode)) x xs k))
     (λ q. rw (q, target-in) (number-legal e n xs (rw q at h) (every-tail (λ y. legal-number (y .target .inode)) x xs k)))
 
-module _ (e : Edition) (told p fork : ℕ) (n : List ℕ) (kind : ℕ) (typed : legal-type e kind ≡ true) (xs : List SfEntry) (g : Good e told p xs) (done : remove-request e n p xs ≡ 0)
+module _ (e : Edition) (told p fork : ℕ) (n : List ℕ) (kind : ℕ) (typed : legal-type e kind ≡ true) (xs : List SfEntry) (g : Good e told p xs) (done : remove-request e n xs ≡ 0)
     (fits : length (lay e p xs) ≤ fork) where
   tests : (legal-name e n ≡ true) × (fixed-name n ≡ false) × (holds e n xs ≡ true)
-  unfolding remove-request
-  tests =
-      let a = passes (legal-name e n) 10 _ done in
-      let b = passes (not (fixed-name n)) 11 _ (a .1) in
-      let c = passes (holds e n xs) 12 _ (b .1) in
-      (a .0, not-true _ (b .0), c .0)
+  tests = removes e n xs done
 
   gone : holds e n (removed e n xs) ≡ false
   gone = removed-held e n n xs (g .once) ∙ rw (same-name-refl e n) refl

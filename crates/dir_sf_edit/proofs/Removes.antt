@@ -5,9 +5,9 @@ use native.Mathlib.Omega.{arith}
 use mathlib.Core.Bool.{Bool, true, false, not, cond}
 use mathlib.Core.Path.{_≡_, refl, ap}
 use mathlib.Core.List.{List, [], _∷_}
-use lib.Dec.{eqb, ltb}
+use lib.Dec.{ltb}
 use lib.ListN.{length}
-use borrow.Author.Tests.{le-leb, leb-true, eqb-true, eq-eqb, not-true}
+use borrow.Author.Tests.{le-leb, leb-true, not-true}
 use Rattle.be.specs.Lists.{every}
 use Rattle.be.proofs.Codes.{passes}
 use Rattle.edition.specs.declared.Edition.{Edition}
@@ -17,7 +17,7 @@ use Rattle.be.proofs.Bools.{and-left, and-right, and-both, by-cases, clash, eve
 use Rattle.dir.specs.Target.{no-target}
 use Rattle.dir_sf.specs.Entry.{SfEntry, is-wide, wides-of, next-tag, tags-ok, end-tag, in-block}
 use Rattle.dir_sf.specs.Fork.{name-ok, names-ok, numbers-ok, holds, once-ok}
-use Rattle.dir_sf.specs.Change.{entry-in, target-in, removed, narrows, remove-request}
+use Rattle.dir_sf.specs.Change.{entry-in, target-in, removed, remove-request}
 use Rattle.dir_sf.proofs.Tags.{tagged, untagged}
 use Rattle.dir_sf.proofs.Names.{fails, absent-same, absent-target, once-head, once-tail, once-cons}
 use Rattle.dir_sf_edit.proofs.Accepted.{Good}
@@ -118,12 +118,7 @@ pub removed-wide : (e : Edition) (n : List ℕ) (p : ℕ) (xs : List SfEntry) �
 unfolding wides-of removed holds entry-in
 removed-wide e n p [] h = absurd (clash h refl)
 removed-wide e n p (x ∷ xs) h =
-    by-cases (same-name e n (x .name)) (λ q. rw (q, target-in) refl) (λ q. rw (q, target-in) (omega (arith, removed-wide e n p xs (rw q at h))))
-
-narrow-parent : (p : ℕ) (xs ys : List SfEntry) → narrows p xs ys ≡ false → (wides-of p xs ≡ 0 → is-wide p ≡ false) → wides-of p ys ≡ 0 → is-wide p ≡ false
-unfolding narrows
-narrow-parent p xs ys h f z =
-    by-cases (eqb (wides-of p xs) 0) (λ q. f (eqb-true _ _ q)) (λ q. rw (q, eq-eqb _ _ z) at h)
+    by-cases (same-name e n (x .name)) (λ q. rw (q, target-in) (omega arith)) (λ q. rw (q, target-in) (omega (arith, removed-wide e n p xs (rw q at h))))
 
 pub less-in-block : (told a b j k : ℕ) → a ≤ b → j ≤ k → in-block told b k ≡ true → in-block told a j ≡ true
 unfolding in-block
@@ -132,25 +127,24 @@ less-in-block told a b j k h l t =
     let r : a + 8 * (j + 2) + 8 ≤ told = omega arith in
     le-leb _ _ r
 
-module _ (e : Edition) (told p : ℕ) (n : List ℕ) (xs : List SfEntry) (g : Good e told p xs) (done : remove-request e n p xs ≡ 0) where
-  removes : (holds e n xs ≡ true) × (narrows p xs (removed e n xs) ≡ false)
-  unfolding remove-request
-  removes =
-      let a = passes (legal-name e n) 10 _ done in
-      let b = passes (not (fixed-name n)) 11 _ (a .1) in
-      let c = passes (holds e n xs) 12 _ (b .1) in
-      let d = passes (not (narrows p xs (removed e n xs))) 15 _ (c .1) in
-      (c .0, not-true _ (d .0))
+-- what a removal that is done has passed
+pub removes : (e : Edition) (n : List ℕ) (xs : List SfEntry) → remove-request e n xs ≡ 0 → (legal-name e n ≡ true) × (fixed-name n ≡ false) × (holds e n xs ≡ true)
+unfolding remove-request
+removes e n xs done =
+    let a = passes (legal-name e n) 10 _ done in
+    let b = passes (not (fixed-name n)) 11 _ (a .1) in
+    let c = passes (holds e n xs) 12 _ (b .1) in
+    (a .0, not-true _ (b .0), c .0)
 
+module _ (e : Edition) (told p : ℕ) (n : List ℕ) (xs : List SfEntry) (g : Good e told p xs) (done : remove-request e n xs ≡ 0) where
   pub removed-good : Good e told p (removed e n xs)
   unfolding names-ok numbers-ok
   removed-good =
       record {
         tags = removed-tags e n (e .first) xs (g .tags);
-        within = less-in-block told _ _ _ _ (removed-end e n (e .first) xs (g .tags)) (omega (arith, removed-length e n xs (removes .0))) (g .within);
+        within = less-in-block told _ _ _ _ (removed-end e n (e .first) xs (g .tags)) (omega (arith, removed-length e n xs (removes e n xs done .2))) (g .within);
         names = every-removed e n (name-ok e) xs (g .names);
         numbers = and-both _ _ (and-left (legal-number p) _ (g .numbers)) (every-removed e n (λ x. legal-number (x .target .inode)) xs (and-right (legal-number p) _ (g .numbers)));
         once = removed-once e n xs (g .once);
         kinds = every-removed e n (λ x. ltb (x .target .kind) (256 ^ e .ftype)) xs (g .kinds);
-        parent-fits = narrow-parent p xs (removed e n xs) (removes .1) (g .parent-fits);
       }

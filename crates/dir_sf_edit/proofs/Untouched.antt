@@ -50,7 +50,7 @@ module _ (e : Edition) (sane : Sane e) (told : ℕ) (b : List ℕ) (v : verdict 
   unfolding F
   fork-long = length-lay-fork e (parent (used e b)) ys (data-length e b) fits
 
-  long : length (with-entries e b ys) ≡ length b
+  pub long : length (with-entries e b ys) ≡ length b
   long = ap length two ∙ length-put (put b size-place (to-be 8 L)) (e .literal) F ∙ length-put b size-place (to-be 8 L)
 
   low : (o n : ℕ) → o + n ≤ size-place → field o n (with-entries e b ys) ≡ field o n b

@@ -9,7 +9,8 @@ use Rattle.edition.specs.declared.Edition.{Edition}
 use Rattle.dir.specs.declared.Target.{Target}
 use Rattle.dir.specs.Target.{target, no-target, legal-type, kept-of}
 use Rattle.name.specs.Name.{same-name}
-use Rattle.dir_sf.specs.Fork.{parent, entries, holds}
+use Rattle.dir_sf.specs.Entry.{SfEntry, is-wide}
+use Rattle.dir_sf.specs.Fork.{parent, entries, holds, used-width, lay}
 use Rattle.dir_sf.specs.Change.{target-in}
 use Rattle.dir_sf.specs.Inode.{used, verdict, insert-code, remove-code, insert-bytes, remove-bytes}
 
@@ -36,6 +37,19 @@ Insert-names e = (told : ℕ) (b n : List ℕ) (to : Target) → bytes b ≡ tru
 -- after a removal they are those before less the one
 unfoldable pub Remove-names : Edition → Type 0
 Remove-names e = (told : ℕ) (b n : List ℕ) → bytes b ≡ true → remove-code e told b n ≡ 0 → Differs e b (remove-bytes e told b n) n false no-target
+
+-- under a wide parent a fork laid out is wide, whatever its entries: 8 bytes for each number
+unfoldable pub Wide-laid : Edition → Type 0
+Wide-laid e = (p : ℕ) (xs : List SfEntry) → is-wide p ≡ true → used-width (lay e p xs) ≡ 8
+
+-- so a directory that is accepted under a wide parent is wide, even when empty
+unfoldable pub Wide-accepted : Edition → Type 0
+Wide-accepted e = (told : ℕ) (b : List ℕ) → verdict e told b ≡ 0 → is-wide (parent (used e b)) ≡ true → used-width (used e b) ≡ 8
+
+-- and a removal under a wide parent stays wide
+unfoldable pub Remove-wide : Edition → Type 0
+Remove-wide e = (told : ℕ) (b n : List ℕ) → bytes b ≡ true → remove-code e told b n ≡ 0 → is-wide (parent (used e b)) ≡ true
+    → used-width (used e (remove-bytes e told b n)) ≡ 8
 
 -- right after a removal that is done the same name with the same number, and any legal type, goes back in, always: if the end has no room, the gap
 -- that was left has

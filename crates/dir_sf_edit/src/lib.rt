@@ -1,9 +1,8 @@
 // Changes of short-form directories: insert and removal, in the inode.
 ghost use mathlib.Core.Path.{_≡_};
-ghost use mathlib.Core.Bool.{true, not, _&&_};
+ghost use mathlib.Core.Bool.{true, cond};
 ghost use mathlib.Core.List.{_∷_, _++_};
 ghost use Prim.Native.Nat.{_+_, _-_, _≤_, _<_};
-ghost use lib.Dec.{eqb};
 ghost use lib.ListN.{length, take, drop};
 ghost use Rattle.be.specs.Bytes.{byte, put, to-be};
 ghost use Rattle.records.specs.Records.{start};
@@ -222,6 +221,14 @@ fn lay_without<'a, 'b>(
     copy_others(e, t, m, u, next, index + 1, after)
 }
 
+// i8count with a number out; a wide parent still counts.
+fn wides_without(u: &[u8], gone: u64) -> usize
+    requires { ⌜ (1 < length (now u)) × (cond (is-wide gone) 1 0 ≤ byte 1 (now u)) ⌝ }
+    ensures { λ r. ⌜ (r ≡ byte 1 (now (u .entry)) - cond (is-wide gone) 1 0) × (r < 256) ⌝ }
+{
+    be::be8(u, 1) - dir_sf::one_if_wide(gone)
+}
+
 // Lays out the directory in u without the entry of a name. Gives its size.
 fn shrink<'a, 'b, 'c>(e: Edition, t: &'a mut [u8], u: &'b [u8], name: &'c [u8]) -> usize
     requires { ⌜ Sane e × Readable e (now u) × (holds e (now name) (entries e (now u)) ≡ true)
@@ -231,21 +238,14 @@ fn shrink<'a, 'b, 'c>(e: Edition, t: &'a mut [u8], u: &'b [u8], name: &'c [u8]) 
         × (r ≡ length (lay e (parent (now (u .entry))) (removed e (now (name .entry)) (entries e (now (u .entry)))))) ⌝ }
 {
     let h = dir_sf::seek_name(e, u, name);
-    let after = be::be8(u, 1) - dir_sf::one_if_wide(h.target.inode);
+    let after = wides_without(u, h.target.inode);
     lay_without(e, t, u, h.index, h.at, after)
-}
-
-// Whether the last wide entry goes under a wide parent.
-fn narrowing(before: usize, after: usize, parent: u64) -> bool
-    ensures { λ r. ⌜ r ≡ (not (eqb before 0) && eqb after 0 && is-wide parent) ⌝ }
-{
-    (before != 0) & (after == 0) & (4294967295 < parent)
 }
 
 // What a removal answers, of a directory that passes the tests.
 fn removal_code<'a, 'b>(e: Edition, u: &'a [u8], name: &'b [u8]) -> usize
     requires { ⌜ Sane e × Readable e (now u) ⌝ }
-    ensures { λ r. ⌜ r ≡ remove-request e (now (name .entry)) (parent (now (u .entry))) (entries e (now (u .entry))) ⌝ }
+    ensures { λ r. ⌜ r ≡ remove-request e (now (name .entry)) (entries e (now (u .entry))) ⌝ }
 {
     if !name::legal(e, name) {
         return refusal::ASKED;
@@ -256,14 +256,6 @@ fn removal_code<'a, 'b>(e: Edition, u: &'a [u8], name: &'b [u8]) -> usize
     let h = dir_sf::seek_name(e, u, name);
     if !h.held {
         return refusal::ABSENT;
-    }
-    let wides = be::be8(u, 1);
-    if narrowing(
-        wides,
-        wides - dir_sf::one_if_wide(h.target.inode),
-        dir_sf::parent_of(u),
-    ) {
-        return refusal::NARROW;
     }
     0
 }
@@ -512,7 +504,7 @@ fn grow<'a, 'b, 'c>(
     name: &'c [u8],
     to: Target,
 ) -> usize
-    requires { ⌜ Sane e × Readable e (now u) × (length (now name) < 256) × (count-of (now u) < 255)
+    requires { ⌜ Sane e × Readable e (now u) × (length (now name) < 256) × (count-of (now u) < 254)
         × (is-free (tag-for e told (length (now name)) (entries e (now u))) ≡ true)
         × (length (lay e (parent (now u)) (inserted e told (now name) to (entries e (now u)))) ≤ length (now t)) ⌝ }
     ensures { λ r. ⌜ (now (t .exit)

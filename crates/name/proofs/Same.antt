@@ -53,3 +53,8 @@ module _ (e : Edition) where
   pub same-name-fixed : (n m : List ℕ) → same-name e n m ≡ true → fixed-name n ≡ fixed-name m
   unfolding same-name
   same-name-fixed n m h = ap fixed-name (same-eq n m h)
+
+  -- "." and ".." are the same name as themselves alone
+  pub same-name-as-fixed : (n d : List ℕ) → fixed-name d ≡ true → same-name e n d ≡ same n d
+  unfolding same-name
+  same-name-as-fixed n d h = refl

@@ -62,10 +62,8 @@ EXISTS = 14
 abbrev pub NOROOM : ℕ
 NOROOM = 15
 
--- a short-form removal that takes out the last wide entry under a wide parent
-abbrev pub NARROW : ℕ
-NARROW = 16
+-- 16 is retired: it is not given, and not used again
 
 -- the highest of them
 abbrev pub HIGHEST : ℕ
-HIGHEST = NARROW
+HIGHEST = NOROOM

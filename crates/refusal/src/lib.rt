@@ -46,8 +46,7 @@ pub const EXISTS: usize = 14;
 // No room, by the room rules.
 pub const NOROOM: usize = 15;
 
-// A short-form removal that takes out the last wide entry under a wide parent.
-pub const NARROW: usize = 16;
+// 16 is retired: it is not given, and not used again.
 
 // The highest of them.
-pub const HIGHEST: usize = NARROW;
+pub const HIGHEST: usize = NOROOM;

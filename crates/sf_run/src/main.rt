@@ -219,20 +219,23 @@ fn widths() {
     line();
 }
 
-// One wide entry under a wide parent.
-fn wide_parent() -> [u8; 256] {
-    with_used(b"\x01\x01\x00\x00\x00\x01\x00\x00\x00\x00\x01\x000w\x00\x00\x00\x01\x00\x00\x00\x00")
-}
-
-fn narrow() {
-    let mut b = wide_parent();
-    say(b"narrow");
-    count(dir_sf_edit::remove(&mut b, 4096, b"w"));
-    same(&b, &wide_parent());
-    count(dir_sf_edit::insert(&mut b, 4096, b"v", 4294967297));
-    count(dir_sf_edit::remove(&mut b, 4096, b"w"));
-    count(dir_sf_edit::remove(&mut b, 4096, b"v"));
+// One wide entry under a wide parent: both count, and the directory is still wide when the entry is out.
+fn wide_parent() {
+    let mut b = with_used(
+        b"\x01\x02\x00\x00\x00\x01\x00\x00\x00\x00\x01\x000w\x00\x00\x00\x01\x00\x00\x00\x00",
+    );
+    say(b"wide parent");
     count(dir_sf::test(&b, 4096));
+    count(dir_sf_edit::remove(&mut b, 4096, b"w"));
+    number(be::be64(&b, dinode::SIZE_PLACE));
+    same(&b[100..110], b"\x00\x01\x00\x00\x00\x01\x00\x00\x00\x00");
+    same(&b[110..256], &[0u8; 146]);
+    count(dir_sf::test(&b, 4096));
+    count(dir_sf_edit::insert(&mut b, 4096, b"a", 5));
+    same(
+        &b[100..122],
+        b"\x01\x01\x00\x00\x00\x01\x00\x00\x00\x00\x01\x000a\x00\x00\x00\x00\x00\x00\x00\x05",
+    );
     line();
 }
 
@@ -293,12 +296,13 @@ fn cores() {
 
 fn refusals() {
     cores();
-    // size under the header; a tag below 48; a name with "/"; number 0; i8count too high; a name twice
+    // size under the header; a tag below 48; a name with "/"; number 0; i8count too high, a wide parent not counted; a name twice
     tested(b"\x00\x00\x00\x00\x00");
     tested(b"\x01\x00\x00\x00\x00\x80\x01\x00(a\x00\x00\x00\x05");
     tested(b"\x01\x00\x00\x00\x00\x80\x01\x000/\x00\x00\x00\x05");
     tested(b"\x01\x00\x00\x00\x00\x80\x01\x000a\x00\x00\x00\x00");
     tested(b"\x01\x02\x00\x00\x00\x00\x00\x00\x00\x80\x01\x000a\x00\x00\x00\x01\x00\x00\x00\x00");
+    tested(b"\x01\x01\x00\x00\x00\x01\x00\x00\x00\x00\x01\x000w\x00\x00\x00\x01\x00\x00\x00\x00");
     tested(b"\x02\x00\x00\x00\x00\x80\x01\x000a\x00\x00\x00\x05\x01\x00@a\x00\x00\x00\x06");
     line();
 }
@@ -327,7 +331,7 @@ fn main() {
     removal();
     six();
     widths();
-    narrow();
+    wide_parent();
     gap();
     refusals();
     requests();

@@ -30,7 +30,6 @@ pub const FIXED: u32 = 12;
 pub const ABSENT: u32 = 13;
 pub const EXISTS: u32 = 14;
 pub const NOROOM: u32 = 15;
-pub const NARROW: u32 = 16;
 
 /// The largest inode number that 4 bytes hold.
 pub const NARROW_MAX: u64 = 0xffff_ffff;

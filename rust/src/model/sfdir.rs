@@ -53,13 +53,15 @@ pub fn read(options: &Options, inode: &[u8], block_size: u64) -> Result<Dir, u32
     want(names.iter().all(good), NAME)?;
     want(legal_number(dir.parent), NUMBER)?;
     want(dir.entries.iter().all(|e| legal_number(e.number)), NUMBER)?;
-    want(dir.i8count == wide_entries(&dir.entries) as u64, INDEX)?;
+    want(dir.i8count == wide_numbers(dir.parent, &dir.entries), INDEX)?;
     want(all_differ(options, names.into_iter()), TWICE)?;
     Ok(dir)
 }
 
-fn wide_entries(entries: &[Entry]) -> usize {
-    entries.iter().filter(|e| is_wide(e.number)).count()
+/// What i8count counts: wide entries, plus 1 for a wide parent.
+fn wide_numbers(parent: u64, entries: &[Entry]) -> u64 {
+    let wide = entries.iter().filter(|entry| is_wide(entry.number));
+    wide.count() as u64 + u64::from(is_wide(parent))
 }
 
 /// Tests 1 to 5.
@@ -286,15 +288,12 @@ fn removable(
     let mut left = dir.entries.clone();
     left.retain(|entry| !same_name(options, &entry.name, name));
     want(left.len() < dir.entries.len(), ABSENT)?;
-    // A wide parent needs wide numbers, and i8count says only that entries do.
-    let last_wide_out = dir.i8count > 0 && wide_entries(&left) == 0;
-    want(!(last_wide_out && is_wide(dir.parent)), NARROW)?;
     Ok((dir, left))
 }
 
 /// The inode with these entries in its data fork, if they fit.
 fn rewrite(inode: &[u8], dir: &Dir, entries: &[Entry]) -> Change {
-    let wide = wide_entries(entries) as u64;
+    let wide = wide_numbers(dir.parent, entries);
     let width = number_width(wide);
     let mut list = vec![entries.len() as u8, wide as u8];
     list.extend(number_bytes(dir.parent, width));
@@ -311,11 +310,20 @@ fn rewrite(inode: &[u8], dir: &Dir, entries: &[Entry]) -> Change {
     put(&mut bytes, 56, 8, list.len() as u64);
     list.resize(dir.fork.len(), 0);
     bytes[dir.fork.clone()].copy_from_slice(&list);
-    let notes = match (number_width(dir.i8count), width) {
+    let mut notes = match (number_width(dir.i8count), width) {
         (4, 8) => vec!["narrow to wide"],
         (8, 4) => vec!["wide to narrow"],
         _ => vec!["width kept"],
     };
+    if wide == 1 && is_wide(dir.parent) {
+        notes.push("wide for the parent alone");
+    }
+    if wide == 1 && dir.i8count == 2 && is_wide(dir.parent) {
+        notes.push("last wide entry out, still wide");
+    }
+    if width == 8 && entries.is_empty() {
+        notes.push("empty and wide");
+    }
     Change {
         refusal: 0,
         bytes,

@@ -364,10 +364,16 @@ fn is_wide(number: u64) -> bool {
     number >> 32 != 0
 }
 
-fn short_size(entries: &[Short]) -> usize {
-    let width = match entries.iter().any(|e| is_wide(e.number)) {
-        true => 8,
-        false => 4,
+/// The wide numbers among a parent and entries.
+fn wide_count(parent: u64, entries: &[Short]) -> usize {
+    let numbers = entries.iter().map(|entry| entry.number);
+    numbers.chain([parent]).filter(|&n| is_wide(n)).count()
+}
+
+fn short_size(parent: u64, entries: &[Short]) -> usize {
+    let width = match wide_count(parent, entries) {
+        0 => 4,
+        _ => 8,
     };
     let size = |entry: &Short| 3 + entry.name.len() + width;
     2 + width + entries.iter().map(size).sum::<usize>()
@@ -392,11 +398,12 @@ pub fn sfdir(rng: &mut Rng, len: usize, faults: &[Fault]) -> (Vec<u8>, u64) {
     let mode = 0x4000 + rng.below(0x1000);
     let mut inode = core(rng, len, mode, forkoff);
     inode[5] = 1;
-    let mut entries = shorts(rng, fork);
-    let block_size = spread(rng, &mut entries);
-    let any_wide = entries.iter().any(|e| is_wide(e.number));
-    let wide_parent = any_wide && rng.one_in(2);
+    // A wide header is 10 bytes long.
+    let wide_parent = fork >= 10 && rng.one_in(3);
     let mut parent = names::legal_number(rng, wide_parent);
+    let mut entries = shorts(rng, fork, parent);
+    let block_size = spread(rng, &mut entries);
+    let any_wide = wide_count(parent, &entries) > 0;
     for fault in faults {
         spoil_shorts(rng, &mut entries, &mut parent, *fault);
     }
@@ -404,7 +411,7 @@ pub fn sfdir(rng: &mut Rng, len: usize, faults: &[Fault]) -> (Vec<u8>, u64) {
     (inode, block_size)
 }
 
-fn shorts(rng: &mut Rng, fork: usize) -> Vec<Short> {
+fn shorts(rng: &mut Rng, fork: usize, parent: u64) -> Vec<Short> {
     let mut entries: Vec<Short> = Vec::new();
     let mut there = BTreeSet::new();
     let stop = rng.pick(&[2, 6, 40, 1000]);
@@ -420,7 +427,7 @@ fn shorts(rng: &mut Rng, fork: usize) -> Vec<Short> {
         let next = tag + room(name.len());
         there.insert(name.clone());
         entries.push(Short { tag, name, number });
-        if short_size(&entries) > fork || short_need(&entries) > 16_384 {
+        if short_size(parent, &entries) > fork || short_need(&entries) > 16_384 {
             entries.pop();
             break;
         }
@@ -479,7 +486,7 @@ fn spoil_shorts(rng: &mut Rng, entries: &mut [Short], parent: &mut u64, fault: F
 fn write_sfdir(inode: &mut [u8], entries: &[Short], parent: u64, wide: bool) {
     let width = if wide { 8 } else { 4 };
     let number = |number: u64| number.to_be_bytes()[8 - width..].to_vec();
-    let i8count = entries.iter().filter(|e| is_wide(e.number)).count();
+    let i8count = wide_count(parent, entries);
     // A fault may have made the last wide number narrow; the width must stay.
     let i8count = if wide { i8count.max(1) } else { 0 };
     let mut list = vec![entries.len() as u8, i8count as u8];

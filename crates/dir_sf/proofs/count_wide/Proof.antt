@@ -31,4 +31,6 @@ count-wide-spec =
     (λ c. search needs)
     (λ c. search needs)
     (λ c. search (needs, wide-on))
+    (λ c κs. search needs)
+    (λ c. search needs)
     (λ c. search (needs, wide-done)))

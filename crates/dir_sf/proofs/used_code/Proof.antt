@@ -19,7 +19,7 @@ used-code-spec =
     (λ c κs. search (needs, parent-in))
     (λ c κs. (search needs, search (needs, header-in), search (needs, tiles-enough)))
     (λ c. search (needs, verdict-7))
-    (λ c κs. (search needs, search (needs, header-in), tiles-enough _ _ _ _ _ _ _ _ _ (c .before .before .before .before .before .before .tiled .ensures) (c .before .before .before .before .before .if1 .left)))
+    (λ c κs. (search needs, search (needs, header-in), search needs, tiles-enough _ _ _ _ _ _ _ _ _ (c .before .before .before .before .before .before .tiled .ensures) (c .before .before .before .before .before .if1 .left)))
     (λ c. search (needs, verdict-8))
     (λ c κs. (search needs, search (needs, header-in), tiles-enough _ _ _ _ _ _ _ _ _ (c .before .before .before .before .before .before .before .before .tiled .ensures) (c .before .before .before .before .before .before .before .if1 .left)))
     (λ c. search (needs, verdict-10))

@@ -1,5 +1,5 @@
 use borrow.Author.Needs.{needs}
-use Rattle.dir_sf_edit.proofs.Refusals.{remove-asked, remove-fixed, remove-absent, remove-narrow, remove-done, one-within, held-of}
+use Rattle.dir_sf_edit.proofs.Refusals.{remove-asked, remove-fixed, remove-absent, remove-done}
 use Rattle.dir_sf_edit.proofs.removal_code.Statement.{statement}
 use Rattle.dir_sf_edit.proofs.removal_code.Tie as tie
 
@@ -13,10 +13,4 @@ removal-code-spec =
     (λ c. search (needs, remove-fixed))
     (λ c κs. search needs)
     (λ c. search (needs, remove-absent))
-    (λ c κs. search needs)
-    (λ c κs. search needs)
-    (λ c. search (needs, one-within, held-of))
-    (λ c κs. search needs)
-    (λ c κs. search needs)
-    (λ c. search (needs, remove-narrow))
     (λ c. search (needs, remove-done)))

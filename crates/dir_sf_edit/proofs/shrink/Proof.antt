@@ -9,9 +9,7 @@ shrink-spec =
     tie.close
     (tie.spec
     (λ c κs. search needs)
-    (λ c κs. search needs)
-    (λ c κs. search needs)
-    (λ c. search (needs, one-within))
+    (λ c κs. (search needs, search (needs, one-within)))
     (λ c κs. (search needs, search needs, search (needs, hit-index), search needs, search needs, search (needs, shrink-room)))
     (λ c. search needs)
     (λ c. (search (needs, shrink-bytes), search (needs, shrink-size))))
