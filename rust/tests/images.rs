@@ -93,6 +93,21 @@ fn try_contents(image: &Image, check: &Check, bytes: &[u8]) -> Vec<&'static str>
     }
 }
 
+/// The entries of a short form under a wide parent taken out: what is left is what Linux wrote for a directory
+/// that was always empty under that parent.
+#[test]
+fn empty_under_a_wide_parent() {
+    let mut inode = images::read("wide-v4-wideparent-one-wide.inode");
+    let empty = images::read("wide-v4-wideparent-empty.inode");
+    for name in [b"w", b"a"] {
+        assert_eq!(sfdir::remove(&mut inode, 4096, name), Ok(()));
+        assert_eq!(sfdir::test(&inode, 4096), Ok(()));
+    }
+    assert_eq!(inode[56..64], empty[56..64]);
+    assert_eq!(inode[100..110], empty[100..110]);
+    assert_eq!(inode[101], 1);
+}
+
 /// Every file is in the index, and every one of the index is there.
 #[test]
 fn files() {
