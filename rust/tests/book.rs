@@ -24,8 +24,8 @@ trait Directory {
     fn has_room(&self, name: &[u8], number: u64) -> bool;
     /// What the book says to a lookup.
     fn wanted(book: &Book, name: &[u8]) -> Result<u64, u32>;
-    /// Right after a removal its room serves again: the answer to an insert that must be done.
-    fn refill(&self, rng: &mut Rng, removed: (&[u8], u64)) -> Result<(), u32>;
+    /// Right after a removal its room serves again, tried on a copy.
+    fn refill(&self, rng: &mut Rng, removed: (&[u8], u64));
 }
 
 struct Block(Vec<u8>);
@@ -61,14 +61,16 @@ impl Directory for Block {
         book_lookup(book, name)
     }
 
-    /// Every legal absent name that is no longer, with any number.
-    fn refill(&self, rng: &mut Rng, removed: (&[u8], u64)) -> Result<(), u32> {
+    /// Every legal absent name that is no longer, with any legal number.
+    fn refill(&self, rng: &mut Rng, removed: (&[u8], u64)) {
+        let held = self.held();
         let len = rng.between(1, removed.0.len());
-        let name = names::of_len(rng, len);
-        match self.held().contains_key(&name) {
-            true => Ok(()),
-            false => Block(self.0.clone()).insert(&name, 1),
-        }
+        let mut drawn = (0..1000).map(|_| names::of_len(rng, len));
+        let name = drawn.find(|name| !held.contains_key(name));
+        let name = name.expect("an absent name");
+        let wide = rng.one_in(2);
+        let number = names::legal_number(rng, wide);
+        assert_eq!(Block(self.0.clone()).insert(&name, number), Ok(()));
     }
 }
 
@@ -123,8 +125,8 @@ impl Directory for ShortForm {
     }
 
     /// The same name with the same number.
-    fn refill(&self, _rng: &mut Rng, removed: (&[u8], u64)) -> Result<(), u32> {
-        self.clone().insert(removed.0, removed.1)
+    fn refill(&self, _rng: &mut Rng, removed: (&[u8], u64)) {
+        assert_eq!(self.clone().insert(removed.0, removed.1), Ok(()));
     }
 }
 
@@ -205,7 +207,7 @@ fn one_call<D: Directory>(rng: &mut Rng, dir: &mut D, book: &mut Book) -> (&'sta
             let want = book_remove(book, &name);
             assert_eq!(dir.remove(&name), want);
             if let (Ok(()), Some(number), true) = (want, number, rng.one_in(2)) {
-                assert_eq!(dir.refill(rng, (&name, number)), Ok(()));
+                dir.refill(rng, (&name, number));
                 return ("insert after removal", 0);
             }
             ("removal", want.err().unwrap_or(0))

@@ -105,7 +105,6 @@ fn empty_under_a_wide_parent() {
     }
     assert_eq!(inode[56..64], empty[56..64]);
     assert_eq!(inode[100..110], empty[100..110]);
-    assert_eq!(inode[101], 1);
 }
 
 /// Every file is in the index, and every one of the index is there.

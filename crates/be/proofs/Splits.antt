@@ -6,7 +6,7 @@ use mathlib.Core.Bool.{Bool, true, false, not, _&&_, _||_, cond, true≢false, f
 use mathlib.Core.Path.{_≡_, refl, sym, _∙_, ap}
 use mathlib.Core.List.{List, [], _∷_, _++_, map, map-append}
 use lib.ListN.{length}
-use Rattle.be.specs.Lists.{every, some-of, tally, total}
+use Rattle.be.specs.Lists.{every, some-of, tally}
 use Rattle.be.proofs.Bools.{by-cases, and-left, and-swap}
 
 or-swap : (a b c : Bool) → (a || (b || c)) ≡ (b || (a || c))
@@ -26,10 +26,6 @@ module _ {A : Type 0} where
   pub tally-mid : (p : A → Bool) (xs : List A) (x : A) (ys : List A) → tally p (xs ++ x ∷ ys) ≡ cond (p x) 1 0 + tally p (xs ++ ys)
   tally-mid p [] x ys = refl
   tally-mid p (z ∷ xs) x ys = rw (tally-mid p xs x ys) (omega arith)
-
-  pub total-mid : (f : A → ℕ) (xs : List A) (x : A) (ys : List A) → total f (xs ++ x ∷ ys) ≡ f x + total f (xs ++ ys)
-  total-mid f [] x ys = refl
-  total-mid f (z ∷ xs) x ys = rw (total-mid f xs x ys) (omega arith)
 
   pub length-mid : (xs : List A) (x : A) (ys : List A) → length (xs ++ x ∷ ys) ≡ suc (length (xs ++ ys))
   length-mid [] x ys = refl

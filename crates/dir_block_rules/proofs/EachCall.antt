@@ -1,6 +1,6 @@
 -- One call on an accepted block is right: its answer is the book's, and so is what it leaves.
 -- Assumes nothing.
-use Prim.Native.Nat.{ℕ, _+_, _^_, _≤_, _<_}
+use Prim.Native.Nat.{ℕ, _+_, _≤_, _<_}
 use native.Mathlib.Omega.{arith}
 use native.Mathlib.Nat.{le-trans}
 use mathlib.Core.Bool.{Bool, true, false, not, _&&_, false≢true, Bool·beq}
@@ -12,13 +12,13 @@ use borrow.Author.Tests.{eqb-true, not-true, le-leb, leb-false}
 use Rattle.refusal.specs.Refusal.{ASKED, FIXED, ABSENT, EXISTS, NOROOM}
 use Rattle.be.specs.Codes.{_unless_then_}
 use Rattle.be.proofs.Codes.{passes}
-use Rattle.name.proofs.Legality.{legal-bounds, number-bounds}
+use Rattle.name.proofs.Legality.{legal-bounds}
 use Rattle.edition.proofs.Sizes.{entry-size-mono}
 use Rattle.be.specs.Lists.{every, some-of, same, without-first}
 use Rattle.be.specs.Bytes.{bytes}
 use Rattle.edition.specs.declared.Edition.{Edition}
 use Rattle.edition.specs.Edition.{entry-size, Sane}
-use Rattle.name.specs.Name.{legal-name, legal-number, fixed-name, same-name, dot, dotdot}
+use Rattle.name.specs.Name.{legal-name, fixed-name, same-name, dot, dotdot}
 use Rattle.dir.specs.declared.Target.{Target}
 use Rattle.dir.specs.Target.{kept-of, legal-target}
 use Rattle.dir_block_rules.specs.Record.{Rec, size, entries, gaps, name}
@@ -44,9 +44,6 @@ use Rattle.dir_block_rules.proofs.InsertFree.{Asked}
 use Rattle.dir_block_rules.proofs.InsertCases.{Inserted, insert-any}
 use Rattle.dir_block_rules.proofs.LookupFinds.{Removed, hit-of, spot, spot-name, target-found, removed-of}
 use Rattle.dir_block_rules.proofs.StaysBytes.{bytes-changed, all-insert, all-remove}
-
-pub number-lt : (i : ℕ) → legal-number i ≡ true → i < 2 ^ 56
-number-lt i h = number-bounds i h .1
 
 pub name-lt : (e : Edition) (n : List ℕ) → legal-name e n ≡ true → length n < 256
 name-lt e n h = omega (arith, legal-bounds e n h)

@@ -5,13 +5,13 @@ use mathlib.Core.Bool.{true, false, cond}
 use mathlib.Core.Path.{_≡_, refl, _∙_}
 use mathlib.Core.List.{List, [], _∷_, _++_}
 use borrow.Author.Tests.{not-true}
-use Rattle.be.specs.Lists.{every, same}
+use Rattle.be.specs.Lists.{every}
 use Rattle.be.proofs.Bools.{by-cases, and-left, and-right, or-right, neither}
 use Rattle.edition.specs.declared.Edition.{Edition}
 use Rattle.edition.specs.Edition.{Sane}
-use Rattle.name.specs.Name.{legal-name, same-name, fixed-name, dot, dotdot}
+use Rattle.name.specs.Name.{legal-name, same-name, fixed-name, dotdot}
 use Rattle.name.proofs.Legality.{dotdot-legal}
-use Rattle.name.proofs.Same.{same-name-refl, same-name-sym}
+use Rattle.name.proofs.Same.{not-fixed, same-name-refl, same-name-sym}
 use Rattle.dir.specs.declared.Looked.the-variants.{Absent}
 use Rattle.dir_sf.specs.Entry.{SfEntry}
 use Rattle.dir_sf.specs.Fork.{parent, entries, holds, once-ok, names-ok, name-ok}
@@ -20,11 +20,6 @@ use Rattle.dir_sf.specs.Inode.{used, verdict, found-entry, looked, looku
 use Rattle.dir_sf.specs.Laws.{Lookup-stored, Lookup-absent, Lookup-parent}
 use Rattle.dir_sf.proofs.Names.{fails, once-head, once-tail}
 use Rattle.dir_sf.proofs.Tested.{used-passes, names-known, once-known}
-
--- not "." and not ".."
-pub not-fixed : (n : List ℕ) → fixed-name n ≡ false → (same n dot ≡ false) × (same n dotdot ≡ false)
-unfolding fixed-name
-not-fixed n h = neither (same n dot) (same n dotdot) h
 
 -- a name among the entries
 held-at : (e : Edition) (ys zs : List SfEntry) (x : SfEntry) → holds e (x .name) (ys ++ (x ∷ zs)) ≡ true

@@ -138,8 +138,6 @@ module _ (e : Edition) (q : SfEntry → Bool) (w : ℕ) (u : List ℕ) (at k : �
   every-done i p s h = s .rest ∙ ap (every q) (run-over e w u k i p h)
 
 -- NAME
-abbrev pub Named : Edition → ℕ → List ℕ → ℕ → ℕ → ℕ → ℕ → Type 0
-Named e = Every e (name-ok e)
 
 read-name : (e : Edition) (w : ℕ) (u : List ℕ) (p n : ℕ) → n ≡ getD u p 0 → take (p + 3 + n - (p + 3)) (drop (p + 3) u) ≡ entry-at e w u p .name
 read-name e w u p n q =

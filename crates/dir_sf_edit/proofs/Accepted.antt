@@ -169,9 +169,6 @@ module _ (e : Edition) (told : ℕ) (u : List ℕ) (h : bytes u ≡ true) (long 
         and-right (filled e (used-width u) u (count-of u) (2 + used-width u) && tags-ok e (e .first) (entries e u)) _ t,
       )
 
-  pub used-filled : filled e (used-width u) u (count-of u) (2 + used-width u) ≡ true
-  used-filled = tile .0
-
   -- what holds of an entry wherever it lies in the used bytes
   used-every : (t : SfEntry → Bool) → ((p : ℕ) → p + size-at e (used-width u) u p ≤ length u → t (entry-at e (used-width u) u p) ≡ true) → every t (entries e u) ≡ true
   unfolding entries entries-in filled

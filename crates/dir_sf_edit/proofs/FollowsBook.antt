@@ -17,12 +17,13 @@ use Rattle.be.proofs.Splits.{some-map, tally-map}
 use Rattle.edition.specs.declared.Edition.{Edition}
 use Rattle.edition.specs.Edition.{Sane}
 use Rattle.name.specs.Name.{legal-name, same-name, fixed-name, dot, dotdot}
-use Rattle.name.proofs.Same.{same-eq, same-name-fixed, same-name-as-fixed}
+use Rattle.name.proofs.Legality.{dot-legal}
+use Rattle.name.proofs.Same.{same-eq, not-fixed, same-name-fixed, same-name-as-fixed}
 use Rattle.name.proofs.Once.{once, once-map}
 use Rattle.dir.specs.declared.Target.{Target}
 use Rattle.dir.specs.Target.{target, legal-target, kept-of}
 use Rattle.dir.specs.Calls.{Call, look-up, insert, remove, found, done-or}
-use Rattle.dir.specs.Book.{Held, held, Book, named, holds as book-holds, target-held, book-reply, is-done, same-held, SameBook}
+use Rattle.dir.specs.Book.{Held, held, Book, named, holds as book-holds, target-held, book-reply, entered, is-done, same-held, SameBook}
 use Rattle.dir.specs.Along.{call-bytes}
 use Rattle.dir.proofs.Books.{once-held, holds-same, target-same, without-same}
 use Rattle.dir.proofs.EveryList.{along}
@@ -31,7 +32,6 @@ use Rattle.dir_sf.specs.Entry.{SfEntry}
 use Rattle.dir_sf.specs.Fork.{parent, entries, holds, name-ok, names-ok, once-ok}
 use Rattle.dir_sf.specs.Change.{entry-in, target-in, entry-for, placed, removed, insert-request, remove-request}
 use Rattle.dir_sf.specs.Inode.{used, verdict, lookup, looked, insert-code, insert-bytes, remove-code, remove-bytes}
-use Rattle.dir_sf.proofs.Stored.{not-fixed}
 use Rattle.dir_sf.proofs.Tested.{used-passes, names-known, once-known}
 use Rattle.dir_sf_edit.specs.Calls.{reply, after, book-of, room-for}
 use Rattle.dir_sf_edit.specs.Follows.{sf-book-reply, Call-right, book-next, Follows-book}
@@ -76,10 +76,6 @@ dotdot-fixed : fixed-name dotdot ≡ true
 unfolding fixed-name
 dotdot-fixed = refl
 
-dot-legal : (e : Edition) (n : List ℕ) → same n dot ≡ true → legal-name e n ≡ true
-unfolding legal-name
-dot-legal e n h = rw (same-eq n dot h) refl
-
 -- ---- a directory and its book
 
 module _ (e : Edition) (b n : List ℕ) where
@@ -120,7 +116,7 @@ module _ (e : Edition) (sane : Sane e) (told : ℕ) (b : List ℕ) (v : verdict 
     unfolding reply lookup looked sf-book-reply book-reply
     look-answers n room =
         by-cases (same n dot)
-        (λ d. rw (v, dot-legal e n d, d) refl)
+        (λ d. rw (v, ap (legal-name e) (same-eq n dot d) ∙ dot-legal e, d) refl)
         (λ d. by-cases (legal-name e n)
         (λ l. by-cases (same n dotdot || holds e n (entries e (used e b)))
         (λ q. rw (v, d, l, q, sym (held-as n) ∙ q) (ap found (looked-as n q)))
@@ -185,37 +181,30 @@ module _ (e : Edition) (sane : Sane e) (told : ℕ) (b : List ℕ) (by : bytes b
   unfolding after
   look-right n = unchanged (look-up n) (look-answers e sane told b v k m n (room-for e told b (look-up n))) refl (look-up-keeps e k (room-for e told b (look-up n)) n)
 
+  -- a change by its number: done, or refused and nothing changed
+  change-right : (c : Call) (code : ℕ) → reply e told b c ≡ done-or code → sf-book-reply e k (room-for e told b c) c ≡ book-reply e k (room-for e told b c) c
+      → reply e told b c ≡ book-reply e k (room-for e told b c) c → (eqb code 0 ≡ false → after e told b c ≡ b)
+      → (code ≡ 0 → (verdict e told (after e told b c) ≡ 0) × (length (after e told b c) ≡ length b) × SameBook (book-of e (after e told b c)) (entered e k c))
+      → Call-right e told k b c
+  change-right c code re sf an same did =
+      let room : Bool = room-for e told b c in
+      by-cases (eqb code 0)
+      (λ z. let d = did (eqb-true code 0 z) in
+      let bk : book-next e told k b c ≡ entered e k c = done-is e k room c (sym an ∙ re ∙ rw z refl) in
+      record { answers = an ∙ sym sf; accepted = d .0; lengths = d .1; listed = subst (λ (j : Book). SameBook (book-of e (after e told b c)) j) (sym bk) (d .2) })
+      (λ z. unchanged c (an ∙ sym sf) (same z) (refused-is e k room c (ap is-done (sym an ∙ re) ∙ refused-not-done code z)))
+
   insert-right : (n : List ℕ) (t : Target) → Call-right e told k b (insert n t)
   unfolding after reply sf-book-reply insert-bytes
   insert-right n t =
-      let room : Bool = room-for e told b (insert n t) in
-      let an : reply e told b (insert n t) ≡ book-reply e k (room-for e told b (insert n t)) (insert n t) = insert-answers e sane told b v k m n t in
-      by-cases (eqb (insert-code e told b n t) 0)
-      (λ z. let q : insert-code e told b n t ≡ 0 = eqb-true (insert-code e told b n t) 0 z in
-      let bk : book-next e told k b (insert n t) ≡ held n (kept-of e t) ∷ k = done-is e k room (insert n t) (sym an ∙ rw z refl) in
-      record {
-        answers = an;
-        accepted = insert-keeps e sane told b n t by q;
-        lengths = insert-long e sane told b n t by q;
-        listed = subst (λ (j : Book). SameBook (book-of e (insert-bytes e told b n t)) j) (sym bk) (insert-listed e sane told b n by k m t q);
-      })
-      (λ z. unchanged (insert n t) an (rw z refl) (refused-is e k room (insert n t) (ap is-done (sym an) ∙ refused-not-done (insert-code e told b n t) z)))
+      change-right (insert n t) (insert-code e told b n t) refl refl (insert-answers e sane told b v k m n t) (λ z. rw z refl)
+      (λ q. (insert-keeps e sane told b n t by q, insert-long e sane told b n t by q, insert-listed e sane told b n by k m t q))
 
   remove-right : (n : List ℕ) → Call-right e told k b (remove n)
   unfolding after reply sf-book-reply remove-bytes
   remove-right n =
-      let room : Bool = room-for e told b (remove n) in
-      let an : reply e told b (remove n) ≡ book-reply e k (room-for e told b (remove n)) (remove n) = remove-replies e sane told b v k m n room in
-      by-cases (eqb (remove-code e told b n) 0)
-      (λ z. let q : remove-code e told b n ≡ 0 = eqb-true (remove-code e told b n) 0 z in
-      let bk : book-next e told k b (remove n) ≡ without-first (named e n) k = done-is e k room (remove n) (sym an ∙ rw z refl) in
-      record {
-        answers = an;
-        accepted = remove-keeps e sane told b n by q;
-        lengths = remove-long e sane told b n by q;
-        listed = subst (λ (j : Book). SameBook (book-of e (remove-bytes e told b n)) j) (sym bk) (remove-listed e sane told b n by k m v q);
-      })
-      (λ z. unchanged (remove n) an (rw z refl) (refused-is e k room (remove n) (ap is-done (sym an) ∙ refused-not-done (remove-code e told b n) z)))
+      change-right (remove n) (remove-code e told b n) refl refl (remove-replies e sane told b v k m n (room-for e told b (remove n))) (λ z. rw z refl)
+      (λ q. (remove-keeps e sane told b n by q, remove-long e sane told b n by q, remove-listed e sane told b n by k m v q))
 
   -- bytes stay bytes
   stays-bytes : (c : Call) → call-bytes c ≡ true → bytes (after e told b c) ≡ true

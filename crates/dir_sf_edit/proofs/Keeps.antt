@@ -1,4 +1,4 @@
--- A change that is done leaves an accepted fork, and its names and numbers are those before, plus or less the one.
+-- An insert that is done leaves good entries; what a removal leaves is no longer than what was there.
 -- Assumes nothing.
 use Prim.Native.Nat.{ℕ, suc, _+_, _%_, _^_, _≤_}
 use native.Mathlib.Omega.{arith}
@@ -18,11 +18,10 @@ use Rattle.dir.proofs.FileTypes.{target-number, target-type, kept-fits}
 use Rattle.name.specs.Name.{legal-name, legal-number, same-name, fixed-name}
 use Rattle.dir_sf.specs.declared.FreeTag.the-variants.{At, Nowhere}
 use Rattle.dir_sf.specs.Entry.{SfEntry, entry, width-of, entries-bytes, wides-of, next-tag, tags-ok, end-tag, in-block}
-use Rattle.dir_sf.specs.Fork.{name-ok, names-ok, numbers-ok, holds, lay, lay-fork, fork-verdict}
-use Rattle.dir_sf.specs.Change.{gap-tag, tag-for, is-free, placed, inserted, has-room, insert-request, removed, remove-request}
+use Rattle.dir_sf.specs.Fork.{name-ok, names-ok, numbers-ok, holds, lay}
+use Rattle.dir_sf.specs.Change.{gap-tag, tag-for, is-free, placed, inserted, has-room, insert-request, removed}
 use Rattle.dir_sf_edit.proofs.ReadBack.{length-entry-bytes, length-lay}
-use Rattle.dir_sf_edit.proofs.Accepted.{Good, laid-accepted}
-use Rattle.dir_sf_edit.proofs.Removes.{removed-good}
+use Rattle.dir_sf_edit.proofs.Accepted.{Good}
 use Rattle.dir_sf_edit.proofs.Inserts.{Tags, number-of, free-at, inserted-is, every-placed, length-placed, placed-once, placed-last, placed-in-gap, end-eights}
 
 -- what an insert that is done has passed
@@ -93,11 +92,6 @@ module _ (e : Edition) (ok : Tags e) (told p : ℕ) (n : List ℕ) (to : Target)
           kinds = every-placed (λ x. ltb (x .target .kind) (256 ^ e .ftype)) y xs (lt-ltb _ _ (kept-fits e sane to (target-type e to legal))) (g .kinds);
         })
 
-    -- 01's law: the fork that is left is accepted
-    pub insert-accepted : told ≤ 65536
-        → fork-verdict e told (lay-fork e fork p (inserted e told n to xs)) (length (lay e p (inserted e told n to xs))) ≡ 0
-    insert-accepted s = laid-accepted e told p (inserted e told n to xs) s inserted-good fork (inserts e told p n to xs fork done .5)
-
 -- ---- removal: what is left is no longer than what was there
 
 width-grows : (a b : ℕ) → a ≤ b → width-of a ≤ width-of b
@@ -130,9 +124,3 @@ pub removed-fits : (e : Edition) (n : List ℕ) (p : ℕ) (xs : List SfEntry) �
 removed-fits e n p xs =
     let w : width-of (wides-of p (removed e n xs)) ≤ width-of (wides-of p xs) = width-grows _ _ (removed-wides e n p xs) in
     omega (arith, length-lay e p (removed e n xs), length-lay e p xs, removed-shorter e n (width-of (wides-of p (removed e n xs))) (width-of (wides-of p xs)) xs w)
-
-module _ (e : Edition) (told p : ℕ) (n : List ℕ) (xs : List SfEntry) (g : Good e told p xs) (done : remove-request e n xs ≡ 0) where
-  pub remove-accepted : (fork : ℕ) → told ≤ 65536 → length (lay e p xs) ≤ fork
-      → fork-verdict e told (lay-fork e fork p (removed e n xs)) (length (lay e p (removed e n xs))) ≡ 0
-  remove-accepted fork s h =
-      laid-accepted e told p (removed e n xs) s (removed-good e told p n xs g done) fork (omega (arith, removed-fits e n p xs))

@@ -1,11 +1,12 @@
 -- The laws of the changes, at the inode.
 -- Assumes nothing.
-use Prim.Native.Nat.{ℕ, _≤_}
+use Prim.Native.Nat.{ℕ, _+_, _*_, _≤_}
 use native.Mathlib.Omega.{arith}
 use mathlib.Core.Bool.{Bool, true, false, cond, _||_}
 use mathlib.Core.Path.{_≡_, refl, sym, _∙_, ap}
-use mathlib.Core.List.{List}
+use mathlib.Core.List.{List, []}
 use lib.ListN.{length}
+use borrow.Author.Tests.{le-leb}
 use Rattle.be.specs.Lists.{every}
 use Rattle.be.specs.Bytes.{bytes}
 use Rattle.be.proofs.Bools.{clash}
@@ -16,14 +17,14 @@ use Rattle.dir.specs.declared.Target.{Target}
 use Rattle.dir.specs.Target.{target, no-target, legal-type, kept-of}
 use Rattle.name.specs.Name.{same-name}
 use Rattle.dinode.specs.Core.{data-length}
-use Rattle.dir_sf.specs.Entry.{SfEntry, entry, width-of, is-wide, wides-of}
-use Rattle.dir_sf.specs.Fork.{parent, entries, holds, used-width, lay}
-use Rattle.dir_sf.specs.Change.{target-in, tag-for, is-free, placed, inserted, removed}
+use Rattle.dir_sf.specs.Entry.{SfEntry, entry, width-of, is-wide, wides-of, tags-ok, end-tag, in-block}
+use Rattle.dir_sf.specs.Fork.{parent, entries, holds, used-width, lay, lay-fork, names-ok, numbers-ok, once-ok, fork-verdict}
+use Rattle.dir_sf.specs.Change.{target-in, tag-for, is-free, placed, inserted, removed, remove-request}
 use Rattle.dir_sf.specs.Inode.{size-of, used, verdict, insert-code, remove-code, with-entries, insert-bytes, remove-bytes}
 use Rattle.dir_sf.proofs.Leaves.{broad}
 use Rattle.dir_sf.proofs.Tested.{is-told, wides-known, used-passes, used-header, used-bytes, used-bounds}
-use Rattle.dir_sf_edit.specs.Laws.{Insert-accepted, Remove-accepted, Differs, Insert-names, Remove-names, Wide-laid, Wide-accepted, Remove-wide, Put-back}
-use Rattle.dir_sf_edit.proofs.ReadBack.{lay-width, lay-entries, lay-parent}
+use Rattle.dir_sf_edit.specs.Laws.{Insert-accepted, Remove-accepted, Differs, Insert-names, Remove-names, Wide-laid, Wide-empty, Wide-accepted, Remove-wide, Put-back}
+use Rattle.dir_sf_edit.proofs.ReadBack.{lay-width, lay-entries, lay-parent, length-lay}
 use Rattle.dir_sf_edit.proofs.Accepted.{Good, narrow-parent, good-fit, good-parent, used-good, used-spelled, laid-accepted}
 use Rattle.dir_sf_edit.proofs.Removes.{removed-good, every-removed, removed-target, removed-held}
 use Rattle.dir_sf_edit.proofs.Inserts.{Tags, number-of, inserted-is, every-placed, placed-holds, placed-target}
@@ -213,10 +214,20 @@ module _ (e : Edition) (sane : Sane e) where
   wide-accepted told b v h =
       ap width-of (wides-known e told (used e b) (used-passes e sane told b v)) ∙ sym (broad _ (parent-counts (parent (used e b)) (entries e (used e b)) h))
 
+  pub wide-empty : Wide-empty e
+  unfolding Wide-empty names-ok numbers-ok once-ok tags-ok end-tag in-block
+  wide-empty told fork p t f l h =
+      let k = block-size-bounds told t in
+      let m : e .first + 8 * (0 + 2) + 8 ≤ told = omega (arith, sane .first-after, sane .header-most) in
+      let g : Good e told p [] = record { tags = refl; within = le-leb _ _ m; names = refl; numbers = rw l refl; once = refl; kinds = refl } in
+      let s : length (lay e p []) ≡ 10 = length-lay e p [] ∙ omega (arith, broad (wides-of p []) (parent-counts p [] h)) in
+      ap (fork-verdict e told (lay-fork e fork p [])) (sym s) ∙ laid-accepted e told p [] (omega arith) g fork (omega arith)
+
   pub remove-wide : Remove-wide e
-  unfolding Remove-wide Wide-accepted
-  remove-wide told b n by done h =
-      wide-accepted told (remove-bytes e told b n) (remove-keeps e sane told b n by done) (ap is-wide (remove-parent e sane told b n by done) ∙ h)
+  unfolding Remove-wide Wide-accepted remove-code remove-request
+  remove-wide told b n by v w l f h =
+      let done : remove-code e told b n ≡ 0 = rw (v, l, f, h) refl in
+      (done, wide-accepted told (remove-bytes e told b n) (remove-keeps e sane told b n by done) (ap is-wide (remove-parent e sane told b n by done) ∙ w))
 
   pub put-back : Put-back e
   unfolding Put-back

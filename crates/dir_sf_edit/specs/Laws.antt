@@ -1,16 +1,17 @@
 -- What is proved of the changes: each law is a proposition about the definitions, over the edition.
 -- Assumes nothing.
-use Prim.Native.Nat.{ℕ}
+use Prim.Native.Nat.{ℕ, _≤_}
 use mathlib.Core.Bool.{Bool, true, false, cond}
 use mathlib.Core.Path.{_≡_}
-use mathlib.Core.List.{List}
+use mathlib.Core.List.{List, []}
 use Rattle.be.specs.Bytes.{bytes}
 use Rattle.edition.specs.declared.Edition.{Edition}
+use Rattle.edition.specs.Edition.{block-size}
 use Rattle.dir.specs.declared.Target.{Target}
 use Rattle.dir.specs.Target.{target, no-target, legal-type, kept-of}
-use Rattle.name.specs.Name.{same-name}
+use Rattle.name.specs.Name.{legal-name, legal-number, same-name, fixed-name}
 use Rattle.dir_sf.specs.Entry.{SfEntry, is-wide}
-use Rattle.dir_sf.specs.Fork.{parent, entries, holds, used-width, lay}
+use Rattle.dir_sf.specs.Fork.{parent, entries, holds, used-width, lay, lay-fork, fork-verdict}
 use Rattle.dir_sf.specs.Change.{target-in}
 use Rattle.dir_sf.specs.Inode.{used, verdict, insert-code, remove-code, insert-bytes, remove-bytes}
 
@@ -42,14 +43,20 @@ Remove-names e = (told : ℕ) (b n : List ℕ) → bytes b ≡ true → remove-c
 unfoldable pub Wide-laid : Edition → Type 0
 Wide-laid e = (p : ℕ) (xs : List SfEntry) → is-wide p ≡ true → used-width (lay e p xs) ≡ 8
 
--- so a directory that is accepted under a wide parent is wide, even when empty
+-- and it is accepted without entries too: 10 bytes of any fork that has them
+unfoldable pub Wide-empty : Edition → Type 0
+Wide-empty e = (told fork p : ℕ) → block-size told ≡ true → 10 ≤ fork → legal-number p ≡ true → is-wide p ≡ true
+    → fork-verdict e told (lay-fork e fork p []) 10 ≡ 0
+
+-- so a directory that is accepted under a wide parent is wide
 unfoldable pub Wide-accepted : Edition → Type 0
 Wide-accepted e = (told : ℕ) (b : List ℕ) → verdict e told b ≡ 0 → is-wide (parent (used e b)) ≡ true → used-width (used e b) ≡ 8
 
--- and a removal under a wide parent stays wide
+-- and the removal of a name that is there is done under a wide parent, the last wide entry's too, and stays wide
 unfoldable pub Remove-wide : Edition → Type 0
-Remove-wide e = (told : ℕ) (b n : List ℕ) → bytes b ≡ true → remove-code e told b n ≡ 0 → is-wide (parent (used e b)) ≡ true
-    → used-width (used e (remove-bytes e told b n)) ≡ 8
+Remove-wide e = (told : ℕ) (b n : List ℕ) → bytes b ≡ true → verdict e told b ≡ 0 → is-wide (parent (used e b)) ≡ true
+    → legal-name e n ≡ true → fixed-name n ≡ false → holds e n (entries e (used e b)) ≡ true
+    → (remove-code e told b n ≡ 0) × (used-width (used e (remove-bytes e told b n)) ≡ 8)
 
 -- right after a removal that is done the same name with the same number, and any legal type, goes back in, always: if the end has no room, the gap
 -- that was left has

@@ -10,7 +10,7 @@ ghost use Rattle.edition.specs.Edition.{v4, Sane};
 ghost use Rattle.dinode.specs.Core.{size-place};
 ghost use Rattle.dir.specs.Target.{target};
 ghost use Rattle.dir_sf.specs.Entry.{entry, width-of, entry-at, entries-in, size-at, entry-bytes, entries-bytes, is-wide, end-tag};
-ghost use Rattle.dir_sf.specs.Fork.{place-of, laid, lay, holds, count-of, parent, entries};
+ghost use Rattle.dir_sf.specs.Fork.{place-of, used-width, laid, lay, holds, count-of, parent, entries};
 ghost use Rattle.dir_sf.specs.Change.{gap-tag, tag-for, is-free, placed, inserted, insert-request, removed, remove-request};
 ghost use Rattle.dir_sf.specs.Inner.{enough, Readable};
 ghost use Rattle.dir_sf_edit.specs.Inner.{rank, with-nth, without-nth};
@@ -223,7 +223,7 @@ fn lay_without<'a, 'b>(
 
 // i8count with a number out; a wide parent still counts.
 fn wides_without(u: &[u8], gone: u64) -> usize
-    requires { ⌜ (1 < length (now u)) × (cond (is-wide gone) 1 0 ≤ byte 1 (now u)) ⌝ }
+    requires { ⌜ (2 + used-width (now u) ≤ length (now u)) × (cond (is-wide gone) 1 0 ≤ byte 1 (now u)) ⌝ }
     ensures { λ r. ⌜ (r ≡ byte 1 (now (u .entry)) - cond (is-wide gone) 1 0) × (r < 256) ⌝ }
 {
     be::be8(u, 1) - dir_sf::one_if_wide(gone)

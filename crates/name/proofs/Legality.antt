@@ -85,7 +85,11 @@ pub fixed-rest : (n : List ℕ) (a b : Bool) → a ≡ same n dot → a ≡ fals
 unfolding fixed-name
 fixed-rest n a b h q k = rw (sym h ∙ q) k
 
--- ".." is a legal name
+-- "." and ".." are legal names
+pub dot-legal : (e : Edition) → legal-name e dot ≡ true
+unfolding legal-name
+dot-legal e = refl
+
 pub dotdot-legal : (e : Edition) → legal-name e dotdot ≡ true
 unfolding legal-name
 dotdot-legal e = refl

@@ -1,16 +1,16 @@
 -- Name equality: what the rules above use of it.
 -- Assumes nothing.
 use Prim.Native.Nat.{ℕ}
-use mathlib.Core.Bool.{true, false≢true}
+use mathlib.Core.Bool.{true, false, false≢true}
 use mathlib.Core.Path.{_≡_, refl, ap, ap₂, sym, _∙_}
 use mathlib.Core.List.{List, [], _∷_}
 use lib.Dec.{eqb}
 use lib.ListN.{length}
 use borrow.Author.Tests.{eqb-true, eq-eqb}
 use Rattle.be.specs.Lists.{same}
-use Rattle.be.proofs.Bools.{and-left, and-right, and-both, by-cases, clash}
+use Rattle.be.proofs.Bools.{and-left, and-right, and-both, neither, by-cases, clash}
 use Rattle.edition.specs.declared.Edition.{Edition}
-use Rattle.name.specs.Name.{same-name, hash-of, fixed-name}
+use Rattle.name.specs.Name.{same-name, hash-of, fixed-name, dot, dotdot}
 
 pub same-refl : (n : List ℕ) → same n n ≡ true
 same-refl [] = refl
@@ -22,6 +22,11 @@ same-eq [] (y ∷ ys) h = absurd (false≢true h)
 same-eq (x ∷ xs) [] h = absurd (false≢true h)
 same-eq (x ∷ xs) (y ∷ ys) h =
     ap₂ (λ (a : ℕ) (l : List ℕ). a ∷ l) (eqb-true x y (and-left (eqb x y) (same xs ys) h)) (same-eq xs ys (and-right (eqb x y) (same xs ys) h))
+
+-- not "." and not ".."
+pub not-fixed : (n : List ℕ) → fixed-name n ≡ false → (same n dot ≡ false) × (same n dotdot ≡ false)
+unfolding fixed-name
+not-fixed n h = neither (same n dot) (same n dotdot) h
 
 module _ (e : Edition) where
   pub same-name-refl : (n : List ℕ) → same-name e n n ≡ true
