@@ -137,7 +137,7 @@ module _ (e : Edition) (q : SfEntry → Bool) (w : ℕ) (u : List ℕ) (at k : �
   pub every-done : (i p : ℕ) → Every e q w u at k i p → k ≤ i → every q (entries-in e w u k at) ≡ true
   every-done i p s h = s .rest ∙ ap (every q) (run-over e w u k i p h)
 
--- NAME
+-- ---- NAME
 
 read-name : (e : Edition) (w : ℕ) (u : List ℕ) (p n : ℕ) → n ≡ getD u p 0 → take (p + 3 + n - (p + 3)) (drop (p + 3) u) ≡ entry-at e w u p .name
 read-name e w u p n q =

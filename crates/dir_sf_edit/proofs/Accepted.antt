@@ -20,7 +20,7 @@ use Rattle.be.proofs.Bools.{and-left, and-right, and-both, by-cases, every-head
 use Rattle.be.proofs.Parts.{field-lt, bytes-take, bytes-drop}
 use Rattle.dir_sf.specs.Entry.{SfEntry, width-of, size-at, entry-at, entries-in, filled, is-wide, wides-of, next-tag, tags-ok, end-tag, in-block}
 use Rattle.dir_sf.specs.Fork.{count-of, stored-wides, used-width, parent, entries, lay, lay-fork, span-ok, tile-ok, name-ok, names-ok, numbers-ok, once-ok, used-verdict, fork-verdict}
-use Rattle.dir_sf.proofs.Run.{length-entries-in}
+use Rattle.dir_sf.proofs.Listed.{count-is}
 use Rattle.dir_sf_edit.proofs.ReadBack.{Fits, lay-count, lay-wides, lay-parent, lay-entries, lay-filled, length-lay, length-lay-fork, lay-used}
 
 -- the file types fit their bytes
@@ -143,7 +143,7 @@ kind-in : (e : Edition) (w : ℕ) (u : List ℕ) → bytes u ≡ true → (p : �
 unfolding entry-at size-at
 kind-in e w u h p l = lt-ltb _ _ (field-lt (p + 3 + getD u p 0) (e .ftype) u h (omega arith))
 
-module _ (e : Edition) (told : ℕ) (u : List ℕ) (h : bytes u ≡ true) (long : 2 + used-width u ≤ length u) (a : used-verdict e told u ≡ 0) where
+module _ (e : Edition) (told : ℕ) (u : List ℕ) (h : bytes u ≡ true) (a : used-verdict e told u ≡ 0) where
   tests : (tile-ok e told u ≡ true) × (names-ok e (entries e u) ≡ true) × (numbers-ok (parent u) (entries e u) ≡ true)
       × (eqb (stored-wides u) (wides-of (parent u) (entries e u)) ≡ true) × (once-ok e (entries e u) ≡ true)
   unfolding used-verdict
@@ -154,10 +154,6 @@ module _ (e : Edition) (told : ℕ) (u : List ℕ) (h : bytes u ≡ true) (long 
       let t₈ = passes (eqb (stored-wides u) (wides-of (parent u) (entries e u))) 7 _ (t₇ .1) in
       let t₁₀ = passes (once-ok e (entries e u)) 9 _ (t₈ .1) in
       (t₅ .0, t₆ .0, t₇ .0, t₈ .0, t₁₀ .0)
-
-  pub used-count : length (entries e u) ≡ count-of u
-  unfolding entries
-  used-count = length-entries-in e (used-width u) u (count-of u) (2 + used-width u)
 
   tile : (filled e (used-width u) u (count-of u) (2 + used-width u) ≡ true) × (tags-ok e (e .first) (entries e u) ≡ true)
       × (in-block told (end-tag e (e .first) (entries e u)) (count-of u) ≡ true)
@@ -188,7 +184,7 @@ module _ (e : Edition) (told : ℕ) (u : List ℕ) (h : bytes u ≡ true) (long 
   used-good =
       record {
         tags = tile .1;
-        within = rw used-count (tile .2);
+        within = rw (count-is e u) (tile .2);
         names = tests .1;
         numbers = tests .2;
         once = tests .4;

@@ -204,24 +204,24 @@ module _ (e : Edition) (sane : Sane e) (told : ℕ) (b n : List ℕ) (to : Targe
   pub insert-dir : directory-code e b ≡ 0
   insert-dir = is-directory e sane told b insert-passes
 
-  all-tests : (legal-name e n ≡ true) × (legal-target e to ≡ true) × (fixed-name n ≡ false) × (holds e n (entries e (used e b)) ≡ false)
+  pub insert-tests : (legal-name e n ≡ true) × (legal-target e to ≡ true) × (fixed-name n ≡ false) × (holds e n (entries e (used e b)) ≡ false)
       × (is-free (tag-for e told (length n) (entries e (used e b))) ≡ true) × (length (lay e (parent (used e b)) (inserted e told n to (entries e (used e b)))) ≤ data-length e b)
-  all-tests = inserts e told (parent (used e b)) n to (entries e (used e b)) (data-length e b) (insert-parts .1)
+  insert-tests = inserts e told (parent (used e b)) n to (entries e (used e b)) (data-length e b) (insert-parts .1)
 
   pub insert-short : length n < 256
-  insert-short = omega (arith, legal-bounds e n (all-tests .0))
+  insert-short = omega (arith, legal-bounds e n (insert-tests .0))
 
   pub insert-fits : length (lay e (parent (used e b)) (inserted e told n to (entries e (used e b)))) ≤ data-length e b
-  insert-fits = all-tests .5
+  insert-fits = insert-tests .5
 
   few-entries : count-of (used e b) < 254
   unfolding names-ok
   few-entries =
       let y : SfEntry = entry (number-of (tag-for e told (length n) (entries e (used e b)))) n (kept-of e to) in
-      let fits : length (lay e (parent (used e b)) (placed y (entries e (used e b)))) ≤ data-length e b = rw (inserted-is e told n to (entries e (used e b)) (all-tests .4)) at insert-fits in
+      let fits : length (lay e (parent (used e b)) (placed y (entries e (used e b)))) ≤ data-length e b = rw (inserted-is e told n to (entries e (used e b)) (insert-tests .4)) at insert-fits in
       let u = used-bounds e sane told b insert-passes (size-of b) refl in
       let k : every (name-ok e) (placed y (entries e (used e b))) ≡ true =
-      every-placed (name-ok e) y (entries e (used e b)) (and-both _ _ (all-tests .0) (rw (all-tests .2) refl)) (names-known e told (used e b) (used-passes e sane told b insert-passes)) in
+      every-placed (name-ok e) y (entries e (used e b)) (and-both _ _ (insert-tests .0) (rw (insert-tests .2) refl)) (names-known e told (used e b) (used-passes e sane told b insert-passes)) in
       omega (arith, lay-few e (parent (used e b)) (placed y (entries e (used e b))) k, length-placed y (entries e (used e b)), count-is e (used e b))
 
   module _ (z : ℕ) (q : z ≡ size-of b) where
@@ -232,7 +232,7 @@ module _ (e : Edition) (sane : Sane e) (told : ℕ) (b n : List ℕ) (to : Targe
     insert-readable = rw lent (used-readable e sane told b insert-passes)
 
     pub insert-free : is-free (tag-for e told (length n) (entries e (take (e .literal + z - e .literal) (drop (e .literal) b)))) ≡ true
-    insert-free = rw lent (all-tests .4)
+    insert-free = rw lent (insert-tests .4)
 
     pub insert-few : count-of (take (e .literal + z - e .literal) (drop (e .literal) b)) < 254
     insert-few = rw lent few-entries

@@ -21,7 +21,7 @@ use Rattle.name.proofs.Legality.{dot-legal}
 use Rattle.name.proofs.Same.{same-eq, not-fixed, same-name-fixed, same-name-as-fixed}
 use Rattle.name.proofs.Once.{once, once-map}
 use Rattle.dir.specs.declared.Target.{Target}
-use Rattle.dir.specs.Target.{target, legal-target, kept-of}
+use Rattle.dir.specs.Target.{legal-target, kept-of}
 use Rattle.dir.specs.Calls.{Call, look-up, insert, remove, found, done-or}
 use Rattle.dir.specs.Book.{Held, held, Book, named, holds as book-holds, target-held, book-reply, entered, is-done, same-held, SameBook}
 use Rattle.dir.specs.Along.{call-bytes}
@@ -30,7 +30,7 @@ use Rattle.dir.proofs.EveryList.{along}
 use Rattle.dir.proofs.Replies.{insert-is, remove-is, refused-not-done, done-is, refused-is, look-up-keeps}
 use Rattle.dir_sf.specs.Entry.{SfEntry}
 use Rattle.dir_sf.specs.Fork.{parent, entries, holds, name-ok, names-ok, once-ok}
-use Rattle.dir_sf.specs.Change.{entry-in, target-in, entry-for, placed, removed, insert-request, remove-request}
+use Rattle.dir_sf.specs.Change.{entry-in, target-in, parent-entry, entry-for, placed, removed, insert-request, remove-request}
 use Rattle.dir_sf.specs.Inode.{used, verdict, lookup, looked, insert-code, insert-bytes, remove-code, remove-bytes}
 use Rattle.dir_sf.proofs.Tested.{used-passes, names-known, once-known}
 use Rattle.dir_sf_edit.specs.Calls.{reply, after, book-of, room-for}
@@ -38,7 +38,7 @@ use Rattle.dir_sf_edit.specs.Follows.{sf-book-reply, Call-right, book-ne
 use Rattle.dir_sf_edit.proofs.Removes.{removes}
 use Rattle.dir_sf_edit.proofs.Inserts.{tally-placed}
 use Rattle.dir_sf_edit.proofs.Changes.{remove-answers}
-use Rattle.dir_sf_edit.proofs.Kept.{insert-keeps, remove-keeps, newest, insert-read, insert-parent, insert-long, insert-leaves, remove-read, remove-parent, remove-long, remove-leaves}
+use Rattle.dir_sf_edit.proofs.Kept.{Left, newest, insert-left, insert-leaves, remove-left, remove-leaves}
 
 -- ---- the entries as a book holds them
 
@@ -153,7 +153,7 @@ module _ (e : Edition) (sane : Sane e) (told : ℕ) (b n : List ℕ) (by : bytes
       let s : tally (same-held h) (map as-held (placed y xs)) ≡ cond (same-held h (held n (kept-of e t))) 1 0 + tally (same-held h) (map as-held xs) =
       tally-map (same-held h) as-held (placed y xs) ∙ tally-placed (λ x. same-held h (as-held x)) y xs
       ∙ ap (λ (i : ℕ). cond (same-held h (held n (kept-of e t))) 1 0 + i) (sym (tally-map (same-held h) as-held xs)) in
-      rw (insert-parent e sane told b n t by z, insert-read e sane told b n t by z, s) (omega (arith, m h))
+      rw (insert-left e sane told b n t by z .same-parent, insert-left e sane told b n t by z .read, s) (omega (arith, m h))
 
   module _ (v : verdict e told b ≡ 0) (z : remove-code e told b n ≡ 0) where
     gone : (legal-name e n ≡ true) × (fixed-name n ≡ false) × (holds e n (entries e (used e b)) ≡ true)
@@ -163,8 +163,8 @@ module _ (e : Edition) (sane : Sane e) (told : ℕ) (b n : List ℕ) (by : bytes
     unfolding book-of
     left-is =
         rw (same-name-as-fixed e n dotdot dotdot-fixed ∙ not-fixed n (gone .1) .1)
-        (ap₂ (λ (p : ℕ) (xs : List SfEntry). held dotdot (kept-of e (target p 2)) ∷ map as-held xs) (remove-parent e sane told b n by z) (remove-read e sane told b n by z)
-        ∙ ap (λ (l : Book). held dotdot (kept-of e (target (parent (used e b)) 2)) ∷ l) (sym (held-without e n (entries e (used e b)))))
+        (ap₂ (λ (p : ℕ) (xs : List SfEntry). map as-held (parent-entry e p ∷ xs)) (remove-left e sane told b n by z .same-parent) (remove-left e sane told b n by z .read)
+        ∙ ap (λ (l : Book). as-held (parent-entry e (parent (used e b))) ∷ l) (sym (held-without e n (entries e (used e b)))))
 
     remove-listed : SameBook (book-of e (remove-bytes e told b n)) (without-first (named e n) k)
     remove-listed =
@@ -182,29 +182,29 @@ module _ (e : Edition) (sane : Sane e) (told : ℕ) (b : List ℕ) (by : bytes b
   look-right n = unchanged (look-up n) (look-answers e sane told b v k m n (room-for e told b (look-up n))) refl (look-up-keeps e k (room-for e told b (look-up n)) n)
 
   -- a change by its number: done, or refused and nothing changed
-  change-right : (c : Call) (code : ℕ) → reply e told b c ≡ done-or code → sf-book-reply e k (room-for e told b c) c ≡ book-reply e k (room-for e told b c) c
+  change-right : (c : Call) (code : ℕ) (ys : List SfEntry) → reply e told b c ≡ done-or code → sf-book-reply e k (room-for e told b c) c ≡ book-reply e k (room-for e told b c) c
       → reply e told b c ≡ book-reply e k (room-for e told b c) c → (eqb code 0 ≡ false → after e told b c ≡ b)
-      → (code ≡ 0 → (verdict e told (after e told b c) ≡ 0) × (length (after e told b c) ≡ length b) × SameBook (book-of e (after e told b c)) (entered e k c))
+      → (code ≡ 0 → Left e told b ys (after e told b c)) → (code ≡ 0 → SameBook (book-of e (after e told b c)) (entered e k c))
       → Call-right e told k b c
-  change-right c code re sf an same did =
+  change-right c code ys re sf an same left lists =
       let room : Bool = room-for e told b c in
       by-cases (eqb code 0)
-      (λ z. let d = did (eqb-true code 0 z) in
+      (λ z. let q : code ≡ 0 = eqb-true code 0 z in
       let bk : book-next e told k b c ≡ entered e k c = done-is e k room c (sym an ∙ re ∙ rw z refl) in
-      record { answers = an ∙ sym sf; accepted = d .0; lengths = d .1; listed = subst (λ (j : Book). SameBook (book-of e (after e told b c)) j) (sym bk) (d .2) })
+      record { answers = an ∙ sym sf; accepted = left q .accepted; lengths = left q .same-length; listed = subst (λ (j : Book). SameBook (book-of e (after e told b c)) j) (sym bk) (lists q) })
       (λ z. unchanged c (an ∙ sym sf) (same z) (refused-is e k room c (ap is-done (sym an ∙ re) ∙ refused-not-done code z)))
 
   insert-right : (n : List ℕ) (t : Target) → Call-right e told k b (insert n t)
   unfolding after reply sf-book-reply insert-bytes
   insert-right n t =
-      change-right (insert n t) (insert-code e told b n t) refl refl (insert-answers e sane told b v k m n t) (λ z. rw z refl)
-      (λ q. (insert-keeps e sane told b n t by q, insert-long e sane told b n t by q, insert-listed e sane told b n by k m t q))
+      change-right (insert n t) (insert-code e told b n t) _ refl refl (insert-answers e sane told b v k m n t) (λ z. rw z refl)
+      (insert-left e sane told b n t by) (insert-listed e sane told b n by k m t)
 
   remove-right : (n : List ℕ) → Call-right e told k b (remove n)
   unfolding after reply sf-book-reply remove-bytes
   remove-right n =
-      change-right (remove n) (remove-code e told b n) refl refl (remove-replies e sane told b v k m n (room-for e told b (remove n))) (λ z. rw z refl)
-      (λ q. (remove-keeps e sane told b n by q, remove-long e sane told b n by q, remove-listed e sane told b n by k m v q))
+      change-right (remove n) (remove-code e told b n) _ refl refl (remove-replies e sane told b v k m n (room-for e told b (remove n))) (λ z. rw z refl)
+      (remove-left e sane told b n by) (remove-listed e sane told b n by k m v)
 
   -- bytes stay bytes
   stays-bytes : (c : Call) → call-bytes c ≡ true → bytes (after e told b c) ≡ true

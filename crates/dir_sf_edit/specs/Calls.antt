@@ -4,13 +4,11 @@ use Prim.Native.Nat.{ℕ}
 use mathlib.Core.Bool.{Bool, true}
 use mathlib.Core.List.{List, _∷_, map}
 use Rattle.edition.specs.declared.Edition.{Edition}
-use Rattle.name.specs.Name.{dotdot}
 use Rattle.dinode.specs.Core.{data-length}
-use Rattle.dir.specs.Target.{target, kept-of}
 use Rattle.dir.specs.Calls.{Call, look-up, insert, remove, Reply, found-or, done-or}
 use Rattle.dir.specs.Book.{Book, held}
 use Rattle.dir_sf.specs.Fork.{parent, entries}
-use Rattle.dir_sf.specs.Change.{has-room}
+use Rattle.dir_sf.specs.Change.{parent-entry, has-room}
 use Rattle.dir_sf.specs.Inode.{used, lookup, insert-code, insert-bytes, remove-code, remove-bytes}
 
 -- each call is told the directory block size
@@ -25,9 +23,9 @@ after e told b (look-up n) = b
 after e told b (insert n t) = insert-bytes e told b n t
 after e told b (remove n) = remove-bytes e told b n
 
--- a short form's names and numbers are its entries', each name with its number and file type, and ".." with the parent's, a directory
+-- a short form's names and numbers are its entries', each name with its number and file type, and the parent's under ".."
 unfoldable pub book-of : Edition → List ℕ → Book
-book-of e b = held dotdot (kept-of e (target (parent (used e b)) 2)) ∷ map (λ x. held (x .name) (x .target)) (entries e (used e b))
+book-of e b = map (λ x. held (x .name) (x .target)) (parent-entry e (parent (used e b)) ∷ entries e (used e b))
 
 -- whether the room rule finds room for a call in the directory that it gets; only an insert asks
 unfoldable pub room-for : Edition → ℕ → List ℕ → Call → Bool

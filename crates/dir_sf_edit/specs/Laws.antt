@@ -43,16 +43,16 @@ Remove-names e = (told : ℕ) (b n : List ℕ) → bytes b ≡ true → remove-c
 unfoldable pub Wide-laid : Edition → Type 0
 Wide-laid e = (p : ℕ) (xs : List SfEntry) → is-wide p ≡ true → used-width (lay e p xs) ≡ 8
 
--- and it is accepted without entries too: 10 bytes of any fork that has them
-unfoldable pub Wide-empty : Edition → Type 0
-Wide-empty e = (told fork p : ℕ) → block-size told ≡ true → 10 ≤ fork → legal-number p ≡ true → is-wide p ≡ true
-    → fork-verdict e told (lay-fork e fork p []) 10 ≡ 0
-
 -- so a directory that is accepted under a wide parent is wide
 unfoldable pub Wide-accepted : Edition → Type 0
 Wide-accepted e = (told : ℕ) (b : List ℕ) → verdict e told b ≡ 0 → is-wide (parent (used e b)) ≡ true → used-width (used e b) ≡ 8
 
--- and the removal of a name that is there is done under a wide parent, the last wide entry's too, and stays wide
+-- and is accepted even when empty: laid out it takes 10 bytes, of any fork that has them
+unfoldable pub Wide-empty : Edition → Type 0
+Wide-empty e = (told fork p : ℕ) → block-size told ≡ true → 10 ≤ fork → legal-number p ≡ true → is-wide p ≡ true
+    → fork-verdict e told (lay-fork e fork p []) 10 ≡ 0
+
+-- the removal of a name that is there is done under a wide parent, the last wide entry's too, and stays wide
 unfoldable pub Remove-wide : Edition → Type 0
 Remove-wide e = (told : ℕ) (b n : List ℕ) → bytes b ≡ true → verdict e told b ≡ 0 → is-wide (parent (used e b)) ≡ true
     → legal-name e n ≡ true → fixed-name n ≡ false → holds e n (entries e (used e b)) ≡ true
