@@ -1,5 +1,5 @@
 //! A directory over a long list of calls, held to a book of names with numbers that sees no answers: the
-//! paper's demand 3 for blocks, and the same for short forms, tried on the library through the safe wrappers.
+//! paper's demand 3 for blocks, and its counterpart for short forms, tried through the safe wrappers.
 
 mod common;
 

@@ -93,8 +93,8 @@ fn try_contents(image: &Image, check: &Check, bytes: &[u8]) -> Vec<&'static str>
     }
 }
 
-/// The entries of a short form under a wide parent taken out: what is left is what Linux wrote for a directory
-/// that was always empty under that parent.
+/// All entries of a short form under a wide parent taken out: size and used bytes are those that Linux wrote for
+/// an empty directory under the same parent.
 #[test]
 fn empty_under_a_wide_parent() {
     let mut inode = images::read("wide-v4-wideparent-one-wide.inode");
