@@ -7,7 +7,7 @@
 
 int main(int argc, char **argv)
 {
-    static uint8_t block[16385];    /* one byte more than the longest block, so that a longer file is refused */
+    static uint8_t block[65537];    /* one byte more than the longest block, so that a longer file is refused */
     if (argc != 3) return fprintf(stderr, "usage: lookup FILE NAME\n"), 2;
     FILE *file = fopen(argv[1], "rb");
     if (!file) return fprintf(stderr, "lookup: %s: %s\n", argv[1], strerror(errno)), 2;

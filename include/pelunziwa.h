@@ -7,7 +7,7 @@
  * `refusal`, or a plain uint32_t that a call gives, is 0 for done or the number of the first test that fails:
  *
  *    1 SIZE    an inode's, a block's or the told block length is not one allowed: an inode is 256, 512, 1,024 or 2,048 bytes
- *              long, a block a power of two from 512 to 16,384
+ *              long, a block a power of two from 512 to 65,536
  *    2 MAGIC   inode not 0x494e; block not 0x58443242
  *    3 KIND    the inode is not of the wanted version, type or format
  *    4 SPAN    a stored total does not fit

@@ -1,4 +1,4 @@
-//! The block directory: a power of two of bytes, 512 to 16,384.
+//! The block directory: a power of two of bytes, 512 to 65,536.
 
 use crate::walk::{self, Entry, Step};
 use crate::{raw, Found, Refusal};

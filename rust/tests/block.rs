@@ -15,7 +15,35 @@ const TESTS: [u32; 9] = [1, 2, 4, 5, 6, 7, 8, 9, 10];
 #[test]
 fn blocks() {
     let mut lab = Lab::new(0xb10c);
-    frame::run::<Blocks>(&mut lab);
+    frame::run::<Blocks<ANY>>(&mut lab);
+    all_reached(&lab);
+}
+
+#[test]
+fn blocks_of_32768() {
+    large::<32_768>(0xb32b);
+}
+
+#[test]
+fn blocks_of_65536() {
+    large::<65_536>(0xb64b);
+}
+
+/// Blocks of one large size by themselves: everything is reached with them too, and refusal 1 with lengths beside it.
+fn large<const LEN: usize>(seed: u64) {
+    let mut lab = Lab::new(seed);
+    frame::generated::<Blocks<LEN>>(&mut lab);
+    Blocks::<LEN>::lists(&mut lab);
+    for len in [LEN - 8, LEN - 1, LEN + 1, LEN + LEN / 2, 131_072] {
+        let case = Case::of(build::fresh_block(&mut lab.rng, len));
+        assert_eq!(Blocks::<LEN>::verdict(&case), 1);
+        frame::each_call::<Blocks<LEN>>(&mut lab, &case, &[]);
+    }
+    println!("{} calls", lab.cover.calls());
+    all_reached(&lab);
+}
+
+fn all_reached(lab: &Lab) {
     lab.cover.require("block_test", &TESTS, &[], &[]);
     let compared = [
         "found after 2 or more",
@@ -46,12 +74,15 @@ fn blocks() {
     lab.cover.require("block_step", &TESTS, &[11], &seen);
 }
 
-struct Blocks;
+/// Blocks; those that are generated have so many bytes, or any allowed number. Large ones, whose calls take long, are fewer.
+struct Blocks<const LEN: usize>;
 
-impl Structure for Blocks {
+const ANY: usize = 0;
+
+impl<const LEN: usize> Structure for Blocks<LEN> {
     type Key = Vec<u8>;
     const CALL: &'static str = "block";
-    const GENERATED: usize = 6000;
+    const GENERATED: usize = if LEN == ANY { 6000 } else { 150 };
     const JUNK: usize = 3000;
     const PUTS: &'static [usize] = &[9, 2, 5, 10];
     const TURN: usize = 200;
@@ -133,7 +164,10 @@ impl Structure for Blocks {
     }
 
     fn generated(rng: &mut Rng, faults: &[Fault]) -> Case {
-        let len = build::block_len(rng);
+        let len = match LEN {
+            ANY => build::block_len(rng),
+            len => len,
+        };
         Case::of(build::block(rng, len, faults))
     }
 
@@ -181,20 +215,27 @@ impl Structure for Blocks {
             slot_gap,
         ] {
             if let Some(name) = filling(lab, room) {
-                Blocks::put(lab, case, &name);
+                Self::put(lab, case, &name);
             }
         }
     }
 
     fn lists(lab: &mut Lab) {
-        for len in BLOCK_SIZES {
+        let sizes = match LEN {
+            ANY => BLOCK_SIZES
+                .into_iter()
+                .filter(|&len| len <= 16_384)
+                .collect(),
+            len => vec![len],
+        };
+        for len in sizes {
             let calls = if len <= 2048 { 3000 } else { 2000 };
             for start in 0..rounds(4) {
                 let block = match start % 2 {
                     0 => build::fresh_block(&mut lab.rng, len),
                     _ => build::block(&mut lab.rng, len, &[]),
                 };
-                frame::list::<Blocks>(lab, Case::of(block), calls);
+                frame::list::<Self>(lab, Case::of(block), calls);
             }
         }
     }

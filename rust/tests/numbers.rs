@@ -184,11 +184,11 @@ fn c5() {
     });
 }
 
-/// The shortest names go in until there is no room: 20 live entries in 512 bytes, 169 in 4,096.
+/// Names of the shortest entries go in until there is no room: 20 live entries in 512 bytes, 169 in 4,096, 2,729 in 65,536.
 #[test]
 fn c6() {
     both(|calls| {
-        for (len, most) in [(512, 20), (4096, 169)] {
+        for (len, most) in [(512, 20), (4096, 169), (65_536, 2729)] {
             let mut block = c1(len);
             let mut live = 2;
             while (calls.block_insert)(&mut block, format!("n{live}").as_bytes(), 131) == 0 {

@@ -23,7 +23,7 @@ size-least : (e : Edition) (n : ℕ) → 16 ≤ entry-size e n
 unfolding entry-size
 size-least e n = omega arith
 
-total-least : (e : Edition) (es : List Rec) → 16 * length es ≤ total (λ r. entry-size e (length (name r))) es
+pub total-least : (e : Edition) (es : List Rec) → 16 * length es ≤ total (λ r. entry-size e (length (name r))) es
 total-least e [] = omega arith
 total-least e (r ∷ es) = omega (arith, size-least e (length (name r)), total-least e es)
 
@@ -37,7 +37,7 @@ pub capacity-right : (e : Edition) → Sane e → Capacity-right e
 unfolding Capacity-right
 capacity-right e sane b h a = omega (arith, live-bound e sane b h a)
 
--- V4: (L - 24) / 24, so 20 at 512 and 169 at 4,096
+-- V4: (L - 24) / 24, so 20 at 512, 169 at 4,096 and 2,729 at 65,536
 module _ (b : List ℕ) (h : bytes b ≡ true) (a : Accepted v4 b) where
   pub v4-capacity : length (entries (records v4 b)) ≤ (length b - 24) / 24
   unfolding Capacity-right
@@ -48,3 +48,6 @@ module _ (b : List ℕ) (h : bytes b ≡ true) (a : Accepted v4 b) where
 
   pub at-most-169 : length b ≡ 4096 → length (entries (records v4 b)) ≤ 169
   at-most-169 n = rw n at v4-capacity
+
+  pub at-most-2729 : length b ≡ 65536 → length (entries (records v4 b)) ≤ 2729
+  at-most-2729 n = rw n at v4-capacity

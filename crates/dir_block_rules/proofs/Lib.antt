@@ -37,4 +37,5 @@ pub mod WholeWalk
 pub mod BestRanked
 pub mod BestAnew
 pub mod Capacity
+pub mod TwoBytes
 pub mod SmallCodes

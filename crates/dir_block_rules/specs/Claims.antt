@@ -1,7 +1,7 @@
 -- What is claimed of a block besides demand 3, each over every edition of sane sizes. The starred numbers stand in Starred.antt.
--- Their proofs: proofs/LookupRight.antt, WholeWalk.antt, BestAnew.antt, SlotOrder.antt, Capacity.antt.
+-- Their proofs: proofs/LookupRight.antt, WholeWalk.antt, BestAnew.antt, SlotOrder.antt, Capacity.antt, TwoBytes.antt.
 -- Assumes nothing.
-use Prim.Native.Nat.{ℕ, suc, _+_, _-_, _/_, _≤_}
+use Prim.Native.Nat.{ℕ, suc, _+_, _-_, _*_, _/_, _^_, _≤_, _<_}
 use mathlib.Core.Bool.{Bool, true, false, not, cond, _&&_, _||_}
 use mathlib.Core.Path.{_≡_}
 use mathlib.Core.List.{List, [], _∷_, _++_, map}
@@ -11,12 +11,13 @@ use Rattle.refusal.specs.Refusal.{ASKED, ABSENT}
 use Rattle.be.specs.Lists.{every, some-of, keep}
 use Rattle.be.specs.Bytes.{bytes, part}
 use Rattle.edition.specs.declared.Edition.{Edition}
+use Rattle.edition.specs.Edition.{largest-block, entry-size}
 use Rattle.name.specs.Name.{legal-name, same-name}
 use Rattle.dir.specs.declared.Looked.the-variants.{Found, Absent}
 use Rattle.dir.specs.declared.Walked.the-variants.{Stepped, Refused}
 use Rattle.dir_block_rules.specs.Record.{Rec, size, is-gap, entries, gaps, name, target-of, tag}
 use Rattle.dir_block_rules.specs.Block.{records, data-end, Slot}
-use Rattle.dir_block_rules.specs.Verdict.{Accepted, rising, Pair, pair, best-pairs, zero-pair, is-gap-of}
+use Rattle.dir_block_rules.specs.Verdict.{Accepted, size-ok, rising, Pair, pair, best-pairs, zero-pair, is-gap-of}
 use Rattle.dir.specs.Answers.{looked-code}
 use Rattle.dir_block_rules.specs.Lookup.{lookup, names-compared}
 use Rattle.dir_block_rules.specs.Change.{insert-slot}
@@ -103,3 +104,16 @@ Slot-right =
 -- C6: a block of L bytes holds at most (L - 24) / 24 live entries; 24 is V4's header and tail, and the least that an entry and its slot take
 unfoldable pub Capacity-right : Edition → Type 0
 Capacity-right e = (b : List ℕ) → bytes b ≡ true → Accepted e b → length (entries (records e b)) ≤ (length b - (e .header + 8)) / 24
+
+-- the gap of a block of L bytes with "." and ".." alone, as C1 has it: what header, both entries, their slots and the tail leave
+abbrev pub lone-gap : Edition → ℕ → ℕ
+lone-gap e L = L - (e .header + (entry-size e 1 + entry-size e 2) + 2 * 8 + 8)
+
+-- why 65,536 is the end: offsets and gap lengths take 2 bytes
+pub record Two-bytes (e : Edition) : Type 0 where
+  -- 2 bytes hold the offset and the length of whatever lies in the data of a block of an allowed size
+  pub hold : (b : List ℕ) (o n : ℕ) → size-ok b ≡ true → o + n ≤ data-end b → (o < 256 ^ 2) × (n < 256 ^ 2)
+  -- no accepted block has a longer gap than "." and ".." alone leave
+  pub longest : (b : List ℕ) → bytes b ≡ true → Accepted e b → every (λ g. leb (size g) (lone-gap e (length b))) (gaps (records e b)) ≡ true
+  -- in a block of twice the largest size 2 bytes would not hold that gap
+  pub no-more : 256 ^ 2 ≤ lone-gap e (2 * largest-block)

@@ -14,7 +14,7 @@ use Rattle.dir_block_rules.proofs.BlockParts.{length-slots-in}
 use Rattle.be.specs.Lists.{every, tally, same}
 use Rattle.be.specs.Bytes.{part, field}
 use Rattle.edition.specs.declared.Edition.{Edition}
-use Rattle.edition.specs.Edition.{Sane, entry-size, largest-block, record-starts}
+use Rattle.edition.specs.Edition.{Sane, entry-size}
 use Rattle.name.specs.Name.{dot, legal-name}
 use Rattle.dir_block_rules.specs.Record.{Rec, rec, whole, apart, is-gap, is-entry, entries, gaps, name}
 use Rattle.dir_block_rules.specs.Block.{Slot, is-live, is-stale}
@@ -34,7 +34,7 @@ use Rattle.dir_block_test.proofs.TileWalk.{Head, rest-head, head-gap}
 use Rattle.dir_block_test.proofs.WholeRecord.{says-entry}
 use Rattle.dir_block_test.proofs.EntryWalk.{entry-fits, name-here, number-here}
 use Rattle.dir_block_test.proofs.SlotWalk.{slot-at}
-use Rattle.dir_block_test.proofs.SlotTable.{slots-split, table-law, hinted}
+use Rattle.dir_block_test.proofs.SlotTable.{slots-split, table-law, hinted, length-filled}
 use Rattle.dir_block_test.proofs.FaultsAnswer.{tile-is, worst-7, worst-8, worst-9}
 use Rattle.dir_block_test.proofs.OneSlotEach.{in-order-is}
 use Rattle.dir_block_test.proofs.BestNamed.{at-most, best-law}
@@ -165,9 +165,6 @@ module _ (e : Edition) (sane : Sane e) (b : List ℕ) (t n : ℕ) where
         unfolding after-index
         end-0 f = sym (rw (sym gs ∙ gt, once-is m x ∙ sym os ∙ f))
 
-    pub low-end : t ≤ largest-block
-    low-end = omega (arith, hi, T .parts .top)
-
     pub room-2 : (o : ℕ) → o < t → o % 8 ≡ 0 → o + 2 ≤ length b
     room-2 o h q = omega (arith, hi, T .parts .eights)
 
@@ -239,7 +236,7 @@ module _ (e : Edition) (sane : Sane e) (b : List ℕ) (t n : ℕ) where
         (λ w. rw (h, at-dot, w))
 
     -- INDEX
-    module _ (m live : ℕ) (M : List ℕ) (Ms : length M ≡ record-starts) (ml : m ≤ n) (lv : live ≡ length (entries RS)) (fit : Bool) (fs : fit ≡ (in-order 0 0 m SS && eqb (n - m) live)) where
+    module _ (m live : ℕ) (M : List ℕ) (Ms : t ≤ 8 * length M) (ml : m ≤ n) (lv : live ≡ length (entries RS)) (fit : Bool) (fs : fit ≡ (in-order 0 0 m SS && eqb (n - m) live)) where
       reachable : every (λ r. ltb (addr-of r) (length M)) (entries RS) ≡ true
       reachable = go (entries RS) all-placed
         where
@@ -247,8 +244,11 @@ module _ (e : Edition) (sane : Sane e) (b : List ℕ) (t n : ℕ) where
           go [] h = refl
           go (r ∷ es) h =
               let f : r .off + 9 + getD b (r .off + 8) 0 ≤ t = leb-true (r .off + 9 + getD b (r .off + 8) 0) t (and-left _ _ (every-head (placed e b t hi (T .parts .eights)) r es h)) in
-              every-cons (λ r. ltb (addr-of r) (length M)) r es (lt-ltb (addr-of r) (length M) (omega (arith, hi, T .parts .top)))
+              every-cons (λ r. ltb (addr-of r) (length M)) r es (lt-ltb (addr-of r) (length M) (omega (arith, hi, Ms)))
               (go es (every-tail (placed e b t hi (T .parts .eights)) r es h))
+
+      pub table-long : (P : List ℕ) → P ≡ cells-of b t M n → t ≤ 8 * length P
+      table-long P ps = omega (arith, Ms, ap length ps ∙ length-filled b t M n)
 
       pub index-is : index-ok e RS SS m ≡ (fit && every (hinted b t n M e) (entries RS))
       index-is =

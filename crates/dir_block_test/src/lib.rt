@@ -6,7 +6,7 @@ ghost use lib.Dec.{eqb, ltb};
 ghost use lib.ListN.{length, set};
 ghost use Rattle.be.specs.Lists.{every};
 ghost use Rattle.be.specs.Bytes.{byte, field, part};
-ghost use Rattle.edition.specs.Edition.{v4, Sane, largest-block, record-starts};
+ghost use Rattle.edition.specs.Edition.{v4, Sane};
 ghost use Rattle.name.specs.Name.{legal-name, same-name};
 ghost use Rattle.dir_block_rules.specs.Record.{says, whole, gaps, entries};
 ghost use Rattle.dir_block_rules.specs.Verdict.{pair, best-pairs, best-ok, index-ok, verdict};
@@ -14,8 +14,13 @@ ghost use Rattle.dir_block_test.specs.Passes.{no-fault, rest, whole-len,
 use edition::Edition;
 use edition::V4;
 
-// A cell in the table of slots for every 8 bytes of the largest block.
+// The table of slots has a cell for every 8 bytes up to the data's end. Clearing that of the largest block would show in the test of a
+// small one: data that ends by SMALL has a table of its own.
 const CELLS: usize = edition::LARGEST_BLOCK / 8;
+
+const SMALL: usize = 16384;
+
+const SMALL_CELLS: usize = SMALL / 8;
 
 // Whether the record at o is a gap.
 fn is_gap(b: &[u8], o: usize) -> bool
@@ -129,18 +134,17 @@ fn ordered(b: &[u8], t: usize, n: usize, m: usize) -> bool
 }
 
 // Stores v in cell a, if the table has it.
-fn mark(pos: &mut [u16; CELLS], a: usize, v: u16)
-    requires { ⌜ length (now pos) ≡ record-starts ⌝ }
+fn mark(pos: &mut [u16], a: usize, v: u16)
     ensures { λ _. ⌜ now (pos .exit) ≡ set (now (pos .entry)) a v ⌝ }
 {
-    if a < CELLS {
+    if a < pos.len() {
         pos[a] = v;
     }
 }
 
 // Fills the table: at each address one more than the index of the last of the n slots at t that has it.
-fn mark_all(b: &[u8], t: usize, n: usize, pos: &mut [u16; CELLS])
-    requires { ⌜ (t + 8 * n ≤ length (now b)) × (n < 65536) × (length (now pos) ≡ record-starts) ⌝ }
+fn mark_all<'a, 'b>(b: &'a [u8], t: usize, n: usize, pos: &'b mut [u16])
+    requires { ⌜ (t + 8 * n ≤ length (now b)) × (n < 65536) ⌝ }
     ensures { λ _. ⌜ now (pos .exit) ≡ cells-of (now (b .entry)) t (now (pos .entry)) n ⌝ }
 {
     let mut i: usize = 0;
@@ -158,8 +162,8 @@ fn wide16(x: u16) -> usize
 }
 
 // Whether the slot that the table has for address a is there and has hash h.
-fn has_slot(b: &[u8], t: usize, n: usize, pos: &[u16; CELLS], h: usize, a: usize) -> bool
-    requires { ⌜ (t + 8 * n ≤ length (now b)) × (a < record-starts) ⌝ }
+fn has_slot(b: &[u8], t: usize, n: usize, pos: &[u16], h: usize, a: usize) -> bool
+    requires { ⌜ (t + 8 * n ≤ length (now b)) × (a < length (now pos)) ⌝ }
     ensures { λ r. ⌜ r ≡ hint (now (pos .entry)) (now (b .entry)) t n a h ⌝ }
 {
     let p = wide16(pos[a]);
@@ -203,9 +207,9 @@ fn name_fits(e: Edition, legal: bool, s: &[u8], o: usize) -> bool
 const NO_FAULT: usize = refusal::HIGHEST + 1;
 
 // The first test that the entry at o fails: NAME, NUMBER or INDEX.
-fn entry_fault(e: Edition, b: &[u8], o: usize, t: usize, n: usize, pos: &[u16; CELLS]) -> usize
+fn entry_fault(e: Edition, b: &[u8], o: usize, t: usize, n: usize, pos: &[u16]) -> usize
     requires { ⌜ Sane e ⌝ }
-    requires { ⌜ (t + 8 * n ≤ length (now b)) × (t ≤ largest-block) × (o + 9 + byte (o + 8) (now b) ≤ t) ⌝ }
+    requires { ⌜ (t + 8 * n ≤ length (now b)) × (t ≤ 8 * length (now pos)) × (o + 9 + byte (o + 8) (now b) ≤ t) ⌝ }
     ensures { λ r. ⌜ r ≡ fault-at e (own-at e (now (b .entry))) (hint (now (pos .entry)) (now (b .entry)) t n) (now (b .entry)) o ⌝ }
 {
     let from = o + 9;
@@ -224,9 +228,9 @@ fn entry_fault(e: Edition, b: &[u8], o: usize, t: usize, n: usize, pos: &[u16; C
 }
 
 // The lower of w and the record's first fault.
-fn worse(e: Edition, b: &[u8], o: usize, t: usize, n: usize, pos: &[u16; CELLS], w: usize) -> usize
+fn worse(e: Edition, b: &[u8], o: usize, t: usize, n: usize, pos: &[u16], w: usize) -> usize
     requires { ⌜ Sane e ⌝ }
-    requires { ⌜ (t + 8 * n ≤ length (now b)) × (t ≤ largest-block) × (o + 2 ≤ t)
+    requires { ⌜ (t + 8 * n ≤ length (now b)) × (t ≤ 8 * length (now pos)) × (o + 2 ≤ t)
         × (eqb (field o 2 (now b)) 0xffff ≡ false → o + 9 + byte (o + 8) (now b) ≤ t) ⌝ }
     ensures { λ r. ⌜ r ≡ min w (cond (eqb (field o 2 (now (b .entry))) 0xffff) no-fault
         (fault-at e (own-at e (now (b .entry))) (hint (now (pos .entry)) (now (b .entry)) t n) (now (b .entry)) o)) ⌝ }
@@ -245,9 +249,9 @@ fn worse(e: Edition, b: &[u8], o: usize, t: usize, n: usize, pos: &[u16; CELLS],
 }
 
 // The lowest fault of the entries' names, numbers and slots.
-fn faults(e: Edition, b: &[u8], t: usize, n: usize, pos: &[u16; CELLS]) -> usize
+fn faults(e: Edition, b: &[u8], t: usize, n: usize, pos: &[u16]) -> usize
     requires { ⌜ Sane e ⌝ }
-    requires { ⌜ (t + 8 * n ≤ length (now b)) × (t ≤ largest-block) × (t % 8 ≡ 0) × (e .header ≤ t)
+    requires { ⌜ (t + 8 * n ≤ length (now b)) × (t ≤ 8 * length (now pos)) × (t % 8 ≡ 0) × (e .header ≤ t)
         × (every (whole e) (rest e (now b) t (length (now b)) (e .header)) ≡ true) ⌝ }
     ensures { λ r. ⌜ r ≡ worst e (own-at e (now (b .entry))) (hint (now (pos .entry)) (now (b .entry)) t n)
         (rest e (now (b .entry)) t (length (now (b .entry))) (e .header)) ⌝ }
@@ -485,17 +489,25 @@ fn searched(fit: bool, n: usize) -> usize
     0
 }
 
-// The tests from NAME on.
-fn test_entries(e: Edition, b: &[u8], t: usize, n: usize, m: usize, live: usize) -> usize
+// The tests from NAME on, with a table for the slots; what it holds at first doesn't matter.
+fn test_entries_with<'a, 'b>(
+    e: Edition,
+    b: &'a [u8],
+    t: usize,
+    n: usize,
+    m: usize,
+    live: usize,
+    pos: &'b mut [u16],
+) -> usize
     requires { ⌜ Sane e ⌝ }
-    requires { ⌜ Data-tiled e (now b) t n × (m ≤ n) × (live ≡ length (entries (rest e (now b) t (length (now b)) (e .header)))) ⌝ }
+    requires { ⌜ Data-tiled e (now b) t n × (m ≤ n) × (live ≡ length (entries (rest e (now b) t (length (now b)) (e .header))))
+        × (t ≤ 8 * length (now pos)) ⌝ }
     ensures { λ r. ⌜ r ≡ after-tile e (now (b .entry)) (rest e (now (b .entry)) t (length (now (b .entry))) (e .header))
         (slots-from (now (b .entry)) t n 0) m ⌝ }
 {
     let fit = counts_fit(b, t, n, m, live);
-    let mut pos = [0u16; CELLS];
-    mark_all(b, t, n, &mut pos);
-    let w = faults(e, b, t, searched(fit, n), &pos);
+    mark_all(b, t, n, pos);
+    let w = faults(e, b, t, searched(fit, n), &pos[..]);
     if w <= refusal::NAME {
         return refusal::NAME;
     }
@@ -512,6 +524,21 @@ fn test_entries(e: Edition, b: &[u8], t: usize, n: usize, m: usize, live: usize)
         return refusal::INDEX;
     }
     test_best(e, b, t, n, m)
+}
+
+// The tests from NAME on.
+fn test_entries(e: Edition, b: &[u8], t: usize, n: usize, m: usize, live: usize) -> usize
+    requires { ⌜ Sane e ⌝ }
+    requires { ⌜ Data-tiled e (now b) t n × (m ≤ n) × (live ≡ length (entries (rest e (now b) t (length (now b)) (e .header)))) ⌝ }
+    ensures { λ r. ⌜ r ≡ after-tile e (now (b .entry)) (rest e (now (b .entry)) t (length (now (b .entry))) (e .header))
+        (slots-from (now (b .entry)) t n 0) m ⌝ }
+{
+    if t <= SMALL {
+        let mut pos = [0u16; SMALL_CELLS];
+        return test_entries_with(e, b, t, n, m, live, &mut pos);
+    }
+    let mut pos = [0u16; CELLS];
+    test_entries_with(e, b, t, n, m, live, &mut pos)
 }
 
 // The tests from TILE on.

@@ -15,15 +15,11 @@ v4 =
 
 -- the largest directory block
 abbrev pub largest-block : ℕ
-largest-block = 16384
+largest-block = 65536
 
--- the places in it where a record can start, one for every 8 bytes: the code's tables have as many cells
-abbrev pub record-starts : ℕ
-record-starts = largest-block / 8
-
--- Directory block: a power of two, 512 to 16,384
+-- Directory block: a power of two, 512 to 65,536
 abbrev pub block-sizes : List ℕ
-block-sizes = 512 ∷ 1024 ∷ 2048 ∷ 4096 ∷ 8192 ∷ largest-block ∷ []
+block-sizes = 512 ∷ 1024 ∷ 2048 ∷ 4096 ∷ 8192 ∷ 16384 ∷ 32768 ∷ largest-block ∷ []
 
 unfoldable pub block-size : ℕ → Bool
 block-size n = some-of (eqb n) block-sizes

@@ -48,14 +48,17 @@ impl V4 {
 }
 
 // The largest directory block.
-pub const LARGEST_BLOCK: usize = 16384;
+pub const LARGEST_BLOCK: usize = 65536;
 
 // Whether a directory block may have this many bytes.
 pub fn block_sized(n: usize) -> bool
     ensures { λ r. ⌜ r ≡ block-size n ⌝ }
 {
     (n == 512)
-        | ((n == 1024) | ((n == 2048) | ((n == 4096) | ((n == 8192) | (n == LARGEST_BLOCK)))))
+        | ((n == 1024)
+            | ((n == 2048)
+                | ((n == 4096)
+                    | ((n == 8192) | ((n == 16384) | ((n == 32768) | (n == LARGEST_BLOCK)))))))
 }
 
 // E: the bytes of an entry whose name has n bytes.

@@ -1,9 +1,11 @@
 // Lists a block directory: reads one block from standard input, writes the listing or "refused " and the number.
 ghost use mathlib.Core.Path.{_≡_};
+ghost use mathlib.Core.List.{_++_};
 ghost use Prim.Native.Nat.{_+_, _≤_, _<_};
 ghost use lib.ListN.{length};
 ghost use Rattle.io.specs.Counts.{Counts};
-ghost use Rattle.edition.specs.Edition.{Sane};
+ghost use Rattle.edition.specs.Edition.{Sane, largest-block};
+ghost use Rattle.dir_block_rules.specs.Verdict.{verdict};
 ghost use Rattle.dir_block_laws.specs.Tiled.{Ready};
 use dir::Entry;
 use dir::Seen;
@@ -153,10 +155,21 @@ fn refused(code: usize) {
     io::write_all(STDOUT_FILENO, &out[..n]);
 }
 
-fn answer(e: Edition, b: &[u8])
-    requires { ⌜ Sane e ⌝ }
+// The number for what was read: b, and the bytes after it. Only a full buffer can have bytes after it, and then the whole is too long.
+fn code<'a, 'b>(e: Edition, b: &'a [u8], more: &'b [u8]) -> usize
+    requires { ⌜ Sane e × (length (now b) < largest-block → length (now more) ≡ 0) ⌝ }
+    ensures { λ r. ⌜ r ≡ verdict e (now (b .entry) ++ now (more .entry)) ⌝ }
 {
-    let n = dir_block_test::code(e, b);
+    if more.len() == 0 {
+        return dir_block_test::code(e, b);
+    }
+    refusal::SIZE
+}
+
+fn answer<'a, 'b>(e: Edition, b: &'a [u8], more: &'b [u8])
+    requires { ⌜ Sane e × (length (now b) < largest-block → length (now more) ≡ 0) ⌝ }
+{
+    let n = code(e, b, more);
     if n == 0 {
         listing(e, b);
         return;
@@ -164,15 +177,21 @@ fn answer(e: Edition, b: &[u8])
     refused(n);
 }
 
-// One byte more than the largest block, so that what is longer is refused by its length.
-fn blank() -> [u8; 16385]
-    ensures { λ r. ⌜ 16385 ≡ length r ⌝ }
+// How many bytes come behind the first n, as many as `more` has room for at most. None is asked for unless the n filled their buffer.
+fn probe(n: usize, full: usize, more: &mut [u8]) -> usize
+    ensures { λ r. ⌜ Counts r (now (more .exit)) ⌝ }
+    ensures { λ r. ⌜ (n < full → r ≡ 0) ⌝ }
 {
-    [0; 16385]
+    if n < full {
+        return 0;
+    }
+    io::read_full(STDIN_FILENO, more)
 }
 
 fn main() {
-    let mut buffer = blank();
+    let mut buffer = io::large_buffer();
     let n = io::read_full(STDIN_FILENO, &mut buffer);
-    answer(V4::edition(), &buffer[..n]);
+    let mut more = [0u8; 1];
+    let k = probe(n, buffer.len(), &mut more);
+    answer(V4::edition(), &buffer[..n], &more[..k]);
 }

@@ -31,13 +31,28 @@ impl Random {
     }
 }
 
-/// A kind of full block: its size, and how long its names are.
-struct Kind {
-    size: usize,
+/// How long the names of a full block are.
+struct Names {
     what: &'static str,
     shortest: u64,
     longest: u64,
 }
+
+const SHORT: Names = Names {
+    what: "1 to 5 byte",
+    shortest: 1,
+    longest: 5,
+};
+const TYPICAL: Names = Names {
+    what: "8 to 24 byte",
+    shortest: 8,
+    longest: 24,
+};
+const LONGEST: Names = Names {
+    what: "255 byte",
+    shortest: 255,
+    longest: 255,
+};
 
 /// A full block, and the names in it.
 struct Full {
@@ -64,9 +79,9 @@ fn empty(size: usize) -> Vec<u8> {
 }
 
 /// Inserts until 200 names in a row find no room.
-fn full(kind: &Kind, seed: u64) -> Full {
+fn full(size: usize, kind: &Names, seed: u64) -> Full {
     let mut random = Random(seed);
-    let mut bytes = empty(kind.size);
+    let mut bytes = empty(size);
     let mut names = Vec::new();
     let mut refused = 0;
     while refused < 200 {
@@ -118,23 +133,27 @@ fn hashes() {
     );
 }
 
-/// Microseconds of a test by the library, the yardstick and the model.
+/// A run of a test over all blocks, each of which passes.
+fn testing<'a>(blocks: &'a [Full], test: fn(&[u8]) -> u32) -> Box<dyn FnMut() + 'a> {
+    Box::new(move || {
+        for b in blocks {
+            assert_eq!(test(black_box(&b.bytes)), 0);
+        }
+    })
+}
+
+fn library_test(b: &[u8]) -> u32 {
+    block::test(b).map_or_else(Refusal::number, |()| 0)
+}
+
+/// Nanoseconds of a test by the library, the yardstick and the model.
 fn tests(blocks: &[Full]) -> [f64; 3] {
-    let each = |test: fn(&[u8]) -> u32| {
-        let run = move || {
-            for b in blocks {
-                assert_eq!(test(black_box(&b.bytes)), 0);
-            }
-        };
-        Box::new(run) as Box<dyn FnMut()>
-    };
-    let library = |b: &[u8]| block::test(b).map_or_else(Refusal::number, |()| 0);
     medians(
         blocks.len(),
         [
-            each(library),
-            each(yardstick::test),
-            each(|b| model::block::test(V4, b)),
+            testing(blocks, library_test),
+            testing(blocks, yardstick::test),
+            testing(blocks, |b| model::block::test(V4, b)),
         ],
     )
 }
@@ -202,21 +221,37 @@ fn changes(blocks: &[Full]) -> [f64; 2] {
     )
 }
 
-fn row(kind: &Kind) {
-    let blocks: Vec<_> = (0..BLOCKS).map(|seed| full(kind, 1000 + seed)).collect();
-    let entries = blocks.iter().map(|b| b.names.len()).sum::<usize>() / blocks.len();
-    let micro = |t: f64| t / 1000.0;
+/// So many full blocks of a kind, and how many names each holds on average.
+fn filled(count: u64, size: usize, kind: &Names) -> (Vec<Full>, f64) {
+    let seeds = 1000..1000 + count;
+    let blocks: Vec<_> = seeds.map(|seed| full(size, kind, seed)).collect();
+    let names = blocks.iter().map(|b| b.names.len()).sum::<usize>();
+    let each = names as f64 / blocks.len() as f64;
+    (blocks, each)
+}
+
+/// Microseconds, in three digits or more.
+fn micro(nanoseconds: f64) -> String {
+    let t = nanoseconds / 1000.0;
+    match t {
+        ..10.0 => format!("{t:.2}"),
+        _ => format!("{t:.1}"),
+    }
+}
+
+fn row(size: usize, kind: &Names) {
+    let (blocks, entries) = filled(BLOCKS, size, kind);
     let [test, yard, model] = tests(&blocks);
     let [look, yard_look, model_look] = lookups(&blocks);
     let [change, model_change] = changes(&blocks);
-    let name = format!("{} bytes, {} names ({entries})", kind.size, kind.what);
+    let name = format!("{size} bytes, {} names ({entries:.0})", kind.what);
     let line = |call: &str, ours: f64, yard: Option<f64>, model: f64| {
         let (y, ratio) = match yard {
-            Some(y) => (format!("{:.1}", micro(y)), format!("{:.2}", ours / y)),
+            Some(y) => (micro(y), format!("{:.2}", ours / y)),
             None => ("-".into(), "-".into()),
         };
         println!(
-            "| {name} | {call} | {:.1} | {y} | {:.1} | {ratio} | {:.3} | {:.2} |",
+            "| {name} | {call} | {} | {y} | {} | {ratio} | {:.3} | {:.2} |",
             micro(ours),
             micro(model),
             ours / model,
@@ -228,22 +263,59 @@ fn row(kind: &Kind) {
     line("insert, removal (each)", change, None, model_change);
 }
 
+const SIZES: usize = 8;
+
+/// Entries of a full block, nanoseconds of a test, and for each entry: from the smallest block to the largest, which take turns. Each
+/// size's blocks have as many bytes in all: few small blocks would have all their branches learned. In its turn a size runs twice, and the
+/// second run counts: the first fetches its blocks back, after those of the others.
+fn costs(kind: &Names) -> [[f64; 3]; SIZES] {
+    let full: [_; SIZES] = std::array::from_fn(|k| {
+        let count = BLOCKS << (SIZES - 1 - k);
+        filled(count, 512 << k, kind)
+    });
+    let jobs: [_; 2 * SIZES] = std::array::from_fn(|i| testing(&full[i / 2].0, library_test));
+    let times = medians(1, jobs);
+    std::array::from_fn(|k| {
+        let (blocks, names) = &full[k];
+        // "." and ".." are entries too.
+        let entries = names + 2.0;
+        let test = times[2 * k + 1] / blocks.len() as f64;
+        [entries, test, test / entries]
+    })
+}
+
+/// What a test costs for each live entry, and how far that is from flat.
+fn per_entry() {
+    let kinds = [SHORT, TYPICAL];
+    let titles = kinds
+        .each_ref()
+        .map(|k| format!(" {} names: entries | test, ns | ns for each |", k.what));
+    println!("| full blocks |{}", titles.concat());
+    println!("|---|---|---|---|---|---|---|");
+    let columns = kinds.map(|kind| costs(&kind));
+    for k in 0..SIZES {
+        let cells = columns.map(|rows| {
+            let [entries, test, each] = rows[k];
+            format!(" {entries:.0} | {test:.0} | {each:.1} |")
+        });
+        println!("| {} bytes |{}", 512 << k, cells.concat());
+    }
+    let [short, typical] = columns.map(|rows| {
+        let each = rows.map(|[_, _, each]| each);
+        let most = each.into_iter().fold(f64::MIN, f64::max);
+        most / each.into_iter().fold(f64::MAX, f64::min)
+    });
+    println!("| dearest / cheapest | | | {short:.2} | | | {typical:.2} |\n");
+}
+
 fn main() {
     hashes();
-    println!("| full blocks (entries) | call | library, us | yardstick, us | model, us | library / yardstick | library / model | call / test |");
+    per_entry();
+    println!("| full blocks (names in each) | call | library, us | yardstick, us | model, us | library / yardstick | library / model | call / test |");
     println!("|---|---|---|---|---|---|---|---|");
-    for size in [4096, 16384] {
-        for (what, shortest, longest) in [
-            ("1 to 5 byte", 1, 5),
-            ("8 to 24 byte", 8, 24),
-            ("255 byte", 255, 255),
-        ] {
-            row(&Kind {
-                size,
-                what,
-                shortest,
-                longest,
-            });
+    for size in [512, 4096, 16_384, 65_536] {
+        for kind in [SHORT, TYPICAL, LONGEST] {
+            row(size, &kind);
         }
     }
 }

@@ -33,7 +33,7 @@ impl Options {
         literal: 100,
         oldest_version: 1,
         newest_version: 2,
-        largest_block: 16_384,
+        largest_block: 65_536,
         folds: false,
     };
 }

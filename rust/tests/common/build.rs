@@ -30,7 +30,8 @@ pub fn faults(rng: &mut Rng) -> Vec<Fault> {
     (0..count).map(|_| rng.pick(&all)).collect()
 }
 
-pub const BLOCK_SIZES: [usize; 6] = [512, 1024, 2048, 4096, 8192, 16_384];
+pub const BLOCK_SIZES: [usize; 8] = [512, 1024, 2048, 4096, 8192, 16_384, 32_768, 65_536];
+const LARGEST: usize = BLOCK_SIZES[BLOCK_SIZES.len() - 1];
 pub const INODE_SIZES: [usize; 4] = [256, 512, 1024, 2048];
 
 /// Random bytes, mostly of an inode's length, and mostly under the core of a right inode: whether they are.
@@ -139,7 +140,7 @@ pub fn block(rng: &mut Rng, len: usize, faults: &[Fault]) -> Vec<u8> {
 
 /// Entries and gaps, never two gaps in a row, until a random stop or the room's end.
 fn fill(rng: &mut Rng, parts: &mut Vec<Part>, left: &mut usize) {
-    let stop = rng.pick(&[4, 20, 1000, 1000]);
+    let stop = rng.pick(&[4, 20, 1000, 100_000]);
     let gaps = rng.pick(&[2, 4, 30]);
     let mut there: BTreeSet<Vec<u8>> = [b".".to_vec(), b"..".to_vec()].into();
     while !rng.one_in(stop) && *left > 0 {
@@ -427,7 +428,7 @@ fn shorts(rng: &mut Rng, fork: usize, parent: u64) -> Vec<Short> {
         let next = tag + room(name.len());
         there.insert(name.clone());
         entries.push(Short { tag, name, number });
-        if short_size(parent, &entries) > fork || short_need(&entries) > 16_384 {
+        if short_size(parent, &entries) > fork || short_need(&entries) > LARGEST {
             entries.pop();
             break;
         }

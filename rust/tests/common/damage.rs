@@ -167,7 +167,9 @@ pub fn resized(rng: &mut Rng, bytes: &[u8]) -> Vec<u8> {
         len / 2,
         len + 1,
         len * 2,
-        32_768,
+        65_536,
+        65_537,
+        131_072,
     ];
     let len = rng.pick(&lens);
     let mut copy = bytes.to_vec();

@@ -153,7 +153,7 @@ fn hurt<S: Structure>(lab: &mut Lab, case: &Case, fields: &[Fields], held: &[S::
 }
 
 /// Generated structures, right and nearly right.
-fn generated<S: Structure>(lab: &mut Lab) {
+pub fn generated<S: Structure>(lab: &mut Lab) {
     for _ in 0..rounds(S::GENERATED) {
         let faults = build::faults(&mut lab.rng);
         let case = S::generated(&mut lab.rng, &faults);

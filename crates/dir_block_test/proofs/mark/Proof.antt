@@ -1,4 +1,3 @@
-use native.Mathlib.Omega.{arith}
 use borrow.Author.Needs.{needs}
 use mathlib.Core.Path.{sym}
 use lib.Seq.{set-out}
@@ -7,12 +6,13 @@ use Rattle.dir_block_test.proofs.mark.Tie as tie
 
 returns-2 : tie.Need-returns-2
 returns-2 c =
-    sym (set-out _ _ _ (omega (arith, c .before .pre, c .if1 .left)))
+    sym (set-out _ _ _ (c .if1 .left))
 
 pub mark-spec : {M : Type 1} → statement M
 mark-spec =
     tie.close
     (tie.spec
+    (λ c. search needs)
     (λ c. search needs)
     (λ c. search needs)
     (λ c. search needs)

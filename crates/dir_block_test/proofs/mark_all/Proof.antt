@@ -24,13 +24,9 @@ cast-mark : tie.Need-cast-mark Inv-loop μ-loop
 cast-mark c =
     omega arith
 
-mark-requires : tie.Need-mark-requires Inv-loop μ-loop
-mark-requires c κs =
-    ap length (c .before .before .before .loop .inv .1) ∙ length-filled _ _ _ _ ∙ c .before .before .before .before .before .pre .2
-
 loop-again : tie.Need-loop-again Inv-loop μ-loop
 loop-again c =
-    (omega arith, filled-on _ _ _ _ _ _ _ _ _ (c .before .before .before .before .loop .inv .1) refl (c .before .before .slot-addr .ensures .0) refl (c .mark .ensures))
+    (omega arith, filled-on _ _ _ _ _ _ _ _ _ (c .before .before .before .before .before .before .loop .inv .1) refl (c .before .before .before .before .slot-addr .ensures .0) refl (c .before .before .mark .ensures))
 
 returns : tie.Need-returns Inv-loop μ-loop
 returns c =
@@ -46,7 +42,8 @@ mark-all-spec =
     (λ c κs. search needs)
     (λ c. search needs)
     cast-mark
-    mark-requires
+    (λ c κs. search needs)
     (λ c. search needs)
     loop-again
+    (λ c. ap length (c .before .loop .inv .1) ∙ length-filled _ _ _ _)
     returns)

@@ -1,92 +1,25 @@
-use Prim.Native.Nat.{ℕ}
 use native.Mathlib.Omega.{arith}
-use mathlib.Core.Path.{refl, _≡_}
-use borrow.Author.Needs.{needs}
-use borrow.Author.Tests.{not-true, not-false}
-use lib.ListN.{length, length-replicate, replicate}
-use Rattle.edition.specs.Edition.{record-starts}
-use Rattle.dir_block_test.proofs.LaterTests.{wholes, few, end-6, end-6′, end-7, end-8, end-8′, end-index, indexed-ok, room-2, both-there, low-end}
+use mathlib.Core.Path.{refl}
 use Rattle.dir_block_test.proofs.test_entries.Statement.{statement}
 use Rattle.dir_block_test.proofs.test_entries.Tie as tie
 
-len0 : length (replicate {A = ℕ} record-starts 0) ≡ record-starts
-len0 = length-replicate {A = ℕ} record-starts 0
+test-entries-with-requires : tie.Need-test-entries-with-requires
+test-entries-with-requires c κs =
+    let q = c .before .before .before .pre in
+    (q .0, (q .1 .0, q .1 .1, q .1 .2, c .before .if1 .taken))
 
-mark-all-requires : tie.Need-mark-all-requires
-mark-all-requires c κs =
-    let p = c .before .before .before .pre .1 .0 in (p .parts .slots-fit, omega (arith, p .parts .slots-fit, p .parts .top), len0)
-
-faults-requires : tie.Need-faults-requires
-faults-requires c κs =
-    let q = c .before .before .before .before .before .before .pre in
-    let p = q .1 in
-    (q .0, (few _ (q .0) _ _ _ (p .0) _ _ (replicate {A = ℕ} record-starts 0) len0 (p .1) (p .2) _ (c .before .before .before .before .counts-fit .ensures) _ (c .before .searched .ensures), low-end _ (q .0) _ _ _ (p .0), p .0 .parts .eights, p .0 .parts .least, wholes _ (q .0) _ _ _ (p .0)))
-
-returns : tie.Need-returns
-returns c =
-    let q = c .before .before .before .before .before .before .before .before .pre in
-    let p = q .1 in
-    end-6 _ (q .0) _ _ _ (p .0) _ _ (replicate {A = ℕ} record-starts 0) len0 (p .1) (p .2) _ (c .before .before .before .before .before .before .counts-fit .ensures) _ (c .before .before .before .searched .ensures) _ (c .before .before .before .before .mark-all .ensures) _ (c .before .faults .ensures) (omega (arith, c .if1 .taken))
-
-entry-at-requires : tie.Need-entry-at-requires
-entry-at-requires c κs =
-    let q = c .before .before .before .before .before .before .before .before .pre in λ h. room-2 _ (q .0) _ _ _ (q .1 .0) _ h (q .0 .header-eights)
-
-entry-at-requires-2 : tie.Need-entry-at-requires-2
-entry-at-requires-2 c κs =
-    let q = c .before .before .before .before .before .before .before .before .before .before .pre in λ h. room-2 _ (q .0) _ _ _ (q .1 .0) _ h (omega (arith, q .0 .header-eights))
-
-returns-2 : tie.Need-returns-2
-returns-2 c =
-    let q = c .before .before .before .before .before .before .before .before .before .before .before .before .pre in
-    let p = q .1 in
-    end-6′ _ (q .0) _ _ _ (p .0) _ _ (replicate {A = ℕ} record-starts 0) len0 (p .1) (p .2) _ (c .before .before .before .before .before .before .before .before .before .before .counts-fit .ensures) _ (c .before .before .before .before .before .before .before .searched .ensures) _ (c .before .before .before .before .before .before .before .before .mark-all .ensures) _ (c .before .before .before .before .before .faults .ensures) (c .before .before .before .before .if1 .left) _ (both-there refl (c .before .before .before .entry-at .ensures) (c .before .entry-at2 .ensures)) (not-true _ (c .if2 .taken))
-
-returns-3 : tie.Need-returns-3
-returns-3 c =
-    let q = c .before .before .before .before .before .before .before .before .before .before .before .before .before .pre in
-    let p = q .1 in
-    end-7 _ (q .0) _ _ _ (p .0) _ _ (replicate {A = ℕ} record-starts 0) len0 (p .1) (p .2) _ (c .before .before .before .before .before .before .before .before .before .before .before .counts-fit .ensures) _ (c .before .before .before .before .before .before .before .before .searched .ensures) _ (c .before .before .before .before .before .before .before .before .before .mark-all .ensures) _ (c .before .before .before .before .before .before .faults .ensures) (c .before .before .before .before .before .if1 .left) _ (both-there refl (c .before .before .before .before .entry-at .ensures) (c .before .before .entry-at2 .ensures)) (not-false _ (c .before .if2 .left)) (omega (arith, c .if3 .taken))
-
-returns-4 : tie.Need-returns-4
-returns-4 c =
-    let q = c .before .before .before .before .before .before .before .before .before .before .before .before .before .before .pre in
-    let p = q .1 in
-    end-8 _ (q .0) _ _ _ (p .0) _ _ (replicate {A = ℕ} record-starts 0) len0 (p .1) (p .2) _ (c .before .before .before .before .before .before .before .before .before .before .before .before .counts-fit .ensures) _ (c .before .before .before .before .before .before .before .before .before .searched .ensures) _ (c .before .before .before .before .before .before .before .before .before .before .mark-all .ensures) _ (c .before .before .before .before .before .before .before .faults .ensures) (c .before .before .before .before .before .before .if1 .left) _ (both-there refl (c .before .before .before .before .before .entry-at .ensures) (c .before .before .before .entry-at2 .ensures)) (not-false _ (c .before .before .if2 .left)) (c .before .if3 .left) (not-true _ (c .if4 .taken))
-
-returns-5 : tie.Need-returns-5
-returns-5 c =
-    let q = c .before .before .before .before .before .before .before .before .before .before .before .before .before .before .before .pre in
-    let p = q .1 in
-    end-8′ _ (q .0) _ _ _ (p .0) _ _ (replicate {A = ℕ} record-starts 0) len0 (p .1) (p .2) _ (c .before .before .before .before .before .before .before .before .before .before .before .before .before .counts-fit .ensures) _ (c .before .before .before .before .before .before .before .before .before .before .searched .ensures) _ (c .before .before .before .before .before .before .before .before .before .before .before .mark-all .ensures) _ (c .before .before .before .before .before .before .before .before .faults .ensures) (c .before .before .before .before .before .before .before .if1 .left) _ (both-there refl (c .before .before .before .before .before .before .entry-at .ensures) (c .before .before .before .before .entry-at2 .ensures)) (not-false _ (c .before .before .before .if2 .left)) (c .before .before .if3 .left) (not-false _ (c .before .if4 .left)) (omega (arith, c .if5 .taken))
-
-test-best-requires : tie.Need-test-best-requires
-test-best-requires c κs =
-    let q = c .before .before .before .before .before .before .before .before .before .before .before .before .before .before .before .pre in
-    let p = q .1 in
-    (q .0, (p .0, indexed-ok _ (q .0) _ _ _ (p .0) _ _ (replicate {A = ℕ} record-starts 0) len0 (p .1) (p .2) _ (c .before .before .before .before .before .before .before .before .before .before .before .before .before .counts-fit .ensures) _ (c .before .before .before .before .before .before .before .before .before .before .searched .ensures) _ (c .before .before .before .before .before .before .before .before .before .before .before .mark-all .ensures) _ (c .before .before .before .before .before .before .before .before .faults .ensures) (c .before .before .before .before .before .before .before .if1 .left) _ (both-there refl (c .before .before .before .before .before .before .entry-at .ensures) (c .before .before .before .before .entry-at2 .ensures)) (not-false _ (c .before .before .before .if2 .left)) (c .before .before .if3 .left) (not-false _ (c .before .if4 .left)) (c .if5 .left)))
-
-returns-6 : tie.Need-returns-6
-returns-6 c =
-    let q = c .before .before .before .before .before .before .before .before .before .before .before .before .before .before .before .before .pre in
-    let p = q .1 in
-    end-index _ (q .0) _ _ _ (p .0) _ _ (replicate {A = ℕ} record-starts 0) len0 (p .1) (p .2) _ (c .before .before .before .before .before .before .before .before .before .before .before .before .before .before .counts-fit .ensures) _ (c .before .before .before .before .before .before .before .before .before .before .before .searched .ensures) _ (c .before .before .before .before .before .before .before .before .before .before .before .before .mark-all .ensures) _ (c .before .before .before .before .before .before .before .before .before .faults .ensures) (c .before .before .before .before .before .before .before .before .if1 .left) _ (both-there refl (c .before .before .before .before .before .before .before .entry-at .ensures) (c .before .before .before .before .before .entry-at2 .ensures)) (not-false _ (c .before .before .before .before .if2 .left)) (c .before .before .before .if3 .left) (not-false _ (c .before .before .if4 .left)) (c .before .if5 .left) _ (c .test-best .ensures)
+test-entries-with-requires-2 : tie.Need-test-entries-with-requires-2
+test-entries-with-requires-2 c κs =
+    let q = c .before .before .before .pre in
+    (q .0, (q .1 .0, q .1 .1, q .1 .2, omega (arith, q .1 .0 .parts .slots-fit, q .1 .0 .parts .top)))
 
 pub test-entries-spec : {M : Type 1} → statement M
 test-entries-spec =
     tie.close
     (tie.spec
-    (λ c κs. (c .before .pre .1 .0 .parts .slots-fit, c .before .pre .1 .1))
-    mark-all-requires
-    (λ c κs. search needs)
-    faults-requires
-    returns
-    entry-at-requires
-    (λ c. search needs)
-    entry-at-requires-2
-    returns-2
-    returns-3
-    returns-4
-    returns-5
-    test-best-requires
-    returns-6)
+    (λ c. refl)
+    test-entries-with-requires
+    (λ c. c .before .test-entries-with .ensures)
+    (λ c. refl)
+    test-entries-with-requires-2
+    (λ c. c .before .test-entries-with2 .ensures))

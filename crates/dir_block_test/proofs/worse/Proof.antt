@@ -14,7 +14,7 @@ returns-2 c =
 
 entry-fault-requires : tie.Need-entry-fault-requires
 entry-fault-requires c κs =
-    (c .before .before .before .pre .0, (c .before .before .before .pre .1 .0, c .before .before .before .pre .1 .1, c .before .before .before .pre .1 .3 (sym (c .before .is-gap .ensures) ∙ c .if1 .left)))
+    (c .before .before .before .before .pre .0, (c .before .before .before .before .pre .1 .0, c .before .before .before .before .pre .1 .1, c .before .before .before .before .pre .1 .3 (sym (c .before .is-gap .ensures) ∙ c .if1 .left)))
 
 returns-3 : tie.Need-returns-3
 returns-3 c =
