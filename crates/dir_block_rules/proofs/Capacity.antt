@@ -11,7 +11,7 @@ use Rattle.be.specs.Bytes.{bytes}
 use Rattle.edition.specs.declared.Edition.{Edition}
 use Rattle.edition.specs.Edition.{v4, entry-size, Sane}
 use Rattle.edition.proofs.Sizes.{v4-sane}
-use Rattle.dir_block_rules.specs.Record.{Rec, entries, name}
+use Rattle.dir_block_rules.specs.Record.{Rec, size, entries, gaps, name}
 use Rattle.dir_block_rules.specs.Block.{records, slots, sum-of-parts, is-live}
 use Rattle.dir_block_rules.specs.Verdict.{Accepted}
 use Rattle.dir_block_rules.specs.Claims.{Capacity-right}
@@ -23,12 +23,13 @@ size-least : (e : Edition) (n : ℕ) → 16 ≤ entry-size e n
 unfolding entry-size
 size-least e n = omega arith
 
-pub total-least : (e : Edition) (es : List Rec) → 16 * length es ≤ total (λ r. entry-size e (length (name r))) es
+total-least : (e : Edition) (es : List Rec) → 16 * length es ≤ total (λ r. entry-size e (length (name r))) es
 total-least e [] = omega arith
 total-least e (r ∷ es) = omega (arith, size-least e (length (name r)), total-least e es)
 
--- each live entry takes at least 16 bytes and its slot 8
-pub live-bound : (e : Edition) → Sane e → (b : List ℕ) → bytes b ≡ true → Accepted e b → e .header + 24 * length (entries (records e b)) + 8 ≤ length b
+-- each live entry takes at least 16 bytes and its slot 8, beside the gaps
+pub live-bound : (e : Edition) → Sane e → (b : List ℕ) → bytes b ≡ true → Accepted e b
+    → e .header + 24 * length (entries (records e b)) + total size (gaps (records e b)) + 8 ≤ length b
 unfolding sum-of-parts
 live-bound e sane b h a =
     omega (arith, adds-up e sane b h a, total-least e (entries (records e b)), good-of e sane b h a .index .lives, tally-length is-live (slots b))

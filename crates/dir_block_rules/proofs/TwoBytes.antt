@@ -15,13 +15,11 @@ use Rattle.edition.specs.declared.Edition.{Edition}
 use Rattle.edition.specs.Edition.{v4, largest-block, entry-size, Sane}
 use Rattle.edition.proofs.Sizes.{v4-sane, block-size-bounds}
 use Rattle.dir_block_rules.specs.Record.{Rec, size, entries, gaps}
-use Rattle.dir_block_rules.specs.Block.{records, slots, data-end, sum-of-parts, is-live}
+use Rattle.dir_block_rules.specs.Block.{records, data-end}
 use Rattle.dir_block_rules.specs.Verdict.{Accepted, size-ok, names-ok, name-ok, entry-stands}
 use Rattle.dir_block_rules.specs.Claims.{lone-gap, Two-bytes}
-use Rattle.dir_block_rules.proofs.GoodParts.{tally-length}
 use Rattle.dir_block_rules.proofs.AcceptedParts.{good-of}
-use Rattle.dir_block_rules.proofs.PartsAddUp.{adds-up}
-use Rattle.dir_block_rules.proofs.Capacity.{total-least}
+use Rattle.dir_block_rules.proofs.Capacity.{live-bound}
 
 -- elements at two places are two elements
 two-places : (o p : ℕ) (es : List Rec) → some-of (λ r. eqb (r .off) o) es ≡ true → some-of (λ r. eqb (r .off) p) es ≡ true → (o ≡ p → ⊥) → 2 ≤ length es
@@ -50,10 +48,10 @@ module _ (e : Edition) (sane : Sane e) where
       two-places (e .header) (e .header + 16) (entries (records e b)) (and-right nm h0 (and-left (nm && h0) h1 ns)) (and-right (nm && h0) h1 ns) (λ q. omega arith)
 
   longest-gap : (b : List ℕ) → bytes b ≡ true → Accepted e b → every (λ g. leb (size g) (lone-gap e (length b))) (gaps (records e b)) ≡ true
-  unfolding sum-of-parts entry-size
+  unfolding entry-size
   longest-gap b h a =
       within-total (lone-gap e (length b)) (gaps (records e b))
-      (omega (arith, adds-up e sane b h a, two-entries b h a, total-least e (entries (records e b)), good-of e sane b h a .index .lives, tally-length is-live (slots b), sane .ftype-most))
+      (omega (arith, live-bound e sane b h a, two-entries b h a, sane .ftype-most))
 
   pub two-bytes : Two-bytes e
   unfolding size-ok data-end entry-size
