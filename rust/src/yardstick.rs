@@ -28,6 +28,21 @@ pub fn hash(name: &[u8]) -> u32 {
         .fold(0, |h: u32, &byte| h.rotate_left(7) ^ u32::from(byte))
 }
 
+/// The same hash four bytes a turn, as in the kernel: the bytes that make no four come last.
+pub fn hash_by_fours(name: &[u8]) -> u32 {
+    let (fours, rest) = name.as_chunks::<4>();
+    let h = fours.iter().fold(0u32, |h, four| {
+        let [a, b, c, d] = four.map(u32::from);
+        h.rotate_left(28) ^ a << 21 ^ b << 14 ^ c << 7 ^ d
+    });
+    match *rest {
+        [a, b, c] => h.rotate_left(21) ^ u32::from(a) << 14 ^ u32::from(b) << 7 ^ u32::from(c),
+        [a, b] => h.rotate_left(14) ^ u32::from(a) << 7 ^ u32::from(b),
+        [a] => h.rotate_left(7) ^ u32::from(a),
+        _ => h,
+    }
+}
+
 fn entry_size(namelen: usize) -> usize {
     (11 + V4.ftype + namelen).next_multiple_of(8)
 }

@@ -43,6 +43,31 @@ fn large<const LEN: usize>(seed: u64) {
     all_reached(&lab);
 }
 
+/// Each byte of a name counts, however long the name is: the block is accepted with the name's hash, 0 and "/" in a byte's place are
+/// refused with 6, and another byte has another hash, 8.
+#[test]
+fn each_byte_of_a_name() {
+    let mut lab = Lab::new(0x4b17);
+    let fresh = build::fresh_block(&mut lab.rng, 512);
+    for len in 1..=255 {
+        let name = names::of_len(&mut lab.rng, len);
+        let block = lab.block_insert(&fresh, &name, 5).bytes;
+        assert_eq!(block::test(V4, &block), 0);
+        lab.block_test(&block);
+        // The entry stands at 48, behind ".."; its name follows 8 bytes of inode number and namelen.
+        for at in 57..57 + len {
+            let other = if block[at] == b'a' { b'b' } else { b'a' };
+            for (byte, refusal) in [(0, 6), (b'/', 6), (other, 8)] {
+                let mut copy = block.clone();
+                copy[at] = byte;
+                assert_eq!(block::test(V4, &copy), refusal);
+                lab.block_test(&copy);
+            }
+        }
+    }
+    println!("{} calls", lab.cover.calls());
+}
+
 fn all_reached(lab: &Lab) {
     lab.cover.require("block_test", &TESTS, &[], &[]);
     let compared = [

@@ -1,36 +1,28 @@
--- The hash byte by byte: the rotation in the code's operations, its range, and the turns of the loop.
+-- The hash: its range, the turns of the loops, and four bytes in one turn.
 -- Assumes nothing.
-use mathlib.Core.Path.{_≡_, ap}
+use mathlib.Core.Path.{_≡_, refl, sym, ap, _∙_}
 use mathlib.Core.Bool.{true}
-use mathlib.Core.List.{List, [], _∷_}
-use Prim.Native.Nat.{ℕ, _+_, _*_, _/_, _%_, _^_, _<_, _≤_}
+use mathlib.Core.List.{List, [], _∷_, _++_}
+use Prim.Native.Nat.{ℕ, _*_, _%_, _^_, _<_, _≤_}
 use native.Mathlib.Omega.{arith}
-use native.Mathlib.Numerals.{add-one}
-use lib.Dec.{ltb}
-use lib.Bits.{bitOr, bitXor, or-shifted, xor-lt}
-use lib.ListN.{length, getD, drop, drop-of-length-le}
-use lib.Seq.{drop-cons}
+use lib.Dec.{ltb, lit≤}
+use lib.Bits.{bitXor, xor-lt}
+use lib.ListN.{length, drop, drop-of-length-le}
 use borrow.Author.Tests.{ltb-true}
 use Rattle.be.specs.Bytes.{bytes}
 use Rattle.be.proofs.Bools.{every-head, every-tail}
 use Rattle.edition.specs.declared.Edition.{Edition}
 use Rattle.name.specs.Name.{rol, hash-byte, hash-from, hash-of}
+use Rattle.name.proofs.Rotation.{rol-xor, rol-rol, rol-lt, rol-small}
 
--- the rotation as the two shifts and the or of the code
-rol-or : (h : ℕ) → h < 2 ^ 32 → bitOr (h * 2 ^ 7 % 2 ^ 32) (h / 2 ^ 25) ≡ rol 7 h
-unfolding rol
-rol-or h p =
-    let e : h * 2 ^ 7 % 2 ^ 32 ≡ (h % 2 ^ 25) * 2 ^ 7 = omega arith in
-    rw e (or-shifted (h % 2 ^ 25) 7 (h / 2 ^ 25) (omega arith))
-
--- one byte more, in the code's operations
-pub byte-is : (h x : ℕ) → h < 2 ^ 32 → bitXor (bitOr (h * 2 ^ 7 % 2 ^ 32) (h / 2 ^ 25)) x ≡ hash-byte h x
-unfolding hash-byte
-byte-is h x p = ap (λ (y : ℕ). bitXor y x) (rol-or h p)
+pub hash-append : (xs ys : List ℕ) (h : ℕ) → hash-from h (xs ++ ys) ≡ hash-from (hash-from h xs) ys
+unfolding hash-from
+hash-append [] ys h = refl
+hash-append (x ∷ xs) ys h = hash-append xs ys (hash-byte h x)
 
 step-lt : (h x : ℕ) → h < 2 ^ 32 → x < 256 → hash-byte h x < 2 ^ 32
-unfolding hash-byte rol
-step-lt h x p q = xor-lt 32 (rol 7 h) x (omega arith) (omega arith)
+unfolding hash-byte
+step-lt h x p q = xor-lt 32 (rol 7 h) x (rol-lt 7 h (lit≤ tt) p) (omega arith)
 
 hash-from-lt : (h : ℕ) (n : List ℕ) → h < 2 ^ 32 → bytes n ≡ true → hash-from h n < 2 ^ 32
 unfolding hash-from
@@ -43,13 +35,57 @@ pub hash-lt : (e : Edition) (n : List ℕ) → bytes n ≡ true → hash-of e n 
 unfolding hash-of
 hash-lt e n b = hash-from-lt 0 n (omega arith) b
 
--- one turn of the loop, and its end
-module _ (l : List ℕ) (i h : ℕ) where
-  pub hash-turn : (r : ℕ) → i < length l → r ≡ hash-byte h (getD l i 0) → hash-from h (drop i l) ≡ hash-from 0 l
-      → hash-from r (drop (i + 1) l) ≡ hash-from 0 l
-  unfolding hash-from
-  hash-turn r p q v = rw (add-one, q) (rw (drop-cons l i 0) at v)
+-- a turn of a loop over the run xs, and the end
+module _ (l : List ℕ) (i h v : ℕ) where
+  pub hash-turn : (xs : List ℕ) (j r : ℕ) → drop i l ≡ xs ++ drop j l → r ≡ hash-from h xs
+      → hash-from h (drop i l) ≡ v → hash-from r (drop j l) ≡ v
+  hash-turn xs j r e q p = rw q (sym (hash-append xs (drop j l) h) ∙ (rw e at p))
 
-  pub hash-end : (e : Edition) → length l ≤ i → hash-from h (drop i l) ≡ hash-from 0 l → h ≡ hash-of e l
-  unfolding hash-from hash-of
-  hash-end e p v = rw (drop-of-length-le l p) at v
+  pub hash-end : length l ≤ i → hash-from h (drop i l) ≡ v → h ≡ v
+  unfolding hash-from
+  hash-end q p = rw (drop-of-length-le l q) at p
+
+-- ---- four bytes in one turn
+
+seven-xor : (x y : ℕ) → x < 2 ^ 32 → y < 2 ^ 32 → rol 7 (bitXor x y) ≡ bitXor (rol 7 x) (rol 7 y)
+seven-xor x y p q = rol-xor 7 x y (lit≤ tt) p q
+
+-- the hash so far is rotated by 7 for each byte, and each byte by 7 for each byte behind it
+module _ (h a b c d : ℕ) (p : h < 2 ^ 32) (pa : a < 256) (pb : b < 256) (pc : c < 256) where
+  two : hash-from h (a ∷ b ∷ []) ≡ bitXor (bitXor (rol 14 h) (rol 7 a)) b
+  unfolding hash-from hash-byte
+  two = rw (seven-xor (rol 7 h) a (rol-lt 7 h (lit≤ tt) p) (omega arith), rol-rol 7 7 h (lit≤ tt) p)
+
+  three : hash-from h (a ∷ b ∷ c ∷ []) ≡ bitXor (bitXor (bitXor (rol 21 h) (rol 14 a)) (rol 7 b)) c
+  unfolding hash-from hash-byte
+  three =
+      let l₁ : rol 14 h < 2 ^ 32 = rol-lt 14 h (lit≤ tt) p in
+      let l₂ : rol 7 a < 2 ^ 32 = rol-lt 7 a (lit≤ tt) (omega arith) in
+      ap (λ (x : ℕ). bitXor (rol 7 x) c) two
+      ∙ rw (
+        seven-xor (bitXor (rol 14 h) (rol 7 a)) b (xor-lt 32 _ _ l₁ l₂) (omega arith),
+        seven-xor (rol 14 h) (rol 7 a) l₁ l₂,
+        rol-rol 7 14 h (lit≤ tt) p,
+        rol-rol 7 7 a (lit≤ tt) (omega arith),
+      )
+
+  pub four-is : bitXor (bitXor (bitXor (bitXor (rol 28 h) (a * 2 ^ 21 % 2 ^ 32)) (b * 2 ^ 14 % 2 ^ 32)) (c * 2 ^ 7 % 2 ^ 32)) d
+      ≡ hash-from h (a ∷ b ∷ c ∷ d ∷ [])
+  unfolding hash-from hash-byte
+  four-is =
+      let l₁ : rol 21 h < 2 ^ 32 = rol-lt 21 h (lit≤ tt) p in
+      let l₂ : rol 14 a < 2 ^ 32 = rol-lt 14 a (lit≤ tt) (omega arith) in
+      let l₃ : rol 7 b < 2 ^ 32 = rol-lt 7 b (lit≤ tt) (omega arith) in
+      sym
+      (ap (λ (x : ℕ). bitXor (rol 7 x) d) three
+      ∙ rw (
+        seven-xor (bitXor (bitXor (rol 21 h) (rol 14 a)) (rol 7 b)) c (xor-lt 32 _ _ (xor-lt 32 _ _ l₁ l₂) l₃) (omega arith),
+        seven-xor (bitXor (rol 21 h) (rol 14 a)) (rol 7 b) (xor-lt 32 _ _ l₁ l₂) l₃,
+        seven-xor (rol 21 h) (rol 14 a) l₁ l₂,
+        rol-rol 7 21 h (lit≤ tt) p,
+        rol-rol 7 14 a (lit≤ tt) (omega arith),
+        rol-rol 7 7 b (lit≤ tt) (omega arith),
+        rol-small 21 a (omega arith),
+        rol-small 14 b (omega arith),
+        rol-small 7 c (omega arith),
+      ))

@@ -3,16 +3,34 @@
 use Prim.Native.Nat.{ℕ, suc, _+_, _≤_, _<_}
 use native.Mathlib.Numerals.{add-one}
 use native.Mathlib.Omega.{arith}
-use mathlib.Core.Bool.{Bool, true, false, _&&_}
+use mathlib.Core.Bool.{Bool, true, false, _&&_, and-assoc}
 use mathlib.Core.Path.{_≡_, refl, sym, _∙_, ap}
-use mathlib.Core.List.{List, [], _∷_}
+use mathlib.Core.List.{List, [], _∷_, _++_}
 use lib.Dec.{eqb}
-use lib.ListN.{length, drop, getD}
+use lib.ListN.{length, drop, getD, drop-of-length-le}
 use lib.Seq.{drop-cons, drop-length}
 use borrow.Author.Tests.{eq-eqb, ne-eqb}
 use Rattle.be.specs.Lists.{every, same}
-use Rattle.be.proofs.Bools.{by-cases, and-true}
+use Rattle.be.proofs.Bools.{by-cases, and-true, every-append}
 use Rattle.name.specs.Name.{clear-of}
+
+-- ---- the bytes of one turn, and those behind them
+
+pub one-at : (s : List ℕ) (i : ℕ) → i < length s → drop i s ≡ (getD s i 0 ∷ []) ++ drop (i + 1) s
+one-at s i h = rw add-one (drop-cons s i 0 h)
+
+pub four-at : (s : List ℕ) (i : ℕ) → i + 4 ≤ length s
+    → drop i s ≡ (getD s i 0 ∷ getD s (i + 1) 0 ∷ getD s (i + 2) 0 ∷ getD s (i + 3) 0 ∷ []) ++ drop (i + 4) s
+four-at s i h =
+    rw (
+      next i (i + 1) refl (omega arith),
+      next (i + 1) (i + 2) (omega arith) (omega arith),
+      next (i + 2) (i + 3) (omega arith) (omega arith),
+      next (i + 3) (i + 4) (omega arith) (omega arith),
+    )
+  where
+    next : (j k : ℕ) → j + 1 ≡ k → j < length s → drop j s ≡ getD s j 0 ∷ drop k s
+    next j k e p = rw (← e) (one-at s j p)
 
 -- ---- a test of every byte
 
@@ -22,8 +40,8 @@ every-on p s i h q = rw (add-one, drop-cons s i 0 h, q) refl
 pub every-stop : (p : ℕ → Bool) (s : List ℕ) (i : ℕ) → i < length s → p (getD s i 0) ≡ false → every p (drop i s) ≡ false
 every-stop p s i h q = rw (drop-cons s i 0 h, q) refl
 
-pub every-end : (p : ℕ → Bool) (s : List ℕ) (i : ℕ) → i ≡ length s → every p (drop i s) ≡ true
-every-end p s i h = rw (h, drop-length s) refl
+pub every-end : (p : ℕ → Bool) (s : List ℕ) (i : ℕ) → length s ≤ i → every p (drop i s) ≡ true
+every-end p s i h = rw (drop-of-length-le s h) refl
 
 -- the bytes before i are clear of 0 and t
 pub record Clear (t : ℕ) (s : List ℕ) (i : ℕ) : Type 0 where
@@ -42,26 +60,20 @@ clear-other t s i v h a =
     sym (v .rest ∙ every-stop (clear-of t) s i h (by-cases (eqb (getD s i 0) 0) (λ q. rw q refl) (λ q. rw (q, eq-eqb (getD s i 0) t a) refl)))
 
 pub clear-done : (t : ℕ) (s : List ℕ) (i : ℕ) → Clear t s i → length s ≤ i → true ≡ every (clear-of t) s
-clear-done t s i v h = let q : i ≡ length s = omega arith in sym (v .rest ∙ every-end (clear-of t) s i q)
+clear-done t s i v h = sym (v .rest ∙ every-end (clear-of t) s i h)
 
--- the test of the bytes before i, and of those from i on
-pub and-on : (p : ℕ → Bool) (s : List ℕ) (i : ℕ) (a d : Bool) → i < length s → a ≡ (d && p (getD s i 0))
-    → every p s ≡ (d && every p (drop i s)) → every p s ≡ (a && every p (drop (i + 1) s))
-and-on p s i a d h q v =
-    v ∙ by-cases (p (getD s i 0))
-    (λ t. rw (q, t, every-on p s i h t) (and-on-true d (every p (drop (i + 1) s))))
-    (λ t. rw (q, t, every-stop p s i h t) (and-on-false d (every p (drop (i + 1) s))))
-  where
-    and-on-true : (d r : Bool) → (d && r) ≡ (d && true && r)
-    and-on-true true r = refl
-    and-on-true false r = refl
+-- v is the test of all bytes, d that of those before i: a turn over the run xs, and the end
+module _ (p : ℕ → Bool) (s : List ℕ) (i : ℕ) (d v : Bool) where
+  pub and-turn : (xs : List ℕ) (j : ℕ) (a : Bool) → drop i s ≡ xs ++ drop j s → a ≡ (d && every p xs)
+      → v ≡ (d && every p (drop i s)) → v ≡ (a && every p (drop j s))
+  and-turn xs j a e q h = h ∙ rw (e, every-append p xs (drop j s), q) (sym (and-assoc d (every p xs) (every p (drop j s))))
 
-    and-on-false : (d r : Bool) → (d && false) ≡ (d && false && r)
-    and-on-false true r = refl
-    and-on-false false r = refl
+  pub and-end : length s ≤ i → v ≡ (d && every p (drop i s)) → d ≡ v
+  and-end l h = sym (h ∙ rw (every-end p s i l) (and-true d))
 
-pub and-end : (p : ℕ → Bool) (s : List ℕ) (i : ℕ) (d : Bool) → i ≡ length s → every p s ≡ (d && every p (drop i s)) → d ≡ every p s
-and-end p s i d h v = sym (v ∙ rw (every-end p s i h) (and-true d))
+-- one test after another, and all of them as the test of a run
+pub four-tests : (d x y z w : Bool) → (d && x && y && z && w) ≡ (d && (x && (y && (z && (w && true)))))
+four-tests d x y z w = simp (and-assoc, and-true)
 
 -- ---- two runs of bytes, byte by byte
 

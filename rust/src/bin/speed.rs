@@ -31,13 +31,18 @@ impl Random {
     }
 }
 
-/// How long the names of a full block are.
+/// How long names are.
 struct Names {
     what: &'static str,
     shortest: u64,
     longest: u64,
 }
 
+const TINY: Names = Names {
+    what: "1 to 3 byte",
+    shortest: 1,
+    longest: 3,
+};
 const SHORT: Names = Names {
     what: "1 to 5 byte",
     shortest: 1,
@@ -120,17 +125,40 @@ fn hashing<'a>(names: &'a [Vec<u8>], hash: impl Fn(&[u8]) -> u32 + 'a) -> Box<dy
     })
 }
 
+/// The hash alone: the library's, and in Rust byte by byte and four bytes a turn.
 fn hashes() {
-    let mut random = Random(7);
-    let names: Vec<_> = (0..1000).map(|_| random.name(255, 255)).collect();
-    let jobs = [hashing(&names, hash), hashing(&names, yardstick::hash)];
-    let [ours, rust] = medians(names.len(), jobs);
-    println!("| hash of 255 bytes | library, ns | Rust loop, ns | ratio |");
-    println!("|---|---|---|---|");
-    println!(
-        "| 1,000 names | {ours:.1} | {rust:.1} | {:.2} |\n",
-        ours / rust
-    );
+    println!("| hash of names | library, ns | byte by byte in Rust, ns | four a turn in Rust, ns | library / byte by byte | library / four a turn |");
+    println!("|---|---|---|---|---|---|");
+    for kind in [TINY, SHORT, TYPICAL, LONGEST] {
+        let mut random = Random(7);
+        // Of mixed lengths so many that the lengths are not learned; few enough that the names stay at hand.
+        let count = match kind.shortest == kind.longest {
+            true => 1_000,
+            false => 10_000,
+        };
+        let names: Vec<_> = (0..count)
+            .map(|_| random.name(kind.shortest, kind.longest))
+            .collect();
+        for name in &names {
+            assert_eq!(hash(name), yardstick::hash(name));
+            assert_eq!(hash(name), yardstick::hash_by_fours(name));
+        }
+        let [ours, bytes, fours] = medians(
+            names.len(),
+            [
+                hashing(&names, hash),
+                hashing(&names, yardstick::hash),
+                hashing(&names, yardstick::hash_by_fours),
+            ],
+        );
+        println!(
+            "| {} | {ours:.1} | {bytes:.1} | {fours:.1} | {:.2} | {:.2} |",
+            kind.what,
+            ours / bytes,
+            ours / fours
+        );
+    }
+    println!();
 }
 
 /// A run of a test over all blocks, each of which passes.

@@ -1,32 +1,45 @@
-use Prim.Native.Nat.{_≤_, _-_}
+use Prim.Native.Nat.{_≤_, _+_, _-_}
 use native.Mathlib.Omega.{arith}
 use mathlib.Core.Bool.{Bool, _&&_}
-use mathlib.Core.Path.{_≡_, refl, _∙_, ap}
+use mathlib.Core.Path.{_≡_, refl, sym, _∙_, ap}
+use mathlib.Core.List.{[], _∷_}
 use denote.Ref.{now}
 use borrow.Author.Needs.{needs}
 use lib.Dec.{leb}
-use lib.ListN.{length, drop}
+use lib.ListN.{length, drop, getD}
 use Rattle.be.specs.Lists.{every}
-use Rattle.name.specs.Name.{legal-byte, legal-name, hash-from}
-use Rattle.name.proofs.Scans.{and-on, and-end}
-use Rattle.name.proofs.Hashing.{hash-turn, hash-end}
+use Rattle.name.specs.Name.{legal-byte, legal-name, hash-from, hash-of}
+use Rattle.name.proofs.Scans.{four-at, and-turn}
+use Rattle.name.proofs.Hashing.{hash-turn}
 use Rattle.name.proofs.check.Statement.{statement}
 use Rattle.name.proofs.check.Tie as tie
 
 abbrev Inv-loop : tie.InvT-loop
-Inv-loop s n h₀ clear₀ i₀ h clear i =
-    (i ≤ length s) × ((every legal-byte s ≡ (clear && every legal-byte (drop i s))) × (hash-from h (drop i s) ≡ hash-from 0 s))
+Inv-loop s n hash₀ clear₀ i₀ hash clear i =
+    (i ≤ length s) × ((every legal-byte s ≡ (clear && every legal-byte (drop i s))) × (hash-from hash (drop i s) ≡ hash-from 0 s))
 
 abbrev μ-loop : tie.MeasureT-loop
-μ-loop s n h₀ clear₀ i₀ h clear i = length s - i
+μ-loop s n hash₀ clear₀ i₀ hash clear i = length s - i
+
+loop-again : tie.Need-loop-again Inv-loop μ-loop
+loop-again c =
+    let t = c .before .before .before .before .before .before in
+    let l = t .before .loop in
+    let s = now (t .before .before .before .args .s) in
+    let i = l .i in
+    let xs = getD s i 0 ∷ getD s (i + 1) 0 ∷ getD s (i + 2) 0 ∷ getD s (i + 3) 0 ∷ [] in
+    let e = four-at s i (omega arith) in
+    (omega arith, (and-turn legal-byte s i (l .clear) _ xs (i + 4) _ e (c .before .four-clear .ensures) (l .inv .1 .0), hash-turn s i (l .hash) _ xs (i + 4) _ e (c .hash-four .ensures) (l .inv .1 .1)))
 
 returns : tie.Need-returns Inv-loop μ-loop
-unfolding legal-name
+unfolding legal-name hash-of
 returns c =
-    let s = now (c .before .before .before .before .args .s) in
-    let l = c .before .before .loop in
-    let d : l .clear ≡ every legal-byte s = and-end legal-byte s (l .i) (l .clear) (omega arith) (l .inv .1 .0) in
-    (ap (λ (x : Bool). leb 1 (length s) && leb (length s) 255 && x) d, (c .wide .ensures .0 ∙ hash-end s (l .i) (l .h) (c .before .before .before .before .args .e) (c .before .loop-test .left) (l .inv .1 .1), c .wide .ensures .1))
+    let t = c .before .before .before .before in
+    let s = now (t .before .before .args .s) in
+    let r = c .before .before .check-rest .ensures in (
+      ap (λ (x : Bool). leb 1 (length s) && leb (length s) 255 && x) (r .0 ∙ sym (t .loop .inv .1 .0)),
+      (c .wide .ensures .0 ∙ r .1 ∙ t .loop .inv .1 .1, c .wide .ensures .1),
+    )
 
 pub check-spec : {M : Type 1} → statement M
 check-spec =
@@ -35,13 +48,19 @@ check-spec =
     Inv-loop
     μ-loop
     (λ c. (omega arith, (refl, refl)))
-    (λ c. search needs)
+    (λ c. omega arith)
+    (λ c. omega arith)
+    (λ c. omega arith)
+    (λ c. omega arith)
+    (λ c. omega arith)
+    (λ c. omega arith)
+    (λ c. omega arith)
+    (λ c. omega arith)
     (λ c κs. search needs)
     (λ c κs. search needs)
-    (λ c. search needs)
-    (λ c. search needs)
-    (λ c.
-    let l = c .before .before .before .before .loop in
-    (search needs, (and-on legal-byte _ _ _ (l .clear) (c .before .before .before .loop-test .taken) (c .before .still-clear .ensures) (l .inv .1 .0), hash-turn _ _ _ _ (c .before .before .before .loop-test .taken) (c .hash-byte .ensures) (l .inv .1 .1))))
+    (λ c. omega arith)
+    (λ c. omega arith)
+    loop-again
+    (λ c κs. search needs)
     (λ c κs. search needs)
     returns)
