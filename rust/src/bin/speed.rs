@@ -38,26 +38,18 @@ struct Names {
     longest: u64,
 }
 
-const TINY: Names = Names {
-    what: "1 to 3 byte",
-    shortest: 1,
-    longest: 3,
-};
-const SHORT: Names = Names {
-    what: "1 to 5 byte",
-    shortest: 1,
-    longest: 5,
-};
-const TYPICAL: Names = Names {
-    what: "8 to 24 byte",
-    shortest: 8,
-    longest: 24,
-};
-const LONGEST: Names = Names {
-    what: "255 byte",
-    shortest: 255,
-    longest: 255,
-};
+const fn names(what: &'static str, shortest: u64, longest: u64) -> Names {
+    Names {
+        what,
+        shortest,
+        longest,
+    }
+}
+
+const TINY: Names = names("1 to 3 byte", 1, 3);
+const SHORT: Names = names("1 to 5 byte", 1, 5);
+const TYPICAL: Names = names("8 to 24 byte", 8, 24);
+const LONGEST: Names = names("255 byte", 255, 255);
 
 /// A full block, and the names in it.
 struct Full {
