@@ -54,7 +54,7 @@ fn each_byte_of_a_name() {
         let block = lab.block_insert(&fresh, &name, 5).bytes;
         assert_eq!(block::test(V4, &block), 0);
         lab.block_test(&block);
-        // The entry stands at 48, behind ".."; its name follows 8 bytes of inode number and namelen.
+        // The entry stands at 48, behind ".."; its name follows 8 bytes of inode number and one of namelen.
         for at in 57..57 + len {
             let other = if block[at] == b'a' { b'b' } else { b'a' };
             for (byte, refusal) in [(0, 6), (b'/', 6), (other, 8)] {

@@ -51,41 +51,30 @@ seven-xor : (x y : ℕ) → x < 2 ^ 32 → y < 2 ^ 32 → rol 7 (bitXor x y) ≡
 seven-xor x y p q = rol-xor 7 x y (lit≤ tt) p q
 
 -- the hash so far is rotated by 7 for each byte, and each byte by 7 for each byte behind it
-module _ (h a b c d : ℕ) (p : h < 2 ^ 32) (pa : a < 256) (pb : b < 256) (pc : c < 256) where
-  two : hash-from h (a ∷ b ∷ []) ≡ bitXor (bitXor (rol 14 h) (rol 7 a)) b
-  unfolding hash-from hash-byte
-  two = rw (seven-xor (rol 7 h) a (rol-lt 7 h (lit≤ tt) p) (omega arith), rol-rol 7 7 h (lit≤ tt) p)
-
-  three : hash-from h (a ∷ b ∷ c ∷ []) ≡ bitXor (bitXor (bitXor (rol 21 h) (rol 14 a)) (rol 7 b)) c
-  unfolding hash-from hash-byte
-  three =
-      let l₁ : rol 14 h < 2 ^ 32 = rol-lt 14 h (lit≤ tt) p in
-      let l₂ : rol 7 a < 2 ^ 32 = rol-lt 7 a (lit≤ tt) (omega arith) in
-      ap (λ (x : ℕ). bitXor (rol 7 x) c) two
-      ∙ rw (
-        seven-xor (bitXor (rol 14 h) (rol 7 a)) b (xor-lt 32 _ _ l₁ l₂) (omega arith),
-        seven-xor (rol 14 h) (rol 7 a) l₁ l₂,
-        rol-rol 7 14 h (lit≤ tt) p,
-        rol-rol 7 7 a (lit≤ tt) (omega arith),
-      )
-
-  pub four-is : bitXor (bitXor (bitXor (bitXor (rol 28 h) (a * 2 ^ 21 % 2 ^ 32)) (b * 2 ^ 14 % 2 ^ 32)) (c * 2 ^ 7 % 2 ^ 32)) d
-      ≡ hash-from h (a ∷ b ∷ c ∷ d ∷ [])
-  unfolding hash-from hash-byte
-  four-is =
-      let l₁ : rol 21 h < 2 ^ 32 = rol-lt 21 h (lit≤ tt) p in
-      let l₂ : rol 14 a < 2 ^ 32 = rol-lt 14 a (lit≤ tt) (omega arith) in
-      let l₃ : rol 7 b < 2 ^ 32 = rol-lt 7 b (lit≤ tt) (omega arith) in
-      sym
-      (ap (λ (x : ℕ). bitXor (rol 7 x) d) three
-      ∙ rw (
-        seven-xor (bitXor (bitXor (rol 21 h) (rol 14 a)) (rol 7 b)) c (xor-lt 32 _ _ (xor-lt 32 _ _ l₁ l₂) l₃) (omega arith),
-        seven-xor (bitXor (rol 21 h) (rol 14 a)) (rol 7 b) (xor-lt 32 _ _ l₁ l₂) l₃,
-        seven-xor (rol 21 h) (rol 14 a) l₁ l₂,
-        rol-rol 7 21 h (lit≤ tt) p,
-        rol-rol 7 14 a (lit≤ tt) (omega arith),
-        rol-rol 7 7 b (lit≤ tt) (omega arith),
-        rol-small 21 a (omega arith),
-        rol-small 14 b (omega arith),
-        rol-small 7 c (omega arith),
-      ))
+pub four-is : (h a b c d : ℕ) → h < 2 ^ 32 → a < 256 → b < 256 → c < 256
+    → bitXor (bitXor (bitXor (bitXor (rol 28 h) (a * 2 ^ 21 % 2 ^ 32)) (b * 2 ^ 14 % 2 ^ 32)) (c * 2 ^ 7 % 2 ^ 32)) d
+    ≡ hash-from h (a ∷ b ∷ c ∷ d ∷ [])
+unfolding hash-from hash-byte
+four-is h a b c d p pa pb pc =
+    let h₂ : rol 14 h < 2 ^ 32 = rol-lt 14 h (lit≤ tt) p in
+    let h₃ : rol 21 h < 2 ^ 32 = rol-lt 21 h (lit≤ tt) p in
+    let a₁ : rol 7 a < 2 ^ 32 = rol-lt 7 a (lit≤ tt) (omega arith) in
+    let a₂ : rol 14 a < 2 ^ 32 = rol-lt 14 a (lit≤ tt) (omega arith) in
+    let b₁ : rol 7 b < 2 ^ 32 = rol-lt 7 b (lit≤ tt) (omega arith) in
+    rw (
+      seven-xor (rol 7 h) a (rol-lt 7 h (lit≤ tt) p) (omega arith),
+      rol-rol 7 7 h (lit≤ tt) p,
+      seven-xor (bitXor (rol 14 h) (rol 7 a)) b (xor-lt 32 _ _ h₂ a₁) (omega arith),
+      seven-xor (rol 14 h) (rol 7 a) h₂ a₁,
+      rol-rol 7 14 h (lit≤ tt) p,
+      rol-rol 7 7 a (lit≤ tt) (omega arith),
+      seven-xor (bitXor (bitXor (rol 21 h) (rol 14 a)) (rol 7 b)) c (xor-lt 32 _ _ (xor-lt 32 _ _ h₃ a₂) b₁) (omega arith),
+      seven-xor (bitXor (rol 21 h) (rol 14 a)) (rol 7 b) (xor-lt 32 _ _ h₃ a₂) b₁,
+      seven-xor (rol 21 h) (rol 14 a) h₃ a₂,
+      rol-rol 7 21 h (lit≤ tt) p,
+      rol-rol 7 14 a (lit≤ tt) (omega arith),
+      rol-rol 7 7 b (lit≤ tt) (omega arith),
+      rol-small 21 a (omega arith),
+      rol-small 14 b (omega arith),
+      rol-small 7 c (omega arith),
+    )

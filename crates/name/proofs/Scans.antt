@@ -1,6 +1,6 @@
 -- Bytes tested one after the other: the turns and the ends of the loops over names.
 -- Assumes nothing.
-use Prim.Native.Nat.{ℕ, suc, _+_, _≤_, _<_}
+use Prim.Native.Nat.{ℕ, suc, _+_, _-_, _/_, _≤_, _<_}
 use native.Mathlib.Numerals.{add-one}
 use native.Mathlib.Omega.{arith}
 use mathlib.Core.Bool.{Bool, true, false, _&&_, and-assoc}
@@ -42,6 +42,15 @@ every-stop p s i h q = rw (drop-cons s i 0 h, q) refl
 
 pub every-end : (p : ℕ → Bool) (s : List ℕ) (i : ℕ) → length s ≤ i → every p (drop i s) ≡ true
 every-end p s i h = rw (drop-of-length-le s h) refl
+
+-- of one to three bytes: the first, the one at half the length and the last are all of them
+pub every-short : (p : ℕ → Bool) (s : List ℕ) → 0 < length s → length s < 4
+    → (true && p (getD s 0 0) && p (getD s (length s / 2) 0) && p (getD s (length s - 1) 0)) ≡ every p s
+every-short p [] h k = absurd (omega arith)
+every-short p (x ∷ []) h k = by-cases (p x) (λ q. rw q refl) (λ q. rw q refl)
+every-short p (x ∷ y ∷ []) h k = by-cases (p x) (λ q. by-cases (p y) (λ r. rw (q, r) refl) (λ r. rw (q, r) refl)) (λ q. rw q refl)
+every-short p (x ∷ y ∷ z ∷ []) h k = simp (and-assoc, and-true)
+every-short p (x ∷ y ∷ z ∷ w ∷ ws) h k = absurd (omega arith)
 
 -- the bytes before i are clear of 0 and t
 pub record Clear (t : ℕ) (s : List ℕ) (i : ℕ) : Type 0 where

@@ -38,18 +38,21 @@ struct Names {
     longest: u64,
 }
 
-const fn names(what: &'static str, shortest: u64, longest: u64) -> Names {
-    Names {
-        what,
-        shortest,
-        longest,
+impl Names {
+    const fn of(what: &'static str, shortest: u64, longest: u64) -> Names {
+        Names {
+            what,
+            shortest,
+            longest,
+        }
     }
 }
 
-const TINY: Names = names("1 to 3 byte", 1, 3);
-const SHORT: Names = names("1 to 5 byte", 1, 5);
-const TYPICAL: Names = names("8 to 24 byte", 8, 24);
-const LONGEST: Names = names("255 byte", 255, 255);
+const TINY: Names = Names::of("1 to 3 byte", 1, 3);
+const SHORT: Names = Names::of("1 to 5 byte", 1, 5);
+const TYPICAL: Names = Names::of("8 to 24 byte", 8, 24);
+const LONGEST: Names = Names::of("255 byte", 255, 255);
+const KINDS: [Names; 4] = [TINY, SHORT, TYPICAL, LONGEST];
 
 /// A full block, and the names in it.
 struct Full {
@@ -121,13 +124,11 @@ fn hashing<'a>(names: &'a [Vec<u8>], hash: impl Fn(&[u8]) -> u32 + 'a) -> Box<dy
 fn hashes() {
     println!("| hash of names | library, ns | byte by byte in Rust, ns | four a turn in Rust, ns | library / byte by byte | library / four a turn |");
     println!("|---|---|---|---|---|---|");
-    for kind in [TINY, SHORT, TYPICAL, LONGEST] {
+    for kind in KINDS {
         let mut random = Random(7);
-        // Of mixed lengths so many that the lengths are not learned; few enough that the names stay at hand.
-        let count = match kind.shortest == kind.longest {
-            true => 1_000,
-            false => 10_000,
-        };
+        // Of mixed lengths more, so that the processor does not learn the lengths; few enough to stay in its cache.
+        let mixed = kind.shortest < kind.longest;
+        let count = if mixed { 10_000 } else { 1_000 };
         let names: Vec<_> = (0..count)
             .map(|_| random.name(kind.shortest, kind.longest))
             .collect();
@@ -334,8 +335,8 @@ fn main() {
     println!("| full blocks (names in each) | call | library, us | yardstick, us | model, us | library / yardstick | library / model | call / test |");
     println!("|---|---|---|---|---|---|---|---|");
     for size in [512, 4096, 16_384, 65_536] {
-        for kind in [SHORT, TYPICAL, LONGEST] {
-            row(size, &kind);
+        for kind in &KINDS {
+            row(size, kind);
         }
     }
 }
