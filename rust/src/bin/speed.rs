@@ -1,6 +1,6 @@
 //! Times the library, the yardstick and the model on one machine and the same inputs, and prints medians and ratios as tables.
 //!
-//! Each row's contenders take turns, so that a busy moment of the machine falls on all of them. Full blocks are filled by the library's
+//! Each row's contenders take turns, so that a busy moment of the machine falls on all of them; so do the calls that are compared. Full blocks are filled by the library's
 //! own insert, with names from fixed seeds.
 
 use pelunziwa::model::{self, Options};
@@ -96,8 +96,10 @@ fn full(size: usize, kind: &Names, seed: u64) -> Full {
     Full { bytes, names }
 }
 
+type Job<'a> = Box<dyn FnMut() + 'a>;
+
 /// Nanoseconds of one run of each job, the median over the rounds; `calls` is how many calls a run makes.
-fn medians<const N: usize>(calls: usize, mut jobs: [Box<dyn FnMut() + '_>; N]) -> [f64; N] {
+fn medians<const N: usize>(calls: usize, mut jobs: [Job; N]) -> [f64; N] {
     let mut times = [(); N].map(|_| Vec::with_capacity(ROUNDS));
     for _ in 0..ROUNDS {
         for (job, times) in jobs.iter_mut().zip(&mut times) {
@@ -112,7 +114,7 @@ fn medians<const N: usize>(calls: usize, mut jobs: [Box<dyn FnMut() + '_>; N]) -
     })
 }
 
-fn hashing<'a>(names: &'a [Vec<u8>], hash: impl Fn(&[u8]) -> u32 + 'a) -> Box<dyn FnMut() + 'a> {
+fn hashing<'a>(names: &'a [Vec<u8>], hash: impl Fn(&[u8]) -> u32 + 'a) -> Job<'a> {
     Box::new(move || {
         for name in names {
             black_box(hash(black_box(name)));
@@ -126,9 +128,9 @@ fn hashes() {
     println!("|---|---|---|---|---|---|");
     for kind in KINDS {
         let mut random = Random(7);
-        // Of mixed lengths more, so that the processor does not learn the lengths; few enough to stay in its cache.
+        // Of mixed lengths so many that the processor does not learn them.
         let mixed = kind.shortest < kind.longest;
-        let count = if mixed { 10_000 } else { 1_000 };
+        let count = if mixed { 50_000 } else { 1_000 };
         let names: Vec<_> = (0..count)
             .map(|_| random.name(kind.shortest, kind.longest))
             .collect();
@@ -155,7 +157,7 @@ fn hashes() {
 }
 
 /// A run of a test over all blocks, each of which passes.
-fn testing<'a>(blocks: &'a [Full], test: fn(&[u8]) -> u32) -> Box<dyn FnMut() + 'a> {
+fn testing(blocks: &[Full], test: fn(&[u8]) -> u32) -> Job<'_> {
     Box::new(move || {
         for b in blocks {
             assert_eq!(test(black_box(&b.bytes)), 0);
@@ -167,79 +169,61 @@ fn library_test(b: &[u8]) -> u32 {
     block::test(b).map_or_else(Refusal::number, |()| 0)
 }
 
-/// Nanoseconds of a test by the library, the yardstick and the model.
-fn tests(blocks: &[Full]) -> [f64; 3] {
-    medians(
-        blocks.len(),
-        [
-            testing(blocks, library_test),
-            testing(blocks, yardstick::test),
-            testing(blocks, |b| model::block::test(V4, b)),
-        ],
-    )
+/// A test by the library, the yardstick and the model.
+fn tests(blocks: &[Full]) -> [Job<'_>; 3] {
+    [
+        testing(blocks, library_test),
+        testing(blocks, yardstick::test),
+        testing(blocks, |b| model::block::test(V4, b)),
+    ]
+}
+
+/// A block, and a name in it that a call is about.
+type Asked = (Vec<u8>, Vec<u8>);
+
+fn asked_of((turn, b): (usize, &Full)) -> Asked {
+    (b.bytes.clone(), b.names[turn % b.names.len()].clone())
 }
 
 /// The same for a lookup of a stored name.
-fn lookups(blocks: &[Full]) -> [f64; 3] {
-    let mut turn = 0;
-    let mut next = move |b: &Full| {
-        turn += 1;
-        b.names[turn * 37 % b.names.len()].clone()
-    };
-    let asked: Vec<_> = blocks.iter().map(|b| (&b.bytes, next(b))).collect();
-    for (b, n) in &asked {
+fn lookups(asked: &[Asked]) -> [Job<'_>; 3] {
+    for (b, n) in asked {
         assert_eq!(block::lookup(b, n).ok(), yardstick::lookup(b, n).ok());
     }
-    medians(
-        blocks.len(),
-        [
-            Box::new(|| {
-                for (b, n) in &asked {
-                    assert!(block::lookup(black_box(b), n).is_ok());
-                }
-            }),
-            Box::new(|| {
-                for (b, n) in &asked {
-                    assert!(yardstick::lookup(black_box(b), n).is_ok());
-                }
-            }),
-            Box::new(|| {
-                for (b, n) in &asked {
-                    assert_eq!(model::block::lookup(V4, black_box(b), n).refusal, 0);
-                }
-            }),
-        ],
-    )
+    [
+        Box::new(move || {
+            for (b, n) in asked {
+                assert!(block::lookup(black_box(b), n).is_ok());
+            }
+        }),
+        Box::new(move || {
+            for (b, n) in asked {
+                assert!(yardstick::lookup(black_box(b), n).is_ok());
+            }
+        }),
+        Box::new(move || {
+            for (b, n) in asked {
+                assert_eq!(model::block::lookup(V4, black_box(b), n).refusal, 0);
+            }
+        }),
+    ]
 }
 
-/// The same for an insert with the removal after it, by the library and the model: half the time of the two calls.
-fn changes(blocks: &[Full]) -> [f64; 2] {
-    let taken: Vec<_> = blocks
-        .iter()
-        .map(|b| {
-            let name = b.names[b.names.len() / 2].clone();
-            let mut bytes = b.bytes.clone();
-            block::remove(&mut bytes, &name).expect("the name is there");
-            (bytes, name)
-        })
-        .collect();
-    let mut ours = taken.clone();
-    medians(
-        2 * blocks.len(),
-        [
-            Box::new(|| {
-                for (b, n) in &mut ours {
-                    assert!(block::insert(b, n, 5).is_ok() && block::remove(b, n).is_ok());
-                }
-            }),
-            Box::new(|| {
-                for (b, n) in &taken {
-                    let put = model::block::insert(V4, black_box(b), n, 5);
-                    assert_eq!(model::block::remove(V4, &put.bytes, n).refusal, 0);
-                }
-            }),
-        ],
-    )
+/// A stored name's removal with its insert after it, by the library, which works in place, and by the model.
+fn changes<'a>(ours: &'a mut [Asked], asked: &'a [Asked]) -> [Job<'a>; 2] {
+    [
+        Box::new(move || {
+            for (b, n) in ours.iter_mut() {
+                assert!(block::remove(b, n).is_ok() && block::insert(b, n, 5).is_ok());
+            }
+        }),
+        Box::new(move || {
+            for (b, n) in asked {
+                let left = model::block::remove(V4, black_box(b), n);
+                assert_eq!(model::block::insert(V4, &left.bytes, n, 5).refusal, 0);
+            }
+        }),
+    ]
 }
 
 /// So many full blocks of a kind, and how many names each holds on average.
@@ -262,11 +246,19 @@ fn micro(nanoseconds: f64) -> String {
 
 fn row(size: usize, kind: &Names) {
     let (blocks, entries) = filled(BLOCKS, size, kind);
-    let [test, yard, model] = tests(&blocks);
-    let [look, yard_look, model_look] = lookups(&blocks);
-    let [change, model_change] = changes(&blocks);
+    let asked: Vec<_> = (37..).step_by(37).zip(&blocks).map(asked_of).collect();
+    let mut ours = asked.clone();
+    let count = blocks.len();
+    let [test, yard, model] = medians(count, tests(&blocks));
+    let [look, yard_look, model_look] = medians(count, lookups(&asked));
+    let [change, model_change] = medians(2 * count, changes(&mut ours, &asked));
+    // The library's calls once more, in turns with each other alone: a turn behind the model's finds fewer branches learned.
+    let [own_test, ..] = tests(&blocks);
+    let [own_look, ..] = lookups(&asked);
+    let [own_change, ..] = changes(&mut ours, &asked);
+    let [own_test, own_look, own_change] = medians(count, [own_test, own_look, own_change]);
     let name = format!("{size} bytes, {} names ({entries:.0})", kind.what);
-    let line = |call: &str, ours: f64, yard: Option<f64>, model: f64| {
+    let line = |call: &str, ours: f64, yard: Option<f64>, model: f64, own: f64| {
         let (y, ratio) = match yard {
             Some(y) => (micro(y), format!("{:.2}", ours / y)),
             None => ("-".into(), "-".into()),
@@ -276,12 +268,13 @@ fn row(size: usize, kind: &Names) {
             micro(ours),
             micro(model),
             ours / model,
-            ours / test
+            own / own_test
         );
     };
-    line("test", test, Some(yard), model);
-    line("lookup", look, Some(yard_look), model_look);
-    line("insert, removal (each)", change, None, model_change);
+    line("test", test, Some(yard), model, own_test);
+    line("lookup", look, Some(yard_look), model_look, own_look);
+    let each = "insert, removal (each)";
+    line(each, change, None, model_change, own_change / 2.0);
 }
 
 const SIZES: usize = 8;
