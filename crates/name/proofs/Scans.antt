@@ -71,7 +71,7 @@ clear-other t s i v h a =
 pub clear-done : (t : ℕ) (s : List ℕ) (i : ℕ) → Clear t s i → length s ≤ i → true ≡ every (clear-of t) s
 clear-done t s i v h = sym (v .rest ∙ every-end (clear-of t) s i h)
 
--- v is the test of all bytes, d that of those before i: a turn over the run xs, and the end
+-- d is the test so far, v that with the bytes from i on: a turn over the run xs, and the end
 module _ (p : ℕ → Bool) (s : List ℕ) (i : ℕ) (d v : Bool) where
   pub and-turn : (xs : List ℕ) (j : ℕ) (a : Bool) → drop i s ≡ xs ++ drop j s → a ≡ (d && every p xs)
       → v ≡ (d && every p (drop i s)) → v ≡ (a && every p (drop j s))

@@ -193,9 +193,9 @@ fn short_clear(s: &[u8]) -> bool
     still_clear(still_clear(still_clear(true, s[0]), s[n / 2]), s[n - 1])
 }
 
-// Legality and hash of a directory name in one pass. Fewer than four bytes take one step; of more, four a turn, then the one to three that
-// make no four. With those first, as in the hash by itself, up to three bytes would be tested twice: measured, 5-byte names took longer so
-// than byte by byte.
+// Legality and hash of a directory name in one pass. Fewer than four bytes take one step; else four a turn, then those that make no four.
+// With those first, as in the hash by itself, up to three bytes would be tested twice: measured, 5-byte names took longer so than byte by
+// byte.
 pub fn check(e: Edition, s: &[u8]) -> Checked
     ensures { λ r. ⌜ (r .legal ≡ legal-name e (now (s .entry))) × ((r .hash ≡ hash-of e (now (s .entry))) × (r .hash < 4294967296)) ⌝ }
 {

@@ -1,7 +1,7 @@
 //! Times the library, the yardstick and the model on one machine and the same inputs, and prints medians and ratios as tables.
 //!
-//! Each row's contenders take turns, so that a busy moment of the machine falls on all of them; so do the calls that are compared. Full blocks are filled by the library's
-//! own insert, with names from fixed seeds.
+//! Each row's contenders take turns, so that a busy moment of the machine falls on all of them; so do the library's calls where they are
+//! compared with each other. Full blocks are filled by the library's own insert, with names from fixed seeds.
 
 use pelunziwa::model::{self, Options};
 use pelunziwa::{block, hash, yardstick, Refusal};
@@ -98,7 +98,7 @@ fn full(size: usize, kind: &Names, seed: u64) -> Full {
 
 type Job<'a> = Box<dyn FnMut() + 'a>;
 
-/// Nanoseconds of one run of each job, the median over the rounds; `calls` is how many calls a run makes.
+/// Nanoseconds of one run of each job divided by `calls`, how many calls a run makes: the median over the rounds.
 fn medians<const N: usize>(calls: usize, mut jobs: [Job; N]) -> [f64; N] {
     let mut times = [(); N].map(|_| Vec::with_capacity(ROUNDS));
     for _ in 0..ROUNDS {
@@ -185,7 +185,7 @@ fn asked_of((turn, b): (usize, &Full)) -> Asked {
     (b.bytes.clone(), b.names[turn % b.names.len()].clone())
 }
 
-/// The same for a lookup of a stored name.
+/// A lookup of a stored name, by the same three.
 fn lookups(asked: &[Asked]) -> [Job<'_>; 3] {
     for (b, n) in asked {
         assert_eq!(block::lookup(b, n).ok(), yardstick::lookup(b, n).ok());
