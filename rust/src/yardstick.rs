@@ -1,5 +1,5 @@
-//! The yardstick: an ordinary Rust checker of a block's rules, for timing only. Names are compared only where hashes are equal, and an
-//! entry's slot is found by binary search.
+//! The yardstick: an ordinary Rust checker of a block's rules, for timing; the tests hold it to the model. One pass over the slots, one over the records, which reads
+//! each name once, four bytes a turn; an entry's slot is found by binary search, and names are compared only where hashes are equal.
 
 use crate::model::Options;
 use crate::Found;
@@ -28,19 +28,45 @@ pub fn hash(name: &[u8]) -> u32 {
         .fold(0, |h: u32, &byte| h.rotate_left(7) ^ u32::from(byte))
 }
 
-/// The same hash four bytes a turn, as in the kernel: the bytes that make no four come last.
-pub fn hash_by_fours(name: &[u8]) -> u32 {
-    let (fours, rest) = name.as_chunks::<4>();
-    let h = fours.iter().fold(0u32, |h, four| {
-        let [a, b, c, d] = four.map(u32::from);
-        h.rotate_left(28) ^ a << 21 ^ b << 14 ^ c << 7 ^ d
-    });
+/// A hash, four bytes further.
+fn turned(h: u32, four: &[u8; 4]) -> u32 {
+    let [a, b, c, d] = four.map(u32::from);
+    h.rotate_left(28) ^ a << 21 ^ b << 14 ^ c << 7 ^ d
+}
+
+/// A hash, with the last bytes, which make no four.
+fn ended(h: u32, rest: &[u8]) -> u32 {
     match *rest {
         [a, b, c] => h.rotate_left(21) ^ u32::from(a) << 14 ^ u32::from(b) << 7 ^ u32::from(c),
         [a, b] => h.rotate_left(14) ^ u32::from(a) << 7 ^ u32::from(b),
         [a] => h.rotate_left(7) ^ u32::from(a),
         _ => h,
     }
+}
+
+/// The same hash four bytes a turn, as in the kernel: the bytes that make no four come last.
+pub fn hash_by_fours(name: &[u8]) -> u32 {
+    let (fours, rest) = name.as_chunks();
+    ended(fours.iter().fold(0, turned), rest)
+}
+
+/// Not 0 exactly if one of the four bytes is 0.
+fn zeros(four: u32) -> u32 {
+    four.wrapping_sub(0x0101_0101) & !four & 0x8080_8080
+}
+
+/// Whether a name's bytes are legal, and its hash, four bytes a turn.
+fn checked(name: &[u8]) -> (bool, u32) {
+    let (fours, rest) = name.as_chunks();
+    let mut bad = 0;
+    let mut hash = 0;
+    for four in fours {
+        let word = u32::from_ne_bytes(*four);
+        bad |= zeros(word) | zeros(word ^ 0x2f2f_2f2f);
+        hash = turned(hash, four);
+    }
+    let clear = bad == 0 && rest.iter().all(|&c| c != 0 && c != b'/');
+    (clear, ended(hash, rest))
 }
 
 fn entry_size(namelen: usize) -> usize {
@@ -94,10 +120,11 @@ impl Index<'_> {
     }
 }
 
-/// What one pass over the records finds.
-#[derive(Default)]
-struct Tiles {
+/// What one pass over the records finds: the lowest of NAME, NUMBER and INDEX that an entry breaks, or 9; and the gaps.
+struct Records {
+    worst: u32,
     entries: usize,
+    fixed: usize,
     longest: [u16; 3],
     gaps: usize,
     named: usize,
@@ -109,17 +136,6 @@ struct Block<'a> {
     end: usize,
     stale: usize,
     pairs: [(u16, u16); 3],
-}
-
-/// Whether a name's bytes are legal, and its hash, in one pass.
-fn checked(name: &[u8]) -> (bool, u32) {
-    let mut clear = true;
-    let mut hash = 0u32;
-    for &c in name {
-        clear &= c != 0 && c != b'/';
-        hash = hash.rotate_left(7) ^ u32::from(c);
-    }
-    (clear, hash)
 }
 
 impl<'a> Block<'a> {
@@ -149,10 +165,17 @@ impl<'a> Block<'a> {
         })
     }
 
-    /// TILE, with the entries counted and the three longest gaps.
-    fn tiles(&self) -> Option<Tiles> {
+    /// TILE, with what the records say on the way.
+    fn records(&self) -> Option<Records> {
         let b = &self.bytes[..self.end];
-        let mut t = Tiles::default();
+        let mut r = Records {
+            worst: 9,
+            entries: 0,
+            fixed: 0,
+            longest: [0; 3],
+            gaps: 0,
+            named: 0,
+        };
         let mut at = HEADER;
         let mut after_gap = false;
         while at < b.len() {
@@ -174,60 +197,47 @@ impl<'a> Block<'a> {
                 return None;
             }
             if gap {
-                t.note(at as u16, size as u16, &self.pairs);
+                r.gap(at as u16, size as u16, &self.pairs);
             } else {
-                t.entries += 1;
+                let fault = self.fault(at);
+                r.worst = r.worst.min(fault);
+                r.entries += 1;
+                r.fixed += usize::from(at == HEADER || at == HEADER + 16);
             }
             after_gap = gap;
             at += size;
         }
-        Some(t)
+        Some(r)
     }
 
-    /// The lowest of NAME, NUMBER and INDEX that an entry breaks.
-    fn entries(&self) -> u32 {
+    /// The first of NAME, NUMBER and INDEX that the entry breaks, or 9.
+    fn fault(&self, at: usize) -> u32 {
         let b = &self.bytes[..self.end];
-        let mut worst = 9;
-        let mut at = HEADER;
-        let mut fixed = 0;
-        while at < b.len() {
-            if be16(b, at) == GAP {
-                at += be16(b, at + 2) as usize;
-                continue;
-            }
-            let namelen = b[at + 8] as usize;
-            let name = &b[at + 9..at + 9 + namelen];
-            let place = match name {
-                b"." => at == HEADER,
-                b".." => at == HEADER + 16,
-                _ => at != HEADER && at != HEADER + 16,
-            };
-            fixed += usize::from(at == HEADER || at == HEADER + 16);
-            let (clear, hash) = checked(name);
-            if !place || name.is_empty() || !clear {
-                return 6;
-            }
-            let number = be64(b, at);
-            if number == 0 || number >> 56 != 0 {
-                worst = worst.min(7);
-            }
-            if worst > 8 && !self.index.holds(hash, (at / 8) as u32) {
-                worst = 8;
-            }
-            at += entry_size(namelen);
+        let name = &b[at + 9..at + 9 + b[at + 8] as usize];
+        let place = match name {
+            b"." => at == HEADER,
+            b".." => at == HEADER + 16,
+            _ => at != HEADER && at != HEADER + 16,
+        };
+        let (clear, hash) = checked(name);
+        if !place || name.is_empty() || !clear {
+            return 6;
         }
-        if fixed == 2 {
-            worst
-        } else {
-            6
+        let number = be64(b, at);
+        if number == 0 || number >> 56 != 0 {
+            return 7;
         }
+        if !self.index.holds(hash, (at / 8) as u32) {
+            return 8;
+        }
+        9
     }
 
-    fn best(&self, t: &Tiles) -> bool {
-        let known = t.gaps.min(3);
-        let lengths = self.pairs.iter().zip(t.longest).all(|(p, n)| p.1 == n);
+    fn best(&self, r: &Records) -> bool {
+        let known = r.gaps.min(3);
+        let lengths = self.pairs.iter().zip(r.longest).all(|(p, n)| p.1 == n);
         let unused = self.pairs[known..].iter().all(|p| *p == (0, 0));
-        lengths && unused && t.named == known
+        lengths && unused && r.named == known
     }
 
     fn name_at(&self, address: u32) -> &[u8] {
@@ -249,17 +259,18 @@ impl<'a> Block<'a> {
     }
 
     fn code(&self) -> u32 {
-        let Some(t) = self.tiles() else { return 5 };
-        let ordered =
-            self.index.ordered(self.stale) && t.entries == self.index.0.len() - self.stale;
-        let worst = self.entries();
-        if worst < 8 {
-            return worst;
+        let ordered = self.index.ordered(self.stale);
+        let Some(r) = self.records() else { return 5 };
+        if r.worst == 6 || r.fixed != 2 {
+            return 6;
         }
-        if worst == 8 || !ordered {
+        if r.worst == 7 {
+            return 7;
+        }
+        if r.worst == 8 || !ordered || r.entries != self.index.0.len() - self.stale {
             return 8;
         }
-        if !self.best(&t) {
+        if !self.best(&r) {
             return 9;
         }
         if self.twice() {
@@ -269,8 +280,8 @@ impl<'a> Block<'a> {
     }
 }
 
-impl Tiles {
-    fn note(&mut self, at: u16, size: u16, pairs: &[(u16, u16); 3]) {
+impl Records {
+    fn gap(&mut self, at: u16, size: u16, pairs: &[(u16, u16); 3]) {
         self.gaps += 1;
         self.named += usize::from(pairs.contains(&(at, size)));
         if size > self.longest[2] {
@@ -319,4 +330,31 @@ pub fn lookup(b: &[u8], name: &[u8]) -> Result<Found, (u32, u64)> {
         }
     }
     Err((13, compared))
+}
+
+/// The bare walk over a good block's records, which any test of them has to make: how many there are. No rule is tested.
+pub fn bare_walk(b: &[u8]) -> usize {
+    let Ok(block) = Block::open(b) else { return 0 };
+    let mut at = HEADER;
+    let mut records = 0;
+    while at < block.end {
+        at += if be16(b, at) == GAP {
+            be16(b, at + 2) as usize
+        } else {
+            entry_size(b[at + 8] as usize)
+        };
+        records += 1;
+    }
+    records
+}
+
+/// A name of 12 bytes; all of them have one hash. A byte's lowest bit and the highest of the byte behind it fall on the same bit of the
+/// hash: each of the 11 lowest bits of `toggles` turns such a pair over.
+pub fn of_one_hash(toggles: u32) -> Vec<u8> {
+    let mut name = b"bdfhjlnprtvx".to_vec();
+    for i in (0..11).filter(|i| toggles >> i & 1 == 1) {
+        name[i] ^= 1;
+        name[i + 1] ^= 0x80;
+    }
+    name
 }

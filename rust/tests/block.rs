@@ -9,6 +9,7 @@ use common::damage::{self, Fields};
 use common::frame::{self, Case, Structure};
 use common::{images, names, rounds, Rng, V4};
 use pelunziwa::model::{block, entry_size, Change, END};
+use pelunziwa::yardstick;
 
 const TESTS: [u32; 9] = [1, 2, 4, 5, 6, 7, 8, 9, 10];
 
@@ -66,6 +67,91 @@ fn each_byte_of_a_name() {
         }
     }
     println!("{} calls", lab.cover.calls());
+}
+
+/// Where the entries stand, but for "." and "..".
+fn offsets(bytes: &[u8]) -> Vec<usize> {
+    let block = block::read(V4, bytes).unwrap_or_else(|n| panic!("refused with {n}"));
+    block.live().map(|(offset, _, _)| offset).skip(2).collect()
+}
+
+/// Names of one hash, all told apart: a block full of them is accepted, and refused with 10 with one of them stored twice, whichever
+/// two slots theirs are, and with stale slots among them.
+#[test]
+fn names_of_one_hash() {
+    let mut lab = Lab::new(0x0e5a);
+    for len in BLOCK_SIZES {
+        let mut bytes = build::fresh_block(&mut lab.rng, len);
+        let names = (0..1 << 11).map(yardstick::of_one_hash);
+        let stored: Vec<_> = names
+            .take_while(|name| pelunziwa::block::insert(&mut bytes, name, 5).is_ok())
+            .collect();
+        twice_anywhere(&mut lab, &bytes);
+        for name in stored.iter().step_by(3) {
+            assert!(pelunziwa::block::remove(&mut bytes, name).is_ok());
+        }
+        twice_anywhere(&mut lab, &bytes);
+    }
+    println!("{} calls", lab.cover.calls());
+}
+
+fn twice_anywhere(lab: &mut Lab, bytes: &[u8]) {
+    assert_eq!(block::test(V4, bytes), 0);
+    lab.block_test(bytes);
+    let at = offsets(bytes);
+    let last = at.len() - 1;
+    let mut pairs = vec![(0, 1), (0, last), (last, 0), (last - 1, last)];
+    pairs.extend((0..12).map(|_| (lab.rng.below(at.len()), lab.rng.below(at.len()))));
+    for (i, j) in pairs.into_iter().filter(|(i, j)| i != j) {
+        let mut copy = bytes.to_vec();
+        copy.copy_within(at[i] + 9..at[i] + 21, at[j] + 9);
+        assert_eq!(block::test(V4, &copy), 10);
+        lab.block_test(&copy);
+    }
+}
+
+/// Slots that are right by themselves, and wrong together: two change addresses, two have one, one goes stale or past the data.
+#[test]
+fn slots_of_other_entries() {
+    let mut lab = Lab::new(0x5107);
+    for len in [512, 4096] {
+        let mut bytes = build::fresh_block(&mut lab.rng, len);
+        for _ in 0..400 {
+            let name = names::legal(&mut lab.rng);
+            let _ = pelunziwa::block::insert(&mut bytes, &name, 5);
+        }
+        let end = block::read(V4, &bytes).map(|b| b.data_end());
+        let end = end.unwrap_or_else(|n| panic!("refused with {n}"));
+        let addresses: Vec<_> = (end + 4..len - 8).step_by(8).collect();
+        let mut tried = 0;
+        for &p in &addresses {
+            for &q in addresses.iter().take(12) {
+                let mut copy = bytes.clone();
+                copy.copy_within(p..p + 4, q);
+                lab.block_test(&copy);
+                copy[p..p + 4].copy_from_slice(&bytes[q..q + 4]);
+                lab.block_test(&copy);
+                tried += 2;
+            }
+            for address in [
+                0,
+                1,
+                end / 8,
+                len / 8 - 1,
+                len / 8,
+                1 << 29,
+                u32::MAX as usize,
+            ] {
+                let mut copy = bytes.clone();
+                copy[p..p + 4].copy_from_slice(&(address as u32).to_be_bytes());
+                lab.block_test(&copy);
+                tried += 1;
+            }
+        }
+        assert!(tried > 100, "{tried}");
+    }
+    println!("{} calls", lab.cover.calls());
+    lab.cover.require("block_test", &[8], &[], &[]);
 }
 
 fn all_reached(lab: &Lab) {

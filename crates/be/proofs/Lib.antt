@@ -6,3 +6,6 @@ pub mod Writes
 pub mod Stores
 pub mod Splits
 pub mod BytesStay
+pub mod Bitwise
+pub mod EachByte
+pub mod Words

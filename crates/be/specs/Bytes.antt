@@ -1,4 +1,4 @@
--- Bytes, big-endian numbers in them, and writes into them. Contracts speak of reading and writing in these forms alone.
+-- Bytes, big-endian numbers in them, and writes into them. Contracts speak of reading and writing in these forms, and in words (Words.antt).
 -- Assumes nothing.
 use Prim.Native.Nat.{ℕ, zero, suc, _+_, _*_, _/_, _%_, _^_}
 use mathlib.Core.List.{List, [], _∷_}

@@ -1,8 +1,10 @@
-// Big-endian numbers in a slice, copies, zeros and moves: each says which bytes it read or wrote.
+// Big-endian numbers and little-endian words in a slice, copies, zeros and moves: each says which bytes it read or wrote.
 ghost use mathlib.Core.Path.{_≡_};
 ghost use Prim.Native.Nat.{_+_, _≤_, _<_};
+ghost use lib.Dec.{eqb};
 ghost use lib.ListN.{length, replicate};
 ghost use Rattle.be.specs.Bytes.{byte, part, field, put, to-be};
+ghost use Rattle.be.specs.Words.{le};
 
 fn wide(x: u8) -> usize
     ensures { λ r. ⌜ (r ≡ x) × (r < 256) ⌝ }
@@ -41,6 +43,48 @@ pub fn be64(b: &[u8], o: usize) -> u64
 {
     be32(b, o) as u64 * 4294967296 + be32(b, o + 4) as u64
 }
+
+// ---- little-endian words: each compiles to one load
+
+fn le8(b: &[u8], o: usize) -> u64
+    requires { ⌜ o < length (now b) ⌝ }
+    ensures { λ r. ⌜ (r ≡ le (part o 1 (now (b .entry)))) × (r < 256) ⌝ }
+{
+    be8(b, o) as u64
+}
+
+fn le16(b: &[u8], o: usize) -> u64
+    requires { ⌜ o + 2 ≤ length (now b) ⌝ }
+    ensures { λ r. ⌜ (r ≡ le (part o 2 (now (b .entry)))) × (r < 65536) ⌝ }
+{
+    le8(b, o + 1) * 256 + le8(b, o)
+}
+
+// The number in 4 bytes from a place on, least significant first.
+pub fn le32(b: &[u8], o: usize) -> u64
+    requires { ⌜ o + 4 ≤ length (now b) ⌝ }
+    ensures { λ r. ⌜ (r ≡ le (part o 4 (now (b .entry)))) × (r < 4294967296) ⌝ }
+{
+    le16(b, o + 2) * 65536 + le16(b, o)
+}
+
+// In 8 bytes.
+pub fn le64(b: &[u8], o: usize) -> u64
+    requires { ⌜ o + 8 ≤ length (now b) ⌝ }
+    ensures { λ r. ⌜ r ≡ le (part o 8 (now (b .entry))) ⌝ }
+{
+    le32(b, o + 4) * 4294967296 + le32(b, o)
+}
+
+// Whether the big-endian number in the first 2 of the 8 bytes at o is 0xffff.
+pub fn ones_at(b: &[u8], o: usize) -> bool
+    requires { ⌜ o + 8 ≤ length (now b) ⌝ }
+    ensures { λ r. ⌜ r ≡ eqb (field o 2 (now (b .entry))) 0xffff ⌝ }
+{
+    le64(b, o) % 65536 == 0xffff
+}
+
+// ---- stores
 
 // Stores the lowest byte of a number.
 pub fn put8(b: &mut [u8], o: usize, v: usize)

@@ -2,8 +2,8 @@
 -- Assumes nothing.
 use Prim.Native.Nat.{ℕ}
 use native.Mathlib.Omega.{arith}
-use mathlib.Core.Bool.{Bool, true, false, not, _&&_, and-true}
-use mathlib.Core.Path.{_≡_, refl, sym, _∙_, ap}
+use mathlib.Core.Bool.{Bool, true, false, not, _&&_}
+use mathlib.Core.Path.{_≡_, refl, sym, _∙_, ap, ap₂}
 use mathlib.Core.List.{List}
 use borrow.Author.Tests.{eq-eqb, ne-eqb}
 use Rattle.refusal.specs.Refusal.{ABSENT, EXISTS, NOROOM}
@@ -68,10 +68,12 @@ module _ (e : Edition) (b n : List ℕ) (i : Target) where
     unfolding insert-code asked-of
     insert-chain = rw (eq-eqb (verdict e b) 0 (sym tq ∙ tz)) refl
 
-    pub insert-refused : (r : ℕ) (k : Bool) → k ≡ legal-target e i → r ≡ asked-of (legal-name e n && k) (fixed-name n) 0 → (r ≡ 0 → ⊥) → (r ≡ insert-code e b n i) × (b ≡ insert-bytes e b n i)
+    pub insert-refused : (r : ℕ) (l k : Bool) → l ≡ legal-name e n → k ≡ legal-target e i → r ≡ asked-of (l && k) (fixed-name n) 0 → (r ≡ 0 → ⊥)
+        → (r ≡ insert-code e b n i) × (b ≡ insert-bytes e b n i)
     unfolding insert-bytes
-    insert-refused r k w q z =
-        let q′ : r ≡ asked-of (legal-name e n && legal-target e i) (fixed-name n) 0 = q ∙ ap (λ (x : Bool). asked-of (legal-name e n && x) (fixed-name n) 0) w in
+    insert-refused r l k v w q z =
+        let q′ : r ≡ asked-of (legal-name e n && legal-target e i) (fixed-name n) 0 =
+        q ∙ ap₂ (λ (x y : Bool). asked-of (x && y) (fixed-name n) 0) v w in
         let s : insert-code e b n i ≡ r = insert-chain ∙ refused _ _ _ (λ y. z (q′ ∙ y)) ∙ sym q′ in
         (sym s, sym (rw (ne-eqb (insert-code e b n i) 0 (λ y. z (sym s ∙ y)))))
 
@@ -87,9 +89,10 @@ module _ (e : Edition) (b n : List ℕ) where
     unfolding remove-code asked-of
     remove-chain = rw (eq-eqb (verdict e b) 0 (sym tq ∙ tz)) refl
 
-    pub remove-refused : (r : ℕ) → r ≡ asked-of (legal-name e n && true) (fixed-name n) 0 → (r ≡ 0 → ⊥) → (r ≡ remove-code e b n) × (b ≡ remove-bytes e b n)
+    pub remove-refused : (r : ℕ) (l : Bool) → l ≡ legal-name e n → r ≡ asked-of l (fixed-name n) 0 → (r ≡ 0 → ⊥)
+        → (r ≡ remove-code e b n) × (b ≡ remove-bytes e b n)
     unfolding remove-bytes
-    remove-refused r q z =
-        let q′ : r ≡ asked-of (legal-name e n) (fixed-name n) 0 = q ∙ ap (λ (x : Bool). asked-of x (fixed-name n) 0) (and-true (legal-name e n)) in
+    remove-refused r l v q z =
+        let q′ : r ≡ asked-of (legal-name e n) (fixed-name n) 0 = q ∙ ap (λ (x : Bool). asked-of x (fixed-name n) 0) v in
         let s : remove-code e b n ≡ r = remove-chain ∙ refused _ _ _ (λ y. z (q′ ∙ y)) ∙ sym q′ in
         (sym s, sym (rw (ne-eqb (remove-code e b n) 0 (λ y. z (sym s ∙ y)))))

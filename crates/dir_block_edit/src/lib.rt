@@ -1,6 +1,6 @@
 // Insert and removal in a block directory.
 ghost use mathlib.Core.Path.{_≡_};
-ghost use mathlib.Core.Bool.{true, false, _&&_};
+ghost use mathlib.Core.Bool.{true, false};
 ghost use Prim.Native.Nat.{_+_, _-_, _*_, _/_, _%_, _≤_, _<_};
 ghost use mathlib.Core.List.{_++_};
 ghost use lib.ListN.{length, replicate};
@@ -17,7 +17,7 @@ ghost use Rattle.dir_block_rules.specs.Change.{longest, gap-start-before, gap-e
 ghost use Rattle.dir_block_laws.specs.Tiled.{Ready, Tiled};
 ghost use Rattle.dir_block_laws.specs.SlotIndex.{Spot};
 ghost use Rattle.dir_block_laws.specs.Pass.{Entry-at, Inside, Scanned};
-ghost use Rattle.dir_block_scan.specs.Table.{table};
+ghost use Rattle.dir_block_scan.specs.Table.{top};
 ghost use Rattle.dir_block_edit.specs.Chosen.{chosen};
 ghost use Rattle.dir_block_edit.specs.Refusal.{asked-of};
 use dir::Target;
@@ -70,13 +70,22 @@ fn joined_end(e: Edition, b: &[u8], end: usize, o: usize, u: usize) -> usize
     u + n
 }
 
-// The entry at `at`, whose slot has the index given, and the gaps beside it become one gap; the slot goes stale.
-fn free_entry(e: Edition, b: &mut [u8], end: usize, slot: usize, at: usize, name: &[u8])
+// Bytes of the data: where they start, and where they end.
+struct Span {
+    start: usize,
+    end: usize,
+}
+
+// The entry at `at`, whose slot has the index given, and the gaps beside it become one gap; the slot goes stale. Where that gap lies.
+fn free_entry(e: Edition, b: &mut [u8], end: usize, slot: usize, at: usize, name: &[u8]) -> Span
     requires { ⌜ Sane e × Ready e (now b) ⌝ }
     requires { ⌜ end ≡ data-end (now b) ⌝ }
     requires { ⌜ (sought e (now b) (now name) .hit ≡ true)
         × ((sought e (now b) (now name) .index ≡ slot) × (sought e (now b) (now name) .at ≡ at)) ⌝ }
-    ensures { λ _. ⌜ now (b .exit) ≡ written (now (b .entry)) (remove-writes e (now (b .entry)) (now (name .entry))) ⌝ }
+    ensures { λ r. ⌜ now (b .exit) ≡ written (now (b .entry)) (remove-writes e (now (b .entry)) (now (name .entry))) ⌝ }
+    ensures { λ r. ⌜ (r .start ≤ r .end)
+        × ((r .start ≡ gap-start-before at (gaps (records e (now (b .entry)))))
+        × (r .end ≡ gap-end-after (at + entry-size e (length (now (name .entry)))) (gaps (records e (now (b .entry)))))) ⌝ }
 {
     let n = b.len();
     let k = be::be8(&b[..], at + 8);
@@ -87,6 +96,7 @@ fn free_entry(e: Edition, b: &mut [u8], end: usize, slot: usize, at: usize, name
     put_gap(b, o, u - o);
     be::put32(b, end + 8 * slot + 4, 0);
     be::put32(b, n - 4, s + 1);
+    Span { start: o, end: u }
 }
 
 // The removal of a name that was found.
@@ -98,21 +108,23 @@ fn remove_found(e: Edition, b: &mut [u8], end: usize, slot: usize, at: usize, na
     requires { ⌜ fixed-name (now name) ≡ false ⌝ }
     ensures { λ _. ⌜ now (b .exit) ≡ changed e (now (b .entry)) (remove-writes e (now (b .entry)) (now (name .entry))) ⌝ }
 {
-    free_entry(e, b, end, slot, at, name);
-    dir_block_scan::best_table(e, b);
+    let s = dir_block_scan::stored(e, &b[..]);
+    let g = free_entry(e, b, end, slot, at, name);
+    dir_block_scan::joined_table(e, b, s, g.start, g.end);
 }
 
-// The removal of a legal name other than "." and "..": 0, or 13 if it is absent.
-fn remove_ready(e: Edition, b: &mut [u8], name: &[u8]) -> usize
+// The removal of a legal name other than "." and "..", whose hash is h: 0, or 13 if it is absent.
+fn remove_ready(e: Edition, b: &mut [u8], name: &[u8], h: usize) -> usize
     requires { ⌜ Sane e × Ready e (now b) ⌝ }
     requires { ⌜ (legal-name e (now name) ≡ true) × (fixed-name (now name) ≡ false) ⌝ }
+    requires { ⌜ h ≡ hash-of e (now name) ⌝ }
     ensures { λ r. ⌜ (r ≡ remove-code e (now (b .entry)) (now (name .entry)))
         × (now (b .exit) ≡ remove-bytes e (now (b .entry)) (now (name .entry))) ⌝ }
 {
     let n = b.len();
     let c = be::be32(&b[..], n - 8);
     let end = n - 8 - 8 * c;
-    let f = dir_block_lookup::seek(e, &b[..], end, c, name);
+    let f = dir_block_lookup::seek(e, &b[..], end, c, name, h);
     let hit = f.hit;
     if hit {
         remove_found(e, b, end, f.index, f.at, name);
@@ -278,7 +290,7 @@ fn choose_cd(
     requires { ⌜ Sane e × Ready e (now b) ⌝ }
     requires { ⌜ (end ≡ data-end (now b)) × ((count ≡ count-of (now b)) × (0 ≡ stale-of (now b))) ⌝ }
     requires { ⌜ Spot (now b) h p ⌝ }
-    requires { ⌜ Scanned e (now b) (table g) (g .tat) (g .tlen) ⌝ }
+    requires { ⌜ Scanned e (now b) (top g) (g .tat) (g .tlen) ⌝ }
     requires { ⌜ (longest (other-gaps (room-of e (now b) (now name))) .off ≡ o)
         × (size (longest (other-gaps (room-of e (now b) (now name)))) ≡ l) ⌝ }
     requires { ⌜ (h ≡ hash-of e (now name)) × ((need ≡ entry-size e (length (now name))) × (length (now name) < 256)) ⌝ }
@@ -317,7 +329,7 @@ fn choose_ab(
     requires { ⌜ Sane e × Ready e (now b) ⌝ }
     requires { ⌜ (end ≡ data-end (now b)) × ((count ≡ count-of (now b)) × ((stale ≡ stale-of (now b)) × (0 < stale))) ⌝ }
     requires { ⌜ Spot (now b) h p ⌝ }
-    requires { ⌜ Scanned e (now b) (table g) (g .tat) (g .tlen) ⌝ }
+    requires { ⌜ Scanned e (now b) (top g) (g .tat) (g .tlen) ⌝ }
     requires { ⌜ (h ≡ hash-of e (now name)) × ((need ≡ entry-size e (length (now name))) × (length (now name) < 256)) ⌝ }
     ensures { λ r. ⌜ (r ≡ has-room e (now (b .entry)) (now (name .entry))) × (now (b .exit) ≡ chosen e r (now (b .entry)) (now (name .entry)) to) ⌝ }
 {
@@ -336,7 +348,7 @@ fn choose_ab(
     false
 }
 
-// The room rule: an entry and its slot are put in, if there is room.
+// The room rule: an entry and its slot, with the hash h, are put in, if there is room.
 fn choose(
     e: Edition,
     b: &mut [u8],
@@ -345,15 +357,15 @@ fn choose(
     stale: usize,
     to: Target,
     name: &[u8],
+    h: usize,
 ) -> bool
     requires { ⌜ Sane e × Ready e (now b) ⌝ }
     requires { ⌜ (end ≡ data-end (now b)) × ((count ≡ count-of (now b)) × (stale ≡ stale-of (now b))) ⌝ }
-    requires { ⌜ length (now name) < 256 ⌝ }
+    requires { ⌜ (h ≡ hash-of e (now name)) × (length (now name) < 256) ⌝ }
     ensures { λ r. ⌜ (r ≡ has-room e (now (b .entry)) (now (name .entry))) × (now (b .exit) ≡ chosen e r (now (b .entry)) (now (name .entry)) to) ⌝ }
 {
-    let g = dir_block_scan::pass(e, &b[..], end);
+    let g = dir_block_scan::known(e, &b[..], end);
     let need = edition::entry_size(e, name.len());
-    let h = name::hash(e, name);
     let p = dir_block_index::spot(e, &b[..], end, count, h);
     if 0 < stale {
         return choose_ab(e, b, end, count, stale, p, g, h, need, to, name);
@@ -364,10 +376,12 @@ fn choose(
     choose_cd(e, b, end, count, p, g, g.o1, g.l1, h, need, to, name)
 }
 
-// The insert of a legal name other than "." and "..", with a legal number and type: 0, or 14 if it is there, or 15 if there is no room.
-fn insert_ready(e: Edition, b: &mut [u8], to: Target, name: &[u8]) -> usize
+// The insert of a legal name other than "." and "..", whose hash is h, with a legal number and type: 0, or 14 if it is there, or 15 if
+// there is no room.
+fn insert_ready(e: Edition, b: &mut [u8], to: Target, name: &[u8], h: usize) -> usize
     requires { ⌜ Sane e × Ready e (now b) ⌝ }
     requires { ⌜ (legal-name e (now name) ≡ true) × ((legal-target e to ≡ true) × ((fixed-name (now name) ≡ false) × (bytes (now name) ≡ true))) ⌝ }
+    requires { ⌜ h ≡ hash-of e (now name) ⌝ }
     ensures { λ r. ⌜ (r ≡ insert-code e (now (b .entry)) (now (name .entry)) to)
         × (now (b .exit) ≡ insert-bytes e (now (b .entry)) (now (name .entry)) to) ⌝ }
 {
@@ -375,28 +389,25 @@ fn insert_ready(e: Edition, b: &mut [u8], to: Target, name: &[u8]) -> usize
     let c = be::be32(&b[..], n - 8);
     let s = be::be32(&b[..], n - 4);
     let end = n - 8 - 8 * c;
-    let f = dir_block_lookup::seek(e, &b[..], end, c, name);
+    let f = dir_block_lookup::seek(e, &b[..], end, c, name, h);
     let hit = f.hit;
     if hit {
         return refusal::EXISTS;
     }
-    let done = choose(e, b, end, c, s, to, name);
+    let t = dir_block_scan::stored(e, &b[..]);
+    let done = choose(e, b, end, c, s, to, name, h);
     if done {
-        dir_block_scan::best_table(e, b);
+        dir_block_scan::used_table(e, b, t, s, name.len());
         return 0;
     }
     refusal::NOROOM
 }
 
-// The refusals of a request that need no search: 11 if the name is not legal or number is false, 12; 0 if there is none.
-fn request(e: Edition, name: &[u8], number: bool) -> usize
-    requires { ⌜ Sane e ⌝ }
-    ensures { λ r. ⌜ r ≡ asked-of (legal-name e (now (name .entry)) && number) (fixed-name (now (name .entry))) 0 ⌝ }
+// The refusals of a request that need no search: 11 if it is not legal, 12; 0 if there is none.
+fn request(name: &[u8], legal: bool) -> usize
+    ensures { λ r. ⌜ r ≡ asked-of legal (fixed-name (now (name .entry))) 0 ⌝ }
 {
-    if !name::legal(e, name) {
-        return refusal::ASKED;
-    }
-    if !number {
+    if !legal {
         return refusal::ASKED;
     }
     if name::fixed(name) {
@@ -415,12 +426,13 @@ fn insert_in(e: Edition, b: &mut [u8], name: &[u8], to: Target) -> usize
     if t != 0 {
         return t;
     }
+    let asked = name::legal(e, name);
     let legal = dir::target_legal(e, to);
-    let refused = request(e, name, legal);
+    let refused = request(name, asked & legal);
     if refused != 0 {
         return refused;
     }
-    insert_ready(e, b, to, name)
+    insert_ready(e, b, to, name, name::hash(e, name))
 }
 
 // Removal in a block of an edition.
@@ -433,11 +445,11 @@ fn remove_in(e: Edition, b: &mut [u8], name: &[u8]) -> usize
     if k != 0 {
         return k;
     }
-    let refused = request(e, name, true);
+    let refused = request(name, name::legal(e, name));
     if refused != 0 {
         return refused;
     }
-    remove_ready(e, b, name)
+    remove_ready(e, b, name, name::hash(e, name))
 }
 
 // Insert in a block of the V4 edition: 0, or the number of the refusal.

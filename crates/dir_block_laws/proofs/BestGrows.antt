@@ -38,7 +38,8 @@ longest-more (x ∷ xs) g h =
     (λ q. rw (e, q) (rw (le-ltb (size x) (size g) (omega (arith, leb-true (size (longest xs)) (size x) q, ltb-false (size (longest xs)) (size g) p)))))
     (λ q. rw (e, q) (rw p)))
 
-take-best : (k : ℕ) (gs : List Rec) → take k (best-of (suc k) gs) ≡ best-of k gs
+-- a shorter table is the longer one's front
+pub take-best : (k : ℕ) (gs : List Rec) → take k (best-of (suc k) gs) ≡ best-of k gs
 unfolding best-of
 take-best zero gs = refl
 take-best (suc k) [] = ap (λ (l : List Pair). pair 0 0 ∷ l) (take-best k [])

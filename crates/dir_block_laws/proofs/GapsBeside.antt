@@ -28,7 +28,7 @@ use Rattle.dir_block_rules.proofs.LookupFinds.{spot, at-spot}
 use Rattle.dir_block_rules.proofs.RemoveWrites.{before-gap, before-entry, after-gap, after-entry, after-end}
 use Rattle.dir_block_rules.proofs.RemoveAccepted.{snoc}
 use Rattle.dir_block_laws.specs.Tiled.{Tiled, Ready}
-use Rattle.dir_block_laws.specs.Pass.{Entry-at}
+use Rattle.dir_block_laws.specs.Pass.{Entry-at, Place}
 use Rattle.dir_block_laws.proofs.RecordSteps.{Here, here, none-left, laid-all, end-fits}
 use Rattle.dir_block_laws.proofs.RecordPass.{says-gap, says-entry}
 use Rattle.dir_block_laws.proofs.SlotSearch.{tiled, length-slots}
@@ -42,6 +42,46 @@ module _ (e : Edition) (b : List ℕ) (t : Tiled e b) where
       let d : drop (o + size y - 2) b ≡ drop (size y - 2) (y .raw) ++ v .rest =
       ap (λ (k : ℕ). drop k b) (sym p) ∙ sym (drop-drop (size y - 2) o b) ∙ ap (drop (size y - 2)) (v .raw-is) ∙ drop-append-le (size y - 2) (y .raw) (v .rest) (omega arith) in
       ap (λ (l : List ℕ). be (take 2 l)) d ∙ ap be (take-at (drop (size y - 2) (y .raw)) (v .rest) 2 (simp length-drop (omega arith))) ∙ v .is-whole .tagged ∙ v .off-is
+
+  -- before a place
+  module _ (o : ℕ) (w : Place e b o) where
+    -- the record before, if there is one
+    prior : e .header < o → (xs : List Rec) × (x : Rec) × (w .before ≡ xs ++ (x ∷ [])) × (last-gap? false (w .before) ≡ is-gap x)
+    prior h = go (w .before) refl
+      where
+        go : (ws : List Rec) → w .before ≡ ws → (xs : List Rec) × (x : Rec) × (w .before ≡ xs ++ (x ∷ [])) × (last-gap? false (w .before) ≡ is-gap x)
+        go [] y = absurd (omega (arith, w .place, ap (λ (m : List Rec). length (join m)) y))
+        go (z ∷ zs) y =
+            let r = snoc z zs in
+            (r .0 .before, r .0 .here, y ∙ r .0 .is ∙ ap (λ (m : List Rec). r .0 .before ++ (r .0 .here ∷ m)) (r .1), ap (last-gap? false) y ∙ r .2 false)
+
+    -- its place, and what it says
+    pub record Prior (p : ℕ) : Type 0 where
+      pub xs : List Rec
+      pub x : Rec
+      pub is : w .before ≡ xs ++ (x ∷ [])
+      pub last : last-gap? false (w .before) ≡ is-gap x
+      pub at-it : Here e b t xs x (w .behind) p
+      pub ends : p + size x ≡ o
+      pub from : e .header + length (join xs) ≡ p
+
+    pub prior-at : (p : ℕ) → e .header < o → field (o - 2) 2 b ≡ p → Prior p
+    prior-at p h f =
+        let r = prior h in
+        let k : ℕ = e .header + length (join (r .0)) in
+        let q : records e b ≡ r .0 ++ (r .1 ∷ w .behind) = w .all ∙ ap (λ (m : List Rec). m ++ w .behind) (r .2) ∙ append-assoc (r .0) (r .1 ∷ []) (w .behind) in
+        let v : Here e b t (r .0) (r .1) (w .behind) k = here e b t (r .0) (r .1) (w .behind) k q refl in
+        let en : k + size (r .1) ≡ o = sym (v .place) ∙ ap (λ (m : List Rec). e .header + length (join m)) (sym (r .2)) ∙ w .place in
+        let kp : k ≡ p = sym (tag-at (r .0) (r .1) (w .behind) k v) ∙ ap (λ (m : ℕ). field (m - 2) 2 b) en ∙ f in
+        record {
+          xs = r .0;
+          x = r .1;
+          is = r .2;
+          last = r .3;
+          at-it = subst (λ (m : ℕ). Here e b t (r .0) (r .1) (w .behind) m) kp v;
+          ends = ap (λ (m : ℕ). m + size (r .1)) (sym kp) ∙ en;
+          from = kp;
+        }
 
   module _ (o : ℕ) (w : Entry-at e b o) where
     at-entry : Here e b t (w .before) (w .entry) (w .behind) o
@@ -116,48 +156,11 @@ module _ (e : Edition) (b : List ℕ) (t : Tiled e b) where
     before-read : gap-start-before o (gaps (records e b)) ≡ gap-start-before (e .header + length (join (w .before))) (gaps (w .before ++ (w .entry ∷ w .behind)))
     before-read = ap₂ (λ (k : ℕ) (l : List Rec). gap-start-before k (gaps l)) (sym (w .place)) (w .all)
 
+    abbrev pub entry-place : Place e b o
+    entry-place = record { before = w .before; behind = w .entry ∷ w .behind; all = w .all; place = w .place }
+
     laid-one : Laid e (e .header) (w .before ++ (w .entry ∷ w .behind))
     laid-one = subst (λ (l : List Rec). Laid e (e .header) l) (w .all) (laid-all e b t)
-
-    -- the record before, if there is one
-    prior : e .header < o → (xs : List Rec) × (x : Rec) × (w .before ≡ xs ++ (x ∷ [])) × (last-gap? false (w .before) ≡ is-gap x)
-    prior h = go (w .before) refl
-      where
-        go : (ws : List Rec) → w .before ≡ ws → (xs : List Rec) × (x : Rec) × (w .before ≡ xs ++ (x ∷ [])) × (last-gap? false (w .before) ≡ is-gap x)
-        go [] y = absurd (omega (arith, w .place, ap (λ (m : List Rec). length (join m)) y))
-        go (z ∷ zs) y =
-            let r = snoc z zs in
-            (r .0 .before, r .0 .here, y ∙ r .0 .is ∙ ap (λ (m : List Rec). r .0 .before ++ (r .0 .here ∷ m)) (r .1), ap (last-gap? false) y ∙ r .2 false)
-
-    -- its place, and what it says
-    pub record Prior (p : ℕ) : Type 0 where
-      pub xs : List Rec
-      pub x : Rec
-      pub is : w .before ≡ xs ++ (x ∷ [])
-      pub last : last-gap? false (w .before) ≡ is-gap x
-      pub at-it : Here e b t xs x (w .entry ∷ w .behind) p
-      pub ends : p + size x ≡ o
-      pub from : e .header + length (join xs) ≡ p
-
-    pub prior-at : (p : ℕ) → e .header < o → field (o - 2) 2 b ≡ p → Prior p
-    prior-at p h f =
-        let r = prior h in
-        let xs : List Rec = r .0 in
-        let x : Rec = r .1 in
-        let k : ℕ = e .header + length (join (r .0)) in
-        let q : records e b ≡ r .0 ++ (r .1 ∷ (w .entry ∷ w .behind)) = w .all ∙ ap (λ (m : List Rec). m ++ (w .entry ∷ w .behind)) (r .2) ∙ append-assoc (r .0) (r .1 ∷ []) (w .entry ∷ w .behind) in
-        let v : Here e b t (r .0) (r .1) (w .entry ∷ w .behind) (e .header + length (join (r .0))) = here e b t (r .0) (r .1) (w .entry ∷ w .behind) (e .header + length (join (r .0))) q refl in
-        let en : e .header + length (join (r .0)) + size (r .1) ≡ o = sym (v .place) ∙ ap (λ (m : List Rec). e .header + length (join m)) (sym (r .2)) ∙ w .place in
-        let kp : e .header + length (join (r .0)) ≡ p = sym (tag-at (r .0) (r .1) (w .entry ∷ w .behind) (e .header + length (join (r .0))) v) ∙ ap (λ (m : ℕ). field (m - 2) 2 b) en ∙ f in
-        record {
-          xs = r .0;
-          x = r .1;
-          is = r .2;
-          last = r .3;
-          at-it = subst (λ (m : ℕ). Here e b t (r .0) (r .1) (w .entry ∷ w .behind) m) kp v;
-          ends = ap (λ (m : ℕ). m + size (r .1)) (sym kp) ∙ en;
-          from = kp;
-        }
 
     pub before-none : o ≡ e .header → gap-start-before o (gaps (records e b)) ≡ o
     before-none h = go (w .before) refl
@@ -168,7 +171,7 @@ module _ (e : Edition) (b : List ℕ) (t : Tiled e b) where
             let l : Laid e (e .header) (z ∷ zs) = subst (λ (m : List Rec). Laid e (e .header) m) y (laid-front e (e .header) (w .before) (w .entry ∷ w .behind) laid-one) in
             absurd (omega (arith, w .place, ap (λ (m : List Rec). length (join m)) y, length-append (z .raw) (join zs), l .1 .least))
 
-    pub before-is-gap : (p : ℕ) → Prior p → field p 2 b ≡ 65535 → gap-start-before o (gaps (records e b)) ≡ p
+    pub before-is-gap : (p : ℕ) → Prior o entry-place p → field p 2 b ≡ 65535 → gap-start-before o (gaps (records e b)) ≡ p
     before-is-gap p r g =
         let gp : is-gap (r .x) ≡ true = r .at-it .gap-is ∙ eq-eqb (field p 2 b) 65535 g in
         let l : records e b ≡ r .xs ++ (r .x ∷ (w .entry ∷ w .behind)) = r .at-it .is in
@@ -176,7 +179,7 @@ module _ (e : Edition) (b : List ℕ) (t : Tiled e b) where
         ap₂ (λ (k : ℕ) (m : List Rec). gap-start-before k (gaps m)) (sym en) l
         ∙ before-gap e (e .header) (r .xs) (r .x) (w .entry ∷ w .behind) (subst (λ (m : List Rec). Laid e (e .header) m) l (laid-all e b t)) gp ∙ r .from
 
-    pub before-is-entry : (p : ℕ) → Prior p → (field p 2 b ≡ 65535 → ⊥) → gap-start-before o (gaps (records e b)) ≡ o
+    pub before-is-entry : (p : ℕ) → Prior o entry-place p → (field p 2 b ≡ 65535 → ⊥) → gap-start-before o (gaps (records e b)) ≡ o
     before-is-entry p r g =
         let gp : is-gap (r .x) ≡ false = r .at-it .gap-is ∙ ne-eqb (field p 2 b) 65535 g in
         before-read ∙ before-entry e (e .header) (w .before) (w .entry ∷ w .behind) laid-one (r .last ∙ gp) ∙ w .place

@@ -157,16 +157,16 @@ second-best k gs p o l ps q = first-best k (besides (longest gs .off) gs) o l ps
         step : (hs : List Rec) → best-of (suc (suc k)) hs ≡ pair (longest hs .off) (size (longest hs)) ∷ best-of (suc k) (besides (longest hs .off) hs)
         step hs = best-tail (suc k) hs
 
-module _ (e : Edition) (b n : List ℕ) (i : Target) (o₁ l₁ o₂ l₂ o₃ l₃ u k s E : ℕ) (sc : Scanned e b (pair o₁ l₁ ∷ pair o₂ l₂ ∷ pair o₃ l₃ ∷ []) u k)
+module _ (e : Edition) (b n : List ℕ) (i : Target) (o₁ l₁ o₂ l₂ u k s E : ℕ) (sc : Scanned e b (pair o₁ l₁ ∷ pair o₂ l₂ ∷ []) u k)
     (se : s ≡ stale-of b) (ee : E ≡ entry-size e (length n)) where
   gs : List Rec
   gs = gaps (records e b)
 
   one : (longest (gaps (records e b)) .off ≡ o₁) × (size (longest (gaps (records e b))) ≡ l₁)
-  one = first-best 2 (gaps (records e b)) o₁ l₁ (pair o₂ l₂ ∷ pair o₃ l₃ ∷ []) (sc .best)
+  one = first-best 1 (gaps (records e b)) o₁ l₁ (pair o₂ l₂ ∷ []) (sc .best)
 
   two : (longest (besides (longest (gaps (records e b)) .off) (gaps (records e b))) .off ≡ o₂) × (size (longest (besides (longest (gaps (records e b)) .off) (gaps (records e b)))) ≡ l₂)
-  two = second-best 1 (gaps (records e b)) (pair o₁ l₁) o₂ l₂ (pair o₃ l₃ ∷ []) (sc .best)
+  two = second-best 0 (gaps (records e b)) (pair o₁ l₁) o₂ l₂ [] (sc .best)
 
   -- the longest gap other than T
   pub other-same : (o₁ ≡ u → ⊥) → (longest (other-gaps (room-of e b n)) .off ≡ o₁) × (size (longest (other-gaps (room-of e b n))) ≡ l₁)

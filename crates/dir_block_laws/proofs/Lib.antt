@@ -1,9 +1,14 @@
 pub mod BestGrows
+pub mod BestKnown
 pub mod RecordSteps
 pub mod RecordPass
 pub mod SlotSearch
 pub mod GapsBeside
+pub mod LastGap
 pub mod StoresTiled
+pub mod FewGaps
+pub mod JoinedGaps
+pub mod UsedGap
 pub mod EditAnswers
 pub mod IndexStores
 pub mod InsertStores

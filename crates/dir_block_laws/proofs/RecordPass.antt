@@ -6,7 +6,7 @@ use native.Mathlib.Omega.{arith}
 use mathlib.Core.Bool.{true, false}
 use mathlib.Core.Path.{_≡_, refl, sym, _∙_, ap, ap₂}
 use mathlib.Core.List.{List, [], _∷_, _++_, append-assoc, append-nil}
-use lib.ListN.{take, drop, getD}
+use lib.ListN.{length, take, drop, getD}
 use lib.Seq.{drop-drop, getD-drop}
 use borrow.Author.Tests.{eq-eqb, ne-eqb}
 use Rattle.dir_block_rules.proofs.InsertCases.{last-is}
@@ -21,17 +21,18 @@ use Rattle.dir_block_rules.specs.Verdict.{Pair, pair}
 use Rattle.dir_block_rules.specs.Change.{best-of}
 use Rattle.dir_block_rules.specs.Room.{last-of, touching}
 use Rattle.dir_block_rules.proofs.CutJoin.{Laid, laid-front}
+use Rattle.dir_block_rules.proofs.GoodParts.{length-best}
 use Rattle.dir_block_laws.specs.Tiled.{Tiled}
 use Rattle.dir_block_laws.specs.BestSoFar.{ins}
 use Rattle.dir_block_laws.specs.Pass.{Passing, Scanned}
-use Rattle.dir_block_laws.proofs.BestGrows.{best-more, elsewhere}
+use Rattle.dir_block_laws.proofs.BestGrows.{best-more, take-best, elsewhere}
 use Rattle.dir_block_laws.proofs.RecordSteps.{Here, here, none-left, laid-elsewhere}
 
-touch-gap : (o : ℕ) (xs : List Rec) (y : Rec) → is-gap y ≡ true → touching o (xs ++ (y ∷ [])) ≡ y
+pub touch-gap : (o : ℕ) (xs : List Rec) (y : Rec) → is-gap y ≡ true → touching o (xs ++ (y ∷ [])) ≡ y
 unfolding touching
 touch-gap o xs y g = rw (last-is o xs y) (rw g)
 
-touch-entry : (o : ℕ) (xs : List Rec) (y : Rec) → is-gap y ≡ false → touching o (xs ++ (y ∷ [])) ≡ rec o []
+pub touch-entry : (o : ℕ) (xs : List Rec) (y : Rec) → is-gap y ≡ false → touching o (xs ++ (y ∷ [])) ≡ rec o []
 unfolding touching
 touch-entry o xs y g = rw (last-is o xs y) (rw g)
 
@@ -144,10 +145,22 @@ module _ (e : Edition) (b : List ℕ) (t : Tiled e b) where
           let r : records e b ≡ s .before = s .all ∙ ap (λ (l : List Rec). s .before ++ l) q ∙ append-nil (s .before) in
           let d : o ≡ data-end b = none-left e b t (s .before) o (s .all ∙ ap (λ (l : List Rec). s .before ++ l) q) (s .place) in
           record {
-            best = ap (λ (l : List Rec). best-of 3 (gaps l)) r ∙ s .best;
+            best = ap₂ (λ (n : ℕ) (l : List Rec). best-of n (gaps l)) (ap length (sym (s .best)) ∙ length-best 3 (gaps (s .before))) r ∙ s .best;
             touch-off = ap₂ (λ (p : ℕ) (l : List Rec). touching p l .off) (sym d) r ∙ s .touch-off;
             touch-size = ap₂ (λ (p : ℕ) (l : List Rec). size (touching p l)) (sym d) r ∙ s .touch-size;
             touch-end = s .touch-end ∙ d;
             touch-from = s .touch-from;
             touch-mod = s .touch-mod;
           }
+
+-- the two longest gaps of three
+pub seen-two : {e : Edition} {b : List ℕ} {p q r : Pair} {u k : ℕ} → Scanned e b (p ∷ q ∷ r ∷ []) u k → Scanned e b (p ∷ q ∷ []) u k
+seen-two {e} {b} s =
+    record {
+      best = sym (take-best 2 (gaps (records e b))) ∙ ap (take 2) (s .best);
+      touch-off = s .touch-off;
+      touch-size = s .touch-size;
+      touch-end = s .touch-end;
+      touch-from = s .touch-from;
+      touch-mod = s .touch-mod;
+    }

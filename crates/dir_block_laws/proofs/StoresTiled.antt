@@ -61,7 +61,7 @@ module _ (e : Edition) (w v : List ℕ) (long-same : length v ≡ length w) (sam
     unfolding data-end
     end-same = ap₂ (λ (n c : ℕ). n - 8 - 8 * c) long-same count-same
 
-    records-same : records e v ≡ records e w
+    pub records-same : records e v ≡ records e w
     unfolding records
     records-same =
         ap₂ (λ (n m : ℕ). cut e n (e .header) (part (e .header) (m - e .header) v)) long-same end-same
@@ -98,6 +98,12 @@ module _ (e : Edition) (sane : Sane e) (b : List ℕ) (ws : List Write) where
   tiled-changed by a =
       let p : Passed e (changed e b ws) = passed e (changed e b ws) a in
       tiled-written e (written b ws) (changed e b ws) changed-long changed-behind by (p .size) (p .span) (p .tile)
+
+  -- and the table changes no record
+  pub records-changed : bytes (written b ws) ≡ true → Accepted e (changed e b ws) → records e (changed e b ws) ≡ records e (written b ws)
+  records-changed by a =
+      let p : Passed e (changed e b ws) = passed e (changed e b ws) a in
+      records-same e (written b ws) (changed e b ws) changed-long changed-behind by (p .size) (p .span) (p .tile)
 
   -- the code's stores: the writes, then the table
   pub stores-changed : (c d : List ℕ) → c ≡ written b ws → d ≡ with-best e c → d ≡ changed e b ws

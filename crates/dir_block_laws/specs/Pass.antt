@@ -29,9 +29,9 @@ pub record Passing (e : Edition) (b : List ℕ) (o : ℕ) (ps : List Pair) (u k 
   pub touch-from : e .header ≤ u
   pub touch-mod : k % 8 ≡ 0
 
--- what the pass shows: the three longest gaps, and T
+-- what a pass shows: the longest gaps, as many as there are pairs, and T
 pub record Scanned (e : Edition) (b : List ℕ) (ps : List Pair) (u k : ℕ) : Type 0 where
-  pub best : best-of 3 (gaps (records e b)) ≡ ps
+  pub best : best-of (length ps) (gaps (records e b)) ≡ ps
   pub touch-off : touching (data-end b) (records e b) .off ≡ u
   pub touch-size : size (touching (data-end b) (records e b)) ≡ k
   pub touch-end : u + k ≡ data-end b

@@ -5,7 +5,7 @@ ghost use Prim.Native.Nat.{_+_, _≤_};
 ghost use lib.ListN.{length, take, drop};
 ghost use Rattle.be.specs.Bytes.{byte};
 ghost use Rattle.edition.specs.Edition.{v4, Sane};
-ghost use Rattle.name.specs.Name.{legal-name, same-name};
+ghost use Rattle.name.specs.Name.{hash-of, legal-name, same-name};
 ghost use Rattle.dir_block_rules.specs.Block.{records, data-end, count-of, slots};
 ghost use Rattle.dir_block_rules.specs.Lookup.{sought, name-at, target-at, lookup, Lookup-promise};
 ghost use Rattle.dir_block_rules.specs.Walk.{is-place, walk-step, Step-promise};
@@ -72,13 +72,13 @@ pub struct Hit {
     pub compared: usize,
 }
 
-// The search for a name: the run of slots with its hash, up to the slot whose entry has the name.
-pub fn seek(e: Edition, b: &[u8], end: usize, count: usize, name: &[u8]) -> Hit
+// The search for a name: the run of slots with its hash h, up to the slot whose entry has the name.
+pub fn seek(e: Edition, b: &[u8], end: usize, count: usize, name: &[u8], h: usize) -> Hit
     requires { ⌜ Sane e × Ready e (now b) ⌝ }
     requires { ⌜ (end ≡ data-end (now b)) × (count ≡ count-of (now b)) ⌝ }
+    requires { ⌜ h ≡ hash-of e (now name) ⌝ }
     ensures { λ r. ⌜ sought e (now (b .entry)) (now (name .entry)) ≡ as-sought r ⌝ }
 {
-    let h = name::hash(e, name);
     let mut i = first_slot(e, b, end, count, h);
     let mut c = 0;
     while i < count {
@@ -121,15 +121,15 @@ pub fn end_of_data(e: Edition, b: &[u8]) -> usize
     n - 8 - 8 * be::be32(b, n - 8)
 }
 
-// The lookup of a legal name in a tested block.
-fn lookup_ready(e: Edition, b: &[u8], name: &[u8]) -> Looked
+// The lookup of a legal name, whose hash is h, in a tested block.
+fn lookup_ready(e: Edition, b: &[u8], name: &[u8], h: usize) -> Looked
     requires { ⌜ Sane e × Ready e (now b) ⌝ }
-    requires { ⌜ legal-name e (now name) ≡ true ⌝ }
+    requires { ⌜ (legal-name e (now name) ≡ true) × (h ≡ hash-of e (now name)) ⌝ }
     ensures { λ r. ⌜ r ≡ lookup e (now (b .entry)) (now (name .entry)) ⌝ }
 {
     let n = b.len();
     let count = be::be32(b, n - 8);
-    let s = seek(e, b, n - 8 - 8 * count, count, name);
+    let s = seek(e, b, n - 8 - 8 * count, count, name, h);
     let hit = s.hit;
     if hit {
         let at = s.at;
@@ -156,7 +156,7 @@ fn lookup_in(e: Edition, b: &[u8], name: &[u8]) -> Looked
     if !name::legal(e, name) {
         return Looked::Refused(refusal::ASKED);
     }
-    lookup_ready(e, b, name)
+    lookup_ready(e, b, name, name::hash(e, name))
 }
 
 // The lookup of a name in a block of the V4 edition.

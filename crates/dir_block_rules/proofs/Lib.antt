@@ -11,6 +11,7 @@ pub mod SearchFinds
 pub mod BlockParts
 pub mod Acceptance
 pub mod BestTable
+pub mod StoredPairs
 pub mod Sealing
 pub mod GoodParts
 pub mod AcceptedParts

@@ -92,11 +92,12 @@ module _ (e : Edition) (sane : Sane e) (b : List ℕ) (h : bytes b ≡ true) (a 
   c : List ℕ
   c = freed e sane b h a p
 
-  o-is : gap-start-before (sought e b n .at) (gaps (records e b)) ≡ o
-  unfolding o F
+  -- where the joined gap starts and ends
+  pub o-is : gap-start-before (sought e b n .at) (gaps (records e b)) ≡ from e sane b h a p
+  unfolding F
   o-is = ap₂ (λ (m : ℕ) (l : List Rec). gap-start-before m (gaps l)) (fa ∙ here .0) q ∙ F .start
 
-  u-is : gap-end-after (sought e b n .at + entry-size e (length n)) (gaps (records e b)) ≡ o + length c
+  pub u-is : gap-end-after (sought e b n .at + entry-size e (length n)) (gaps (records e b)) ≡ from e sane b h a p + length (freed e sane b h a p)
   unfolding o c F B
   u-is =
       let all : records e b ≡ (xs ++ (r ∷ [])) ++ ys = q ∙ sym (append-assoc xs (r ∷ []) ys) in
@@ -106,7 +107,7 @@ module _ (e : Edition) (sane : Sane e) (b : List ℕ) (h : bytes b ≡ true) (a 
       let start : sought e b n .at + entry-size e (length n) ≡ e .header + length (join (xs ++ (r ∷ []))) = omega (arith, fa, here .0, jl, long-r) in
       ap₂ (λ (m : ℕ) (l : List Rec). gap-end-after m (gaps l)) start all ∙ B .stop ∙ omega (arith, jl, xl, cl)
 
-  same-writes : free-writes e sane b h a p ≡ remove-writes e b n
+  pub same-writes : free-writes e sane b h a p ≡ remove-writes e b n
   unfolding remove-writes o c
   same-writes =
       sym (ap₂ (λ (x y : ℕ). gap-writes x (y - x) ++ (write (data-end b + 8 * sought e b n .index + 4) (to-be 4 0) ∷ write (length b - 4) (to-be 4 (stale-of b + 1)) ∷ [])) o-is u-is
@@ -183,22 +184,38 @@ module _ (e : Edition) (sane : Sane e) (b : List ℕ) (h : bytes b ≡ true) (a 
     pub tag-found : sought e b n .at ≡ tag (spot .here)
     tag-found = at-spot ∙ sym (entry-tag e sane b h a spot)
 
-    pub removed-of : fixed-name n ≡ false → Removed e b n (changed e b (remove-writes e b n))
+    -- the entry found and its slot, if the name is not fixed
+    pub record Found-removable : Type 0 where
+      pub removable : Removable e b
+      pub of-name : same-name e n (name (removable .entry)) ≡ true
+      pub at-is : sought e b n .at ≡ removable .entry .off
+      pub index-is : sought e b n .index ≡ length (removable .slots-before)
+
+    pub found-removable : fixed-name n ≡ false → Found-removable
     unfolding spot
-    removed-of fx =
+    found-removable fx =
         let t : Split (entries (records e b)) = owned .0 .split in
         let k : Found-in is-entry (records e b) (t .before) (t .here) (t .behind) = keep-find is-entry (records e b) (t .before) (t .here) (t .behind) (t .is) in
-        let p : Removable e b = record {
-          before = k .before;
-          entry = t .here;
-          behind = k .behind;
-          record-is = k .is;
-          no-gap = k .passes;
-          not-fixed = sym (same-name-fixed e n (name (t .here)) (owned .1)) ∙ fx;
-          slots-before = first .split .before;
-          own = first .split .here;
-          slots-behind = first .split .behind;
-          slot-is = first .split .is;
-          addr-is = sym (owned .0 .addr-is);
-        } in
-        removed-at e sane b h a p n (owned .1) at-spot (first .index-is ∙ zero-add (length (first .split .before)))
+        record {
+          removable = record {
+            before = k .before;
+            entry = t .here;
+            behind = k .behind;
+            record-is = k .is;
+            no-gap = k .passes;
+            not-fixed = sym (same-name-fixed e n (name (t .here)) (owned .1)) ∙ fx;
+            slots-before = first .split .before;
+            own = first .split .here;
+            slots-behind = first .split .behind;
+            slot-is = first .split .is;
+            addr-is = sym (owned .0 .addr-is);
+          };
+          of-name = owned .1;
+          at-is = at-spot;
+          index-is = first .index-is ∙ zero-add (length (first .split .before));
+        }
+
+    pub removed-of : fixed-name n ≡ false → Removed e b n (changed e b (remove-writes e b n))
+    removed-of fx =
+        let f : Found-removable = found-removable fx in
+        removed-at e sane b h a (f .removable) n (f .of-name) (f .at-is) (f .index-is)

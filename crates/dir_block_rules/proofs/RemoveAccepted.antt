@@ -193,16 +193,16 @@ module _ (e : Edition) (sane : Sane e) (b : List ℕ) (h : bytes b ≡ true) (a 
   free-writes = gap-writes from (length freed) ++ (write (data-end b + 8 * length us + 4) (to-be 4 0) ∷ write (length b - 4) (to-be 4 (stale-of b + 1)) ∷ [])
 
   -- all the records in order
-  all-records : records e b ≡ fr .rest ++ ((fr .gap ++ (r ∷ bk .gap)) ++ bk .rest)
+  pub all-records : records e b ≡ fr .rest ++ ((fr .gap ++ (r ∷ bk .gap)) ++ bk .rest)
   all-records = q ∙ ap₂ (λ (m k : List Rec). m ++ (r ∷ k)) (fr .is) (bk .is) ∙ simp append-assoc
 
-  freed-is : join (fr .gap ++ (r ∷ bk .gap)) ≡ freed
+  pub freed-is : join (fr .gap ++ (r ∷ bk .gap)) ≡ freed
   freed-is = join-append (fr .gap) (r ∷ bk .gap)
 
   middle : List Rec
   middle = fr .gap ++ (r ∷ bk .gap)
 
-  laid-mid : Laid e from ((fr .gap ++ (r ∷ bk .gap)) ++ bk .rest)
+  pub laid-mid : Laid e from ((fr .gap ++ (r ∷ bk .gap)) ++ bk .rest)
   laid-mid = place-of e sane b h a (fr .rest) (fr .gap ++ (r ∷ bk .gap)) (bk .rest) all-records
 
   freed-mod : length freed % 8 ≡ 0
@@ -221,7 +221,7 @@ module _ (e : Edition) (sane : Sane e) (b : List ℕ) (h : bytes b ≡ true) (a 
   gapful-freed : Gapful freed
   gapful-freed = gapful freed freed-mod
 
-  laid-left : Laid e (e .header) left
+  pub laid-left : Laid e (e .header) left
   laid-left =
       laid-append e (e .header) (fr .rest) (free from freed ++ bk .rest)
       (laid-front e (e .header) (fr .rest) ((fr .gap ++ (r ∷ bk .gap)) ++ bk .rest) (subst (λ (l : List Rec). Laid e (e .header) l) all-records (fit-of e sane b h a .laid)))

@@ -1,16 +1,21 @@
-// One pass over the records of a block: its three longest gaps, and the gap at the slots. And the best-gap table anew.
+// One pass over the records of a block: its three longest gaps, and the gap at the slots. What is known of them without a pass. And the
+// best-gap table anew.
 ghost use mathlib.Core.Path.{_≡_};
-ghost use Prim.Native.Nat.{_+_, _≤_, _<_};
+ghost use Prim.Native.Nat.{_+_, _-_, _≤_, _<_};
+ghost use mathlib.Core.Bool.{cond};
 ghost use lib.ListN.{length};
 ghost use Rattle.be.specs.Bytes.{put};
-ghost use Rattle.edition.specs.Edition.{Sane};
-ghost use Rattle.dir_block_rules.specs.Block.{data-end};
-ghost use Rattle.dir_block_rules.specs.Verdict.{pair};
-ghost use Rattle.dir_block_rules.specs.Change.{with-best, pair-bytes};
-ghost use Rattle.dir_block_laws.specs.Tiled.{Tiled};
+ghost use Rattle.edition.specs.Edition.{entry-size, Sane};
+ghost use Rattle.dir_block_rules.specs.Record.{gaps};
+ghost use Rattle.dir_block_rules.specs.Block.{records, data-end};
+ghost use Rattle.dir_block_rules.specs.Verdict.{pair, best-pairs};
+ghost use Rattle.dir_block_rules.specs.Change.{best-of, with-best, pair-bytes};
+ghost use Rattle.dir_block_laws.specs.Tiled.{Tiled, Ready};
+ghost use Rattle.dir_block_laws.specs.Falls.{falls};
 ghost use Rattle.dir_block_laws.specs.BestSoFar.{ins};
+ghost use Rattle.dir_block_laws.specs.JoinedTable.{empty-table, ins-behind, joined-table, used-table, in-order};
 ghost use Rattle.dir_block_laws.specs.Pass.{Passing, Scanned};
-ghost use Rattle.dir_block_scan.specs.Table.{table};
+ghost use Rattle.dir_block_scan.specs.Table.{table, top};
 use edition::Edition;
 
 // Where the pass stands; the three longest gaps so far, as offset and length; the gap that ends here (none: here, and 0).
@@ -26,15 +31,11 @@ pub struct Scan {
     pub tlen: usize,
 }
 
-// The pass over a gap of l bytes at o: the gap goes into the table, behind those that are as long.
-fn with_gap(s: Scan, o: usize, l: usize) -> Scan
-    requires { ⌜ o + l < 131072 ⌝ }
-    ensures { λ r. ⌜ (table r ≡ ins (pair o l) (table s)) × ((r .at ≡ o + l) × ((r .tat ≡ o) × (r .tlen ≡ l))) ⌝ }
+// A gap of l bytes at o goes into the table, behind those that are as long.
+fn with_pair(s: Scan, o: usize, l: usize) -> Scan
+    ensures { λ r. ⌜ table r ≡ ins (pair o l) (table s) ⌝ }
 {
     let mut r = s;
-    r.at = o + l;
-    r.tat = o;
-    r.tlen = l;
     if s.l1 < l {
         r.o1 = o;
         r.l1 = l;
@@ -56,6 +57,18 @@ fn with_gap(s: Scan, o: usize, l: usize) -> Scan
         r.l3 = l;
         return r;
     }
+    r
+}
+
+// The pass over a gap of l bytes at o.
+fn with_gap(s: Scan, o: usize, l: usize) -> Scan
+    requires { ⌜ o + l < 131072 ⌝ }
+    ensures { λ r. ⌜ (table r ≡ ins (pair o l) (table s)) × ((r .at ≡ o + l) × ((r .tat ≡ o) × (r .tlen ≡ l))) ⌝ }
+{
+    let mut r = with_pair(s, o, l);
+    r.at = o + l;
+    r.tat = o;
+    r.tlen = l;
     r
 }
 
@@ -89,14 +102,11 @@ fn step(e: Edition, b: &[u8], s: Scan) -> Scan
     with_entry(s, o, n)
 }
 
-// Over all records, up to the data's end.
-pub fn pass(e: Edition, b: &[u8], end: usize) -> Scan
-    requires { ⌜ Sane e × Tiled e (now b) ⌝ }
-    requires { ⌜ end ≡ data-end (now b) ⌝ }
-    ensures { λ r. ⌜ Scanned e (now (b .entry)) (table r) (r .tat) (r .tlen) ⌝ }
+// No gap, before a pass from o on.
+fn start(o: usize) -> Scan
+    ensures { λ r. ⌜ (table r ≡ empty-table) × ((r .at ≡ o) × ((r .tat ≡ o) × (r .tlen ≡ 0))) ⌝ }
 {
-    let o = e.header;
-    let mut s = Scan {
+    Scan {
         at: o,
         o1: 0,
         l1: 0,
@@ -106,11 +116,113 @@ pub fn pass(e: Edition, b: &[u8], end: usize) -> Scan
         l3: 0,
         tat: o,
         tlen: 0,
-    };
+    }
+}
+
+// Over all records, up to the data's end.
+pub fn pass(e: Edition, b: &[u8], end: usize) -> Scan
+    requires { ⌜ Sane e × Tiled e (now b) ⌝ }
+    requires { ⌜ end ≡ data-end (now b) ⌝ }
+    ensures { λ r. ⌜ Scanned e (now (b .entry)) (table r) (r .tat) (r .tlen) ⌝ }
+{
+    let mut s = start(e.header);
     while s.at < end {
         s = step(e, b, s);
     }
     s
+}
+
+// The pairs that the block stores.
+pub fn stored(e: Edition, b: &[u8]) -> Scan
+    requires { ⌜ Sane e × (e .header ≤ length (now b)) ⌝ }
+    ensures { λ r. ⌜ (table r ≡ best-pairs e (now (b .entry))) × ((r .o1 < 65536) × (r .o2 < 65536)) ⌝ }
+{
+    let o1 = be::be16(b, e.best);
+    let l1 = be::be16(b, e.best + 2);
+    let o2 = be::be16(b, e.best + 4);
+    let l2 = be::be16(b, e.best + 6);
+    let o3 = be::be16(b, e.best + 8);
+    let l3 = be::be16(b, e.best + 10);
+    Scan {
+        at: 0,
+        o1,
+        l1,
+        o2,
+        l2,
+        o3,
+        l3,
+        tat: 0,
+        tlen: 0,
+    }
+}
+
+// Whether the lengths fall: then no other gap is as long as either of the first two.
+fn falls(s: Scan) -> bool
+    ensures { λ r. ⌜ r ≡ falls (table s) ⌝ }
+{
+    ((s.l2 < s.l1) | (s.l1 == 0)) & ((s.l3 < s.l2) | (s.l2 == 0))
+}
+
+// The two longest gaps of s, with the gap at the slots: the last record starts where its tag says.
+fn with_last(e: Edition, b: &[u8], end: usize, s: Scan) -> Scan
+    requires { ⌜ Sane e × Tiled e (now b) ⌝ }
+    requires { ⌜ (end ≡ data-end (now b)) × (best-of 2 (gaps (records e (now b))) ≡ top s) ⌝ }
+    ensures { λ r. ⌜ Scanned e (now (b .entry)) (top r) (r .tat) (r .tlen) ⌝ }
+{
+    let mut r = s;
+    r.tat = end;
+    r.tlen = 0;
+    if end == e.header {
+        return r;
+    }
+    let p = be::be16(b, end - 2);
+    if be::be16(b, p) == 65535 {
+        r.tat = p;
+        r.tlen = end - p;
+    }
+    r
+}
+
+// The first two pairs in offset order.
+fn ordered(s: Scan) -> Scan
+    ensures { λ r. ⌜ (top r ≡ in-order (pair (s .o1) (s .l1)) (pair (s .o2) (s .l2)))
+        × ((r .o1 ≤ s .o1 + s .o2) × (r .o2 ≤ s .o1 + s .o2)) ⌝ }
+{
+    let mut r = s;
+    if s.o2 < s.o1 {
+        r.o1 = s.o2;
+        r.l1 = s.l2;
+        r.o2 = s.o1;
+        r.l2 = s.l1;
+    }
+    r
+}
+
+// The table of the first two pairs of s.
+fn both(s: Scan) -> Scan
+    ensures { λ r. ⌜ table r ≡ ins-behind 0 (in-order (pair (s .o1) (s .l1)) (pair (s .o2) (s .l2))) empty-table ⌝ }
+{
+    let d = ordered(s);
+    let t = with_pair(start(0), d.o1, d.l1);
+    with_pair(t, d.o2, d.l2)
+}
+
+// The two longest gaps of an accepted block, and the gap at the slots. Without a third pair the first two name all gaps. Else the stored
+// pairs may be in any order among equals, so a pass is made where two are as long; the third is no part of the answer: a gap that is not
+// stored may be as long.
+pub fn known(e: Edition, b: &[u8], end: usize) -> Scan
+    requires { ⌜ Sane e × Ready e (now b) ⌝ }
+    requires { ⌜ end ≡ data-end (now b) ⌝ }
+    ensures { λ r. ⌜ Scanned e (now (b .entry)) (top r) (r .tat) (r .tlen) ⌝ }
+{
+    let s = stored(e, b);
+    if s.l3 == 0 {
+        return with_last(e, b, end, both(s));
+    }
+    if falls(s) {
+        return with_last(e, b, end, s);
+    }
+    pass(e, b, end)
 }
 
 // Writes the table at o.
@@ -135,4 +247,88 @@ pub fn best_table(e: Edition, b: &mut [u8])
     let c = be::be32(&b[..], n - 8);
     let s = pass(e, &b[..], n - 8 - 8 * c);
     put_table(b, e.best, s);
+}
+
+// A gap of l bytes at o goes into the table, if it is to.
+fn with_some(s: Scan, put: bool, o: usize, l: usize) -> Scan
+    ensures { λ r. ⌜ table r ≡ cond put (ins (pair o l) (table s)) (table s) ⌝ }
+{
+    if put {
+        return with_pair(s, o, l);
+    }
+    s
+}
+
+// The table of the first two pairs of s, with one gap from o up to u in place of those that start there.
+fn joined(s: Scan, o: usize, u: usize) -> Scan
+    requires { ⌜ o ≤ u ⌝ }
+    ensures { λ r. ⌜ table r ≡ joined-table o u (in-order (pair (s .o1) (s .l1)) (pair (s .o2) (s .l2))) ⌝ }
+{
+    let d = ordered(s);
+    let t1 = with_some(start(0), d.o1 < o, d.o1, d.l1);
+    let t2 = with_some(t1, d.o2 < o, d.o2, d.l2);
+    let t3 = with_pair(t2, o, u - o);
+    let t4 = with_some(t3, u <= d.o1, d.o1, d.l1);
+    with_some(t4, u <= d.o2, d.o2, d.l2)
+}
+
+// The best-gap table anew, where s are the pairs stored before a gap from o up to u took the place of what was there. Without a third
+// pair the first two named all gaps, and no pass is made.
+pub fn joined_table(e: Edition, b: &mut [u8], s: Scan, o: usize, u: usize)
+    requires { ⌜ Sane e × Tiled e (now b) ⌝ }
+    requires { ⌜ o ≤ u ⌝ }
+    requires { ⌜ (s .l3 ≡ 0 → best-of 3 (gaps (records e (now b))) ≡ joined-table o u (in-order (pair (s .o1) (s .l1)) (pair (s .o2) (s .l2)))) ⌝ }
+    ensures { λ _. ⌜ now (b .exit) ≡ with-best e (now (b .entry)) ⌝ }
+{
+    if s.l3 == 0 {
+        let t = joined(s, o, u);
+        put_table(b, e.best, t);
+        return;
+    }
+    best_table(e, b);
+}
+
+// x - y, 0 if y is more.
+fn minus(x: usize, y: usize) -> usize
+    ensures { λ r. ⌜ r ≡ x - y ⌝ }
+{
+    if x < y {
+        return 0;
+    }
+    x - y
+}
+
+// The table of the first two pairs of s, with n bytes taken off the start of the longer one: the lower offset if they are as long.
+fn used(s: Scan, n: usize) -> Scan
+    requires { ⌜ (s .o1 < 65536) × ((s .o2 < 65536) × (n < 280)) ⌝ }
+    ensures { λ r. ⌜ table r ≡ used-table n (in-order (pair (s .o1) (s .l1)) (pair (s .o2) (s .l2))) ⌝ }
+{
+    let d = ordered(s);
+    let none = start(0);
+    if d.l2 <= d.l1 {
+        let l = minus(d.l1, n);
+        let t = with_pair(none, d.o1 + n, l);
+        return with_pair(t, d.o2, d.l2);
+    }
+    let l = minus(d.l2, n);
+    let t = with_pair(none, d.o1, d.l1);
+    with_pair(t, d.o2 + n, l)
+}
+
+// The best-gap table anew, where s are the pairs stored before an entry with a name of n bytes went in. Without a third pair the first
+// two named all gaps; with a stale slot the longest gap was used, if it was long enough. No pass is made then.
+pub fn used_table(e: Edition, b: &mut [u8], s: Scan, stale: usize, n: usize)
+    requires { ⌜ Sane e × Tiled e (now b) ⌝ }
+    requires { ⌜ (n < 256) × ((s .o1 < 65536) × (s .o2 < 65536)) ⌝ }
+    requires { ⌜ (s .l3 ≡ 0 → 0 < stale → entry-size e n ≤ s .l1
+        → best-of 3 (gaps (records e (now b))) ≡ used-table (entry-size e n) (in-order (pair (s .o1) (s .l1)) (pair (s .o2) (s .l2)))) ⌝ }
+    ensures { λ _. ⌜ now (b .exit) ≡ with-best e (now (b .entry)) ⌝ }
+{
+    let need = edition::entry_size(e, n);
+    if (s.l3 == 0) & (0 < stale) & (need <= s.l1) {
+        let t = used(s, need);
+        put_table(b, e.best, t);
+        return;
+    }
+    best_table(e, b);
 }

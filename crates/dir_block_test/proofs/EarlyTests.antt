@@ -7,7 +7,7 @@ use mathlib.Core.Bool.{Bool, true, false}
 use mathlib.Core.Path.{_≡_, sym, _∙_, ap, ap₂}
 use mathlib.Core.List.{List}
 use lib.Dec.{leb}
-use lib.ListN.{length, drop}
+use lib.ListN.{length, drop, replicate}
 use borrow.Author.Tests.{le-leb, lt-leb, eq-eqb, ne-eqb}
 use Rattle.be.specs.Bytes.{field}
 use Rattle.edition.specs.declared.Edition.{Edition}
@@ -15,7 +15,7 @@ use Rattle.edition.specs.Edition.{Sane, block-size, largest-block}
 use Rattle.dir_block_rules.specs.Record.{Rec, entries}
 use Rattle.dir_block_rules.specs.Block.{Slot, records, slots, slots-in, count-of, stale-of, data-end}
 use Rattle.dir_block_rules.specs.Verdict.{verdict, size-ok, magic-ok, span-ok}
-use Rattle.dir_block_test.specs.Passes.{rest, slots-from, Parts, Data-tiled, after-span, after-tile, after-index, tile-from, tile-count}
+use Rattle.dir_block_test.specs.Passes.{rest, slots-from, Parts, Data-tiled, after-span, after-tile, after-index, tile-from, tile-count, cells-of, hint, worst, own-at, Faulted}
 use Rattle.dir_block_test.proofs.FaultsAnswer.{tiled-not, tiled-done, tile-is}
 use Rattle.dir_block_rules.proofs.WholeRecords.{tile-law}
 -- TILE
@@ -40,6 +40,15 @@ module _ (e : Edition) (b : List ℕ) (t n m k : ℕ) (ks : k ≡ tile-count e f
         → r ≡ after-span e b (rest e b t (length b) (e .header)) (slots-from b t n 0) m
     unfolding after-span
     end-tile r rs = rs ∙ sym (rw (done .0))
+
+-- the lowest fault, by the table P that the slots have made of zeros
+pub faulted : (e : Edition) (b : List ℕ) (t n w : ℕ) (M P : List ℕ) → t ≤ 8 * length M → M ≡ replicate (length M) 0 → P ≡ cells-of b t M n
+    → w ≡ worst e (own-at e b) (hint P) (rest e b t (length b) (e .header)) → Faulted e b t n w
+faulted e b t n w M P l z p h = record {
+  cells = length M;
+  long = l;
+  lowest = h ∙ ap (λ (Q : List ℕ). worst e (own-at e b) (hint Q) (rest e b t (length b) (e .header))) (p ∙ ap (λ (N : List ℕ). cells-of b t N n) z);
+}
 
 module _ (e : Edition) (sane : Sane e) (b : List ℕ) (z : Bool) (zs : z ≡ block-size (length b)) where
   pub end-1 : z ≡ false → 1 ≡ verdict e b

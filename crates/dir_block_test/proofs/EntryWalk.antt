@@ -33,10 +33,10 @@ module _ (e : Edition) (own : ℕ) (ss : ℕ → ℕ → Bool) (b : List ℕ) (o
   unfolding fault-at
   fault-name p = sym (rw (named, p))
 
-  module _ (p : x ≡ true) (i : ℕ) (ii : i ≡ field o 8 b) (y : Bool) (ys : y ≡ legal-number i) where
+  module _ (p : x ≡ true) (y : Bool) (ys : y ≡ legal-number (field o 8 b)) where
     numbered : number-fits e own o (field o 8 b) ≡ y
     unfolding number-fits
-    numbered = sym (ys ∙ ap legal-number ii)
+    numbered = sym ys
 
     pub fault-number : y ≡ false → NUMBER ≡ fault-at e own ss b o
     unfolding fault-at
@@ -53,87 +53,6 @@ module _ (e : Edition) (own : ℕ) (ss : ℕ → ℕ → Bool) (b : List ℕ) (o
       pub fault-index : z ≡ false → INDEX ≡ fault-at e own ss b o
       unfolding fault-at
       fault-index r = sym (rw (named, p, numbered, q, slotted, r))
-
--- the lower of two
-module _ (w f : ℕ) (g k : Bool) (gs : g ≡ k) where
-  pub worse-gap : g ≡ true → no-fault < w → no-fault ≡ min w (cond k no-fault f)
-  worse-gap p h = let q : k ≡ true = sym gs ∙ p in rw q (omega arith)
-
-  pub worse-gap-kept : g ≡ true → w ≤ no-fault → w ≡ min w (cond k no-fault f)
-  worse-gap-kept p h = let q : k ≡ true = sym gs ∙ p in rw q (omega arith)
-
-  pub worse-entry : g ≡ false → f < w → f ≡ min w (cond k no-fault f)
-  worse-entry p h = let q : k ≡ false = sym gs ∙ p in rw q (omega arith)
-
-  pub worse-entry-kept : g ≡ false → w ≤ f → w ≡ min w (cond k no-fault f)
-  worse-entry-kept p h = let q : k ≡ false = sym gs ∙ p in rw q (omega arith)
-
--- a walk over whole records: P of the records that are left
-pub record Walk (e : Edition) (b : List ℕ) (t o : ℕ) (P : List Rec → Type 0) : Type 0 where
-  pub within : o ≤ t
-  pub eights : o % 8 ≡ 0
-  pub fuel : ℕ
-  pub enough : t - o ≤ fuel
-  pub wholes : every (whole e) (rest e b t fuel o) ≡ true
-  pub holds : P (rest e b t fuel o)
-
-module _ (e : Edition) (b : List ℕ) (t : ℕ) (hi : t ≤ length b) (te : t % 8 ≡ 0) (P : List Rec → Type 0) where
-  pub walk-start : (a : ℕ) → a ≤ t → a % 8 ≡ 0 → every (whole e) (rest e b t (length b) a) ≡ true → P (rest e b t (length b) a) → Walk e b t a P
-  walk-start a h q w p = record { within = h; eights = q; fuel = length b; enough = omega arith; wholes = w; holds = p }
-
-  module _ (o : ℕ) (k : Walk e b t o P) where
-    pub walk-end : t ≤ o → P []
-    walk-end h = subst P (rest-end e b t (k .fuel) o h) (k .holds)
-
-    module _ (lo : o < t) where
-      more : k .fuel ≡ suc (k .fuel - 1)
-      more = omega (arith, k .enough)
-
-      abbrev here : List ℕ
-      here = part o (t - o) b
-
-      pub walk-room : o + 8 ≤ t
-      walk-room = omega (arith, k .eights)
-
-      head-whole : whole e (rec o (take (says e here) here)) ≡ true
-      unfolding rest cut
-      head-whole =
-          let w : every (whole e) (rest e b t (suc (k .fuel - 1)) o) ≡ true = subst (λ (j : ℕ). every (whole e) (rest e b t j o) ≡ true) more (k .wholes) in
-          go here (k .fuel - 1) (omega (arith, part-length o (t - o) b (omega arith))) w
-        where
-          go : (d : List ℕ) (j : ℕ) → 0 < length d → every (whole e) (cut e (suc j) o d) ≡ true → whole e (rec o (take (says e d) d)) ≡ true
-          go [] j l h = absurd (omega arith)
-          go (x ∷ xs) j l h = and-left _ _ h
-
-      pub walk-head : (n : ℕ) → n ≡ says e here → Head e b t o n
-      unfolding whole-len
-      walk-head n h =
-          let w : Whole e (rec o (take (says e here) here)) = whole→ e (rec o (take (says e here) here)) head-whole in
-          let l : length (take (says e here) here) ≡ says e here = head-size e o here w in
-          let m : 8 ≤ length (take (says e here) here) = w .least in
-          head e b t o lo hi n (h ∙ sym (rw head-whole)) (λ (z : n ≡ 0). omega arith)
-
-      module _ (n : ℕ) (h : n ≡ says e here) where
-        abbrev pub rec-here : Rec
-        rec-here = rec o (part o n b)
-
-        next : rest e b t (k .fuel) o ≡ rec-here ∷ rest e b t (k .fuel - 1) (o + n)
-        next = ap (λ (j : ℕ). rest e b t j o) more ∙ rest-head e b t o lo hi (k .fuel - 1) n (walk-head n h)
-
-        pub walk-out : {A : Type 0} → ((rs : List Rec) → P (rec-here ∷ rs) → A) → A
-        walk-out f = f (rest e b t (k .fuel - 1) (o + n)) (subst P next (k .holds))
-
-        pub walk-on : (Q : List Rec → Type 0) → ((rs : List Rec) → P (rec-here ∷ rs) → Q rs) → Walk e b t (o + n) Q
-        walk-on Q f =
-            let hd : Head e b t o n = walk-head n h in
-            record {
-              within = hd .fits;
-              eights = omega (arith, k .eights, hd .eights);
-              fuel = k .fuel - 1;
-              enough = omega (arith, k .enough, hd .least);
-              wholes = and-right (whole e rec-here) _ (subst (λ (rs : List Rec). every (whole e) rs ≡ true) next (k .wholes));
-              holds = f (rest e b t (k .fuel - 1) (o + n)) (subst P next (k .holds));
-            }
 
 -- what a whole record's entry is, in the block
 module _ (e : Edition) (b : List ℕ) (t o n : ℕ) (lo : o < t) (hi : t ≤ length b) (hd : Head e b t o n) where
@@ -169,12 +88,9 @@ module _ (e : Edition) (b : List ℕ) (t o n : ℕ) (lo : o < t) (hi : t ≤ len
         let i : is-gap (rec o (part o n b)) ≡ false = head-gap e b t o lo hi n hd ∙ g in
         rw (i, name-here, number-here)
 
-  pub fault-here : (own : ℕ) (ss : ℕ → ℕ → Bool) → fault e own ss (rec o (part o n b)) ≡ cond (eqb (field o 2 b) 0xffff) no-fault (fault-at e own ss b o)
+  pub fault-gap : (own : ℕ) (ss : ℕ → ℕ → Bool) → eqb (field o 2 b) 0xffff ≡ true → fault e own ss (rec o (part o n b)) ≡ no-fault
   unfolding fault
-  fault-here own ss =
-      by-cases (eqb (field o 2 b) 0xffff)
-      (λ q. let i : is-gap (rec o (part o n b)) ≡ true = head-gap e b t o lo hi n hd ∙ q in rw (q, i))
-      (λ q. rw q (fault-entry q own ss))
+  fault-gap own ss g = let i : is-gap (rec o (part o n b)) ≡ true = head-gap e b t o lo hi n hd ∙ g in rw i
 
 -- the lowest fault so far, and what is left
 module _ (e : Edition) (own : ℕ) (ss : ℕ → ℕ → Bool) (all : List Rec) where

@@ -7,8 +7,7 @@ use mathlib.Core.Bool.{Bool, true, false, not, cond, _&&_, Bool·beq}
 use mathlib.Core.Path.{_≡_, refl, sym, _∙_, ap, ap₂, subst}
 use mathlib.Core.List.{List, [], _∷_, _++_, map}
 use lib.Dec.{eqb, leb, ltb}
-use lib.ListN.{length, drop, getD}
-use lib.Seq.{drop-drop}
+use lib.ListN.{length, drop, getD, replicate, length-replicate, getD-replicate}
 use borrow.Author.Tests.{eqb-true, le-leb, lt-leb, leb-true, eq-eqb, ne-eqb, not-true, ltb-true, lt-ltb}
 use Rattle.dir_block_rules.proofs.BlockParts.{length-slots-in}
 use Rattle.be.specs.Lists.{every, tally, same}
@@ -18,7 +17,7 @@ use Rattle.edition.specs.Edition.{Sane, entry-size}
 use Rattle.name.specs.Name.{dot, legal-name}
 use Rattle.dir_block_rules.specs.Record.{Rec, rec, whole, apart, is-gap, is-entry, entries, gaps, name}
 use Rattle.dir_block_rules.specs.Block.{Slot, is-live, is-stale}
-use Rattle.dir_block_rules.specs.Verdict.{entry-stands, name-ok, names-ok, numbers-ok, number-ok, own-in, index-ok, rising, best-ok, best-pairs, pairs-in, pair, Pair, zero-pair, once-ok}
+use Rattle.dir_block_rules.specs.Verdict.{entry-stands, name-ok, names-ok, numbers-ok, number-ok, own-in, index-ok, rising, best-ok, best-pairs, pair, Pair, zero-pair, once-ok}
 use Rattle.be.proofs.Bools.{by-cases, and-left, and-right, every-head, every-tail, every-cons}
 use Rattle.dir_block_rules.proofs.CutJoin.{Laid, join, join-cut}
 use Rattle.dir_block_rules.proofs.SlotCounts.{Apart}
@@ -30,11 +29,12 @@ use Rattle.name.proofs.Same.{same-eq}
 use Rattle.dir_block_rules.proofs.GoodParts.{laid-small}
 use Rattle.dir_block_test.specs.Passes.{cells-of, hint, rest, name-of, Data-tiled, slots-from, Reach, addr-at, once-in, best-left, in-order, own-at, worst, after-tile, after-index}
 use Rattle.be.proofs.Parts.{part-length}
+use Rattle.dir_block_rules.proofs.StoredPairs.{pairs-read}
 use Rattle.dir_block_test.proofs.TileWalk.{Head, rest-head, head-gap}
 use Rattle.dir_block_test.proofs.WholeRecord.{says-entry}
 use Rattle.dir_block_test.proofs.EntryWalk.{entry-fits, name-here, number-here}
 use Rattle.dir_block_test.proofs.SlotWalk.{slot-at}
-use Rattle.dir_block_test.proofs.SlotTable.{slots-split, table-law, hinted, length-filled}
+use Rattle.dir_block_test.proofs.SlotTable.{slots-split, table-law, hinted, length-cells}
 use Rattle.dir_block_test.proofs.FaultsAnswer.{tile-is, worst-7, worst-8, worst-9}
 use Rattle.dir_block_test.proofs.OneSlotEach.{in-order-is}
 use Rattle.dir_block_test.proofs.BestNamed.{at-most, best-law}
@@ -110,17 +110,9 @@ module _ (e : Edition) (sane : Sane e) (b : List ℕ) (t n : ℕ) where
           eqb-true (8 * addr-of (r .here)) (r .here .off) (every-at (λ c. eqb (8 * addr-of c) (c .off)) (r .before) (r .here) (r .behind) (subst (λ (k : List Rec). every (λ c. eqb (8 * addr-of c) (c .off)) k ≡ true) (r .is) (reads .eights))) in
           let a : 8 * addr-at b t i ≡ r .here .off = ap (λ (k : ℕ). 8 * k) (sym (o .addr-is)) ∙ g in
           let f′ : 8 * addr-at b t i + 9 + getD b (8 * addr-at b t i + 8) 0 ≤ t = subst (λ (k : ℕ). k + 9 + getD b (k + 8) 0 ≤ t) (sym a) f in
-          omega (arith, hi, f′)
+          omega (arith, T .parts .slots-fit, f′)
 
     -- BEST
-    pairs-are : best-pairs e b
-        ≡ pair (field (e .best) 2 b) (field (e .best + 2) 2 b) ∷ pair (field (e .best + 4) 2 b) (field (e .best + 4 + 2) 2 b)
-        ∷ pair (field (e .best + 8) 2 b) (field (e .best + 8 + 2) 2 b) ∷ []
-    unfolding best-pairs pairs-in
-    pairs-are =
-        let q : e .best + 4 + 4 ≡ e .best + 8 = omega arith in
-        rw (drop-drop 2 (e .best) b, drop-drop 4 (e .best) b, drop-drop 2 (e .best + 4) b, drop-drop 4 (e .best + 4) b, q, drop-drop 2 (e .best + 8) b)
-
     data-long : length (join RS) ≡ t - (e .header)
     unfolding rest
     data-long =
@@ -135,20 +127,16 @@ module _ (e : Edition) (sane : Sane e) (b : List ℕ) (t n : ℕ) where
       best-is : best-ok (best-pairs e b) (gaps RS)
           ≡ (leb ql pl && (leb sl ql && best-left (zero-pair (pair pf pl)) (zero-pair (pair qf ql)) (zero-pair (pair sf sl)) (pair pf pl) (pair qf ql) (pair sf sl) (gaps RS)))
       best-is =
-          ap (λ (ps : List Pair). best-ok ps (gaps RS)) (pairs-are ∙ sym (rw (p0, p1, q0, q1, s0, s1)))
+          let a : e .best + 4 + 2 ≡ e .best + 6 = omega arith in
+          let c : e .best + 8 + 2 ≡ e .best + 10 = omega arith in
+          ap (λ (ps : List Pair). best-ok ps (gaps RS))
+          (sym (pairs-read e b pf pl qf ql sf sl p0 p1 q0 (q1 ∙ ap (λ (k : ℕ). field k 2 b) a) s0 (s1 ∙ ap (λ (k : ℕ). field k 2 b) c)))
           ∙ best-law (pair pf pl) (pair qf ql) (pair sf sl) 65535 (gaps RS) (sep-laid e is-gap (e .header) RS laid) most (omega arith)
 
-      pub best-falls : pl < ql → false ≡ best-ok (best-pairs e b) (gaps RS)
-      best-falls h = sym (best-is ∙ rw (lt-leb ql pl h))
-
-      module _ (f : ql ≤ pl) where
-        pub best-falls-2 : ql < sl → false ≡ best-ok (best-pairs e b) (gaps RS)
-        best-falls-2 h = sym (best-is ∙ rw (le-leb ql pl f, lt-leb sl ql h))
-
-        pub best-last : sl ≤ ql → (x y z r : Bool) → x ≡ zero-pair (pair pf pl) → y ≡ zero-pair (pair qf ql) → z ≡ zero-pair (pair sf sl)
-            → r ≡ best-left x y z (pair pf pl) (pair qf ql) (pair sf sl) (gaps RS) → r ≡ best-ok (best-pairs e b) (gaps RS)
-        best-last h x y z r xs ys zs rs =
-            rs ∙ rw (xs, ys, zs) (sym (best-is ∙ rw (le-leb ql pl f, le-leb sl ql h)))
+      pub best-fits-is : (x y z r a : Bool) → x ≡ zero-pair (pair pf pl) → y ≡ zero-pair (pair qf ql) → z ≡ zero-pair (pair sf sl)
+          → r ≡ best-left x y z (pair pf pl) (pair qf ql) (pair sf sl) (gaps RS) → a ≡ (leb ql pl && (leb sl ql && r)) → a ≡ best-ok (best-pairs e b) (gaps RS)
+      best-fits-is x y z r a xs ys zs rs h =
+          h ∙ ap (λ (k : Bool). leb ql pl && (leb sl ql && k)) (rs ∙ rw (xs, ys, zs) refl) ∙ sym best-is
 
     -- the end
     module _ (m : ℕ) (x : index-ok e RS SS m ≡ true) (g : Bool) (gs : g ≡ best-ok (best-pairs e b) (gaps RS)) where
@@ -165,8 +153,8 @@ module _ (e : Edition) (sane : Sane e) (b : List ℕ) (t n : ℕ) where
         unfolding after-index
         end-0 f = sym (rw (sym gs ∙ gt, once-is m x ∙ sym os ∙ f))
 
-    pub room-2 : (o : ℕ) → o < t → o % 8 ≡ 0 → o + 2 ≤ length b
-    room-2 o h q = omega (arith, hi, T .parts .eights)
+    pub room-8 : (o : ℕ) → o < t → o % 8 ≡ 0 → o + 8 ≤ length b
+    room-8 o h q = omega (arith, hi, T .parts .eights)
 
     -- "." and ".."
     abbrev there : ℕ → Bool
@@ -236,7 +224,16 @@ module _ (e : Edition) (sane : Sane e) (b : List ℕ) (t n : ℕ) where
         (λ w. rw (h, at-dot, w))
 
     -- INDEX
-    module _ (m live : ℕ) (M : List ℕ) (Ms : t ≤ 8 * length M) (ml : m ≤ n) (lv : live ≡ length (entries RS)) (fit : Bool) (fs : fit ≡ (in-order 0 0 m SS && eqb (n - m) live)) where
+    module _ (m live : ℕ) (c : ℕ) (cs : t ≤ 8 * c) (ml : m ≤ n) (lv : live ≡ length (entries RS)) (fit : Bool) (fs : fit ≡ (in-order 0 0 m SS && eqb (n - m) live)) where
+      abbrev M : List ℕ
+      M = replicate c 0
+
+      Ms : t ≤ 8 * length M
+      Ms = omega (arith, cs, length-replicate {A = ℕ} c 0)
+
+      Mn : (a : ℕ) → a < length M → getD M a 0 ≡ 0
+      Mn a h = getD-replicate {A = ℕ} c a 0 0 (omega (arith, length-replicate {A = ℕ} c 0))
+
       reachable : every (λ r. ltb (addr-of r) (length M)) (entries RS) ≡ true
       reachable = go (entries RS) all-placed
         where
@@ -247,9 +244,6 @@ module _ (e : Edition) (sane : Sane e) (b : List ℕ) (t n : ℕ) where
               every-cons (λ r. ltb (addr-of r) (length M)) r es (lt-ltb (addr-of r) (length M) (omega (arith, hi, Ms)))
               (go es (every-tail (placed e b t hi (T .parts .eights)) r es h))
 
-      pub table-long : (P : List ℕ) → P ≡ cells-of b t M n → t ≤ 8 * length P
-      table-long P ps = omega (arith, Ms, ap length ps ∙ length-filled b t M n)
-
       pub index-is : index-ok e RS SS m ≡ (fit && every (hinted b t n M e) (entries RS))
       index-is =
           index-counts e RS SS m addrs
@@ -258,81 +252,67 @@ module _ (e : Edition) (sane : Sane e) (b : List ℕ) (t n : ℕ) where
           (λ q. let st : tally is-stale SS ≡ m = eqb-true (tally is-stale SS) m (and-right (rising SS) _ q) in
           let lvs : tally is-live SS ≡ n - m = omega (arith, count-is) in
           rw (q, lvs) (by-cases (eqb (n - m) (length (entries RS)))
-          (λ z. rw z (table-law b t n M e (entries RS) addrs reachable (lvs ∙ eqb-true (n - m) (length (entries RS)) z)))
+          (λ z. rw z (table-law b t n M e Mn (entries RS) addrs reachable (lvs ∙ eqb-true (n - m) (length (entries RS)) z)))
           (λ z. rw z)))
           (λ q. rw q))
 
-      module _ (k : ℕ) (ks : k ≡ cond fit n 0) where
-        pub few : t + 8 * k ≤ length b
-        few =
-            by-cases fit
-            (λ q. let z : k ≡ n = ks ∙ rw q in omega (arith, T .parts .slots-fit))
-            (λ q. let z : k ≡ 0 = ks ∙ rw q in omega (arith, hi))
+      module _ (w : ℕ) (ws : w ≡ worst e (own-at e b) (hint (cells-of b t M n)) RS) where
+        names-7 : leb 7 w ≡ every (name-ok e) (entries RS)
+        names-7 = ap (leb 7) ws ∙ worst-7 e (own-at e b) (hint (cells-of b t M n)) RS
 
-        pub table-is : (P : List ℕ) → P ≡ cells-of b t M n → (w : ℕ) → w ≡ worst e (own-at e b) (hint P b t k) RS → w ≡ worst e (own-at e b) (hint (cells-of b t M n) b t k) RS
-        table-is P ps w ws = ws ∙ ap (λ (Q : List ℕ). worst e (own-at e b) (hint Q b t k) RS) ps
+        names-8 : leb 8 w ≡ (every (name-ok e) (entries RS) && every (number-ok e (own-at e b)) (entries RS))
+        names-8 = ap (leb 8) ws ∙ worst-8 e (own-at e b) (hint (cells-of b t M n)) RS
 
-        module _ (P : List ℕ) (ps : P ≡ cells-of b t M n) (w : ℕ) (wp : w ≡ worst e (own-at e b) (hint P b t k) RS) where
-          ws : w ≡ worst e (own-at e b) (hint (cells-of b t M n) b t k) RS
-          ws = table-is P ps w wp
+        pub end-6 : w < 7 → 6 ≡ after-tile e b RS SS m
+        unfolding after-tile names-ok
+        end-6 h = sym (rw (sym names-7 ∙ lt-leb 7 w h))
 
-          names-7 : leb 7 w ≡ every (name-ok e) (entries RS)
-          names-7 = ap (leb 7) ws ∙ worst-7 e (own-at e b) (hint (cells-of b t M n) b t k) RS
+        module _ (h7 : 7 ≤ w) (x : Bool) (xs : x ≡ (there (e .header) && there (e .header + 16))) where
+          named : every (name-ok e) (entries RS) ≡ true
+          named = sym names-7 ∙ le-leb 7 w h7
 
-          names-8 : leb 8 w ≡ (every (name-ok e) (entries RS) && every (number-ok e (own-at e b)) (entries RS))
-          names-8 = ap (leb 8) ws ∙ worst-8 e (own-at e b) (hint (cells-of b t M n) b t k) RS
+          pub end-6′ : x ≡ false → 6 ≡ after-tile e b RS SS m
+          unfolding after-tile
+          end-6′ f = sym (rw (fixed named ∙ sym xs ∙ f))
 
-          pub end-6 : w < 7 → 6 ≡ after-tile e b RS SS m
-          unfolding after-tile names-ok
-          end-6 h = sym (rw (sym names-7 ∙ lt-leb 7 w h))
+          module _ (xt : x ≡ true) where
+            names : names-ok e RS ≡ true
+            names = fixed named ∙ sym xs ∙ xt
 
-          module _ (h7 : 7 ≤ w) (x : Bool) (xs : x ≡ (there (e .header) && there (e .header + 16))) where
-            named : every (name-ok e) (entries RS) ≡ true
-            named = sym names-7 ∙ le-leb 7 w h7
+            own-numbers : every (number-ok e (own-at e b)) (entries RS) ≡ numbers-ok e RS
+            unfolding numbers-ok
+            own-numbers = ap (λ (k : ℕ). every (number-ok e k) (entries RS)) (sym (own-is (and-left (there (e .header)) _ (sym xs ∙ xt))))
 
-            pub end-6′ : x ≡ false → 6 ≡ after-tile e b RS SS m
+            pub end-7 : w < 8 → 7 ≡ after-tile e b RS SS m
             unfolding after-tile
-            end-6′ f = sym (rw (fixed named ∙ sym xs ∙ f))
+            end-7 h =
+                let z : numbers-ok e RS ≡ false = sym own-numbers ∙ sym (names-8 ∙ rw named) ∙ lt-leb 8 w h in
+                sym (rw (names, z))
 
-            module _ (xt : x ≡ true) where
-              names : names-ok e RS ≡ true
-              names = fixed named ∙ sym xs ∙ xt
+            module _ (h8 : 8 ≤ w) where
+              numbers : numbers-ok e RS ≡ true
+              numbers = sym own-numbers ∙ sym (names-8 ∙ rw named) ∙ le-leb 8 w h8
 
-              own-numbers : every (number-ok e (own-at e b)) (entries RS) ≡ numbers-ok e RS
-              unfolding numbers-ok
-              own-numbers = ap (λ (k : ℕ). every (number-ok e k) (entries RS)) (sym (own-is (and-left (there (e .header)) _ (sym xs ∙ xt))))
-
-              pub end-7 : w < 8 → 7 ≡ after-tile e b RS SS m
+              pub end-8 : fit ≡ false → 8 ≡ after-tile e b RS SS m
               unfolding after-tile
-              end-7 h =
-                  let z : numbers-ok e RS ≡ false = sym own-numbers ∙ sym (names-8 ∙ rw named) ∙ lt-leb 8 w h in
-                  sym (rw (names, z))
+              end-8 f =
+                  let z : index-ok e RS SS m ≡ false = index-is ∙ rw f in
+                  sym (rw (names, numbers, z))
 
-              module _ (h8 : 8 ≤ w) where
-                numbers : numbers-ok e RS ≡ true
-                numbers = sym own-numbers ∙ sym (names-8 ∙ rw named) ∙ le-leb 8 w h8
+              module _ (ft : fit ≡ true) where
+                slots-9 : leb 9 w ≡ every (hinted b t n M e) (entries RS)
+                slots-9 =
+                    ap (leb 9) ws ∙ worst-9 e (own-at e b) (hint (cells-of b t M n)) RS ∙ rw (named, own-numbers ∙ numbers)
 
-                pub end-8 : fit ≡ false → 8 ≡ after-tile e b RS SS m
+                pub end-8′ : w < 9 → 8 ≡ after-tile e b RS SS m
                 unfolding after-tile
-                end-8 f =
-                    let z : index-ok e RS SS m ≡ false = index-is ∙ rw f in
+                end-8′ h =
+                    let z : index-ok e RS SS m ≡ false = index-is ∙ rw ft (sym slots-9 ∙ lt-leb 9 w h) in
                     sym (rw (names, numbers, z))
 
-                module _ (ft : fit ≡ true) where
-                  slots-9 : leb 9 w ≡ every (hinted b t n M e) (entries RS)
-                  slots-9 =
-                      let kn : k ≡ n = ks ∙ rw ft in
-                      ap (leb 9) (ws ∙ ap (λ (j : ℕ). worst e (own-at e b) (hint (cells-of b t M n) b t j) RS) kn) ∙ worst-9 e (own-at e b) (hint (cells-of b t M n) b t n) RS ∙ rw (named, own-numbers ∙ numbers)
+                pub indexed-ok : 9 ≤ w → index-ok e RS SS m ≡ true
+                indexed-ok h = index-is ∙ rw ft (sym slots-9 ∙ le-leb 9 w h)
 
-                  pub end-8′ : w < 9 → 8 ≡ after-tile e b RS SS m
-                  unfolding after-tile
-                  end-8′ h =
-                      let z : index-ok e RS SS m ≡ false = index-is ∙ rw ft (sym slots-9 ∙ lt-leb 9 w h) in
-                      sym (rw (names, numbers, z))
-
-                  pub indexed-ok : 9 ≤ w → index-ok e RS SS m ≡ true
-                  indexed-ok h = index-is ∙ rw ft (sym slots-9 ∙ le-leb 9 w h)
-
-                  pub end-index : 9 ≤ w → (r : ℕ) → r ≡ after-index e b RS → r ≡ after-tile e b RS SS m
-                  unfolding after-tile
-                  end-index h r rs = rs ∙ sym (rw (names, numbers, indexed-ok h))
+                pub end-index : 9 ≤ w → (r : ℕ) → r ≡ after-index e b RS → r ≡ after-tile e b RS SS m
+                unfolding after-tile
+                end-index h r rs = rs ∙ sym (rw (names, numbers, indexed-ok h))

@@ -4,7 +4,9 @@ pub mod SlotWalk
 pub mod NamePlaces
 pub mod EntryWalk
 pub mod BestPass
+pub mod RecordWalk
 pub mod TwinWalk
+pub mod TwinKeys
 pub mod FaultsAnswer
 pub mod OneSlotEach
 pub mod SlotTable

@@ -12,7 +12,8 @@ use lib.Seq.{take-take}
 use Rattle.be.specs.Bytes.{be, part, field}
 use Rattle.edition.specs.declared.Edition.{Edition}
 use Rattle.dir_block_rules.specs.Record.{rec, cut, says, whole, is-gap, entries}
-use Rattle.be.proofs.Bools.{by-cases}
+use Rattle.be.specs.Lists.{every}
+use Rattle.be.proofs.Bools.{by-cases, and-left}
 use Rattle.dir_block_rules.proofs.CutJoin.{Whole, whole→, cut-step, head-size}
 use Rattle.dir_block_test.specs.Passes.{rest, tile-from, whole-len, tile-count}
 use Rattle.be.proofs.Parts.{part-length, drop-part, take-part}
@@ -61,6 +62,16 @@ module _ (e : Edition) (b : List ℕ) (t o : ℕ) (lo : o < t) (hi : t ≤ lengt
       let left : t - o - n ≡ t - (o + n) = omega arith in
       step k ∙ rw (h .is) (ap₂ (λ (c d : List ℕ). rec o c ∷ cut e k (o + n) d) (take-part b o (t - o) n m) (drop-part b o (t - o) n m ∙ ap (λ (i : ℕ). part (o + n) i b) left))
 
+  -- the first of whole records
+  pub head-whole : (k : ℕ) → every (whole e) (rest e b t (suc k) o) ≡ true → Head e b t o (says e here)
+  unfolding whole-len
+  head-whole k h =
+      let q : whole e (rec o (take (says e here) here)) ≡ true = and-left _ _ (rw (step k) at h) in
+      let w : Whole e (rec o (take (says e here) here)) = whole→ e (rec o (take (says e here) here)) q in
+      let l : length (take (says e here) here) ≡ says e here = head-size e o here w in
+      let m : 8 ≤ length (take (says e here) here) = w .least in
+      head (says e here) (sym (rw q)) (λ (z : says e here ≡ 0). omega arith)
+
   -- the record is a gap
   pub head-gap : (n : ℕ) → Head e b t o n → is-gap (rec o (part o n b)) ≡ eqb (field o 2 b) 0xffff
   head-gap n h = ap (λ (l : List ℕ). eqb (be l) 0xffff) (take-take 2 n (drop o b) (omega (arith, h .least)))
@@ -103,69 +114,3 @@ unfolding rest cut
 rest-end e b t zero o h = refl
 rest-end e b t (suc k) o h =
     let z : t - o ≡ 0 = omega arith in rw z
-
--- the pass so far: what is left decides, with fuel k
-pub record Tiling (e : Edition) (b : List ℕ) (t a o : ℕ) (g : Bool) (n : ℕ) : Type 0 where
-  pub within : o ≤ t
-  pub eights : o % 8 ≡ 0
-  pub few : n ≤ o
-  pub fuel : ℕ
-  pub enough : t - o ≤ fuel
-  pub so-far : tile-count e false 1 (rest e b t (length b) a) ≡ tile-count e g n (rest e b t fuel o)
-
-module _ (e : Edition) (b : List ℕ) (t a : ℕ) (hi : t ≤ length b) (te : t % 8 ≡ 0) where
-  pub tiling-start : a ≤ t → a % 8 ≡ 0 → 1 ≤ a → Tiling e b t a a false 1
-  tiling-start h q p = record { within = h; eights = q; few = p; fuel = length b; enough = omega arith; so-far = refl }
-
-  module _ (o : ℕ) (g : Bool) (n : ℕ) (i : Tiling e b t a o g n) where
-    pub tiling-end : t ≤ o → n ≡ tile-count e false 1 (rest e b t (length b) a)
-    unfolding tile-count tile-from
-    tiling-end h = sym (i .so-far ∙ rw (rest-end e b t (i .fuel) o h) (add-zero n))
-
-    module _ (lo : o < t) where
-      more : i .fuel ≡ suc (i .fuel - 1)
-      more = omega (arith, i .enough)
-
-      now-is : tile-count e false 1 (rest e b t (length b) a) ≡ tile-count e g n (rest e b t (suc (i .fuel - 1)) o)
-      now-is = i .so-far ∙ ap (λ (k : ℕ). tile-count e g n (rest e b t k o)) more
-
-      pub eight-left : o + 8 ≤ t
-      eight-left = omega (arith, i .eights)
-
-      pub tiling-broken : (m : ℕ) → m ≡ whole-len e (part o (t - o) b) o → m ≡ 0 → 0 ≡ tile-count e false 1 (rest e b t (length b) a)
-      tiling-broken m h z = sym (now-is ∙ tile-broken e b t o lo hi g n (i .fuel - 1) (sym z ∙ h))
-
-      module _ (m : ℕ) (h : m ≡ whole-len e (part o (t - o) b) o) (z : m ≡ 0 → ⊥) (w : Bool) (wg : w ≡ eqb (field o 2 b) 0xffff) where
-        hd : Head e b t o m
-        hd = head e b t o lo hi m h z
-
-        pub fits-here : o + m ≤ t
-        fits-here = hd .fits
-
-        pub least-here : 8 ≤ m
-        least-here = hd .least
-
-        pub tiling-touch : w ≡ true → g ≡ true → 0 ≡ tile-count e false 1 (rest e b t (length b) a)
-        tiling-touch p q = sym (now-is ∙ tile-touch e b t o lo hi g n (i .fuel - 1) m hd (sym wg ∙ p) q)
-
-        pub tiling-gap : w ≡ true → g ≡ false → Tiling e b t a (o + m) true n
-        tiling-gap p q =
-            record {
-              within = hd .fits;
-              eights = omega (arith, i .eights, hd .eights);
-              few = omega (arith, i .few);
-              fuel = i .fuel - 1;
-              enough = omega (arith, i .enough, hd .least);
-              so-far = now-is ∙ tile-gap e b t o lo hi g n (i .fuel - 1) m hd (sym wg ∙ p) q;
-            }
-
-        pub tiling-entry : w ≡ false → Tiling e b t a (o + m) false (n + 1)
-        tiling-entry p =
-            record {
-              within = hd .fits;
-              eights = omega (arith, i .eights, hd .eights);
-              few = omega (arith, i .few, hd .least);
-              fuel = i .fuel - 1;
-              enough = omega (arith, i .enough, hd .least);
-              so-far = now-is ∙ tile-entry e b t o lo hi g n (i .fuel - 1) m hd (sym wg ∙ p);
-            }

@@ -11,7 +11,7 @@ use borrow.Author.Tests.{le-leb, eq-eqb, ltb-true, ltb-false, le-ltb}
 use Rattle.be.specs.Lists.{every, some-of, keep, same}
 use Rattle.be.specs.Bytes.{part, field}
 use Rattle.edition.specs.declared.Edition.{Edition}
-use Rattle.dir_block_rules.specs.Record.{Rec, rec, whole, size, is-gap, is-entry, entries, name}
+use Rattle.dir_block_rules.specs.Record.{Rec, rec, says, whole, size, is-gap, is-entry, entries, name}
 use Rattle.dir_block_rules.specs.Verdict.{entry-stands}
 use Rattle.be.proofs.Bools.{by-cases, and-right, and-both, every-head, every-tail, every-cons}
 use Rattle.dir_block_rules.proofs.CutJoin.{Laid, laid-cut}
@@ -19,8 +19,8 @@ use Rattle.name.proofs.Same.{same-refl}
 use Rattle.dir_block_rules.proofs.RecordPlaces.{off-above, none-at}
 use Rattle.dir_block_rules.proofs.GoodParts.{small}
 use Rattle.dir_block_test.specs.Passes.{rest, name-of}
-use Rattle.dir_block_test.proofs.TileWalk.{Head, rest-head, rest-end, head-gap}
-use Rattle.dir_block_test.proofs.EntryWalk.{Walk, walk-head, entry-fits, name-here}
+use Rattle.dir_block_test.proofs.TileWalk.{Head, rest-head, rest-end, head-whole, head-gap}
+use Rattle.dir_block_test.proofs.EntryWalk.{entry-fits, name-here}
 use Rattle.dir_block_test.proofs.BestNamed.{Sep, at-most}
 
 pub sep-laid : (e : Edition) (p : Rec → Bool) (o : ℕ) (rs : List Rec) → Laid e o rs → Sep (keep p rs)
@@ -44,9 +44,8 @@ module _ (e : Edition) (b : List ℕ) (t : ℕ) (hi : t ≤ length b) (te : t % 
   placed r = leb (r .off + 9 + getD b (r .off + 8) 0) t && same (name-of b (r .off)) (name r)
 
   pub head-of : (k o : ℕ) → o < t → o % 8 ≡ 0 → t - o ≤ k → every (whole e) (rest e b t k o) ≡ true → (n : ℕ) × Head e b t o n
-  head-of k o lo oe en w =
-      let x : Walk e b t o (λ rs. Unit {0}) = record { within = omega arith; eights = oe; fuel = k; enough = en; wholes = w; holds = tt } in
-      (_, walk-head e b t hi te (λ rs. Unit {0}) o x lo _ refl)
+  head-of zero o lo oe en w = absurd (omega arith)
+  head-of (suc k) o lo oe en w = (says e (part o (t - o) b), head-whole e b t o lo hi k w)
 
   pub rest-placed : (k o : ℕ) → o ≤ t → o % 8 ≡ 0 → t - o ≤ k → every (whole e) (rest e b t k o) ≡ true → every placed (entries (rest e b t k o)) ≡ true
   rest-placed zero o l oe en w = rw (rest-end e b t zero o (omega arith))

@@ -1,6 +1,6 @@
 -- TWICE's pass: names compared within runs of one hash.
 -- Assumes nothing.
-use Prim.Native.Nat.{ℕ, _+_, _*_, _≤_, _<_}
+use Prim.Native.Nat.{ℕ, _+_, _-_, _*_, _≤_, _<_}
 use native.Mathlib.Omega.{arith}
 use mathlib.Core.Bool.{Bool, true, false, not, _&&_}
 use mathlib.Core.Path.{_≡_, refl, sym, _∙_, ap, subst}
@@ -80,7 +80,7 @@ module _ (b : List ℕ) (t n i : ℕ) where
   runs-next x y l xs ys = rw (xs, ys, slots-next b t n (i + 1) l) refl
 
 -- a run that ends at once has no twin
-apart : (e : Edition) (b : List ℕ) (h c : ℕ) (ss : List Slot) → runs-on h ss ≡ false → clash-from e b h c ss ≡ false
+pub apart : (e : Edition) (b : List ℕ) (h c : ℕ) (ss : List Slot) → runs-on h ss ≡ false → clash-from e b h c ss ≡ false
 unfolding runs-on clash-from
 apart e b h c [] z = refl
 apart e b h c (s ∷ ss) z = rw z
@@ -94,44 +94,14 @@ module _ (e : Edition) (b : List ℕ) (t n i a : ℕ) (ea : a ≡ addr-at b t i)
       → x ≡ (not (eqb (addr-at b t i) 0) && clash-from e b (hash-at b t i) (addr-at b t i) (slots-from b t n (i + 1)))
   twin-live x u xs = xs ∙ sym (rw (ne-eqb (addr-at b t i) 0 (λ (z : addr-at b t i ≡ 0). u (ea ∙ z))))
 
--- the slots so far
-pub record Oncing (e : Edition) (b : List ℕ) (t n i : ℕ) : Type 0 where
-  pub within : i ≤ n
-  pub so-far : once-in e b (slots-from b t n 0) ≡ once-in e b (slots-from b t n i)
-
-module _ (e : Edition) (b : List ℕ) (t n : ℕ) where
-  pub once-start : Oncing e b t n 0
-  once-start = record { within = omega arith; so-far = refl }
-
-  module _ (i : ℕ) (k : Oncing e b t n i) where
-    pub once-end : n ≤ i → true ≡ once-in e b (slots-from b t n 0)
-    unfolding once-in
-    once-end l = sym (k .so-far ∙ rw (slots-end b t n i l))
-
-    module _ (l : i < n) where
-      -- no later slot has this one's hash
-      pub once-apart : (r : Bool) → r ≡ runs-on (hash-at b t i) (slots-from b t n (i + 1)) → r ≡ false → Oncing e b t n (i + 1)
-      unfolding once-in
-      once-apart r h z =
-          record {
-            within = omega arith;
-            so-far = k .so-far ∙ rw (slots-next b t n i l, apart e b (hash-at b t i) (addr-at b t i) (slots-from b t n (i + 1)) (sym h ∙ z), and-false (not (eqb (addr-at b t i) 0)));
-          }
-
-      module _ (x : Bool) (xs : x ≡ (not (eqb (addr-at b t i) 0) && clash-from e b (hash-at b t i) (addr-at b t i) (slots-from b t n (i + 1)))) where
-        pub once-hit : x ≡ true → false ≡ once-in e b (slots-from b t n 0)
-        unfolding once-in
-        once-hit z = sym (k .so-far ∙ rw (slots-next b t n i l, sym xs ∙ z))
-
-        pub once-on : x ≡ false → Oncing e b t n (i + 1)
-        unfolding once-in
-        once-on z = record { within = omega arith; so-far = k .so-far ∙ rw (slots-next b t n i l, sym xs ∙ z) }
-
 -- the names that slots address are within the block
-pub reach-at : (b : List ℕ) (t n : ℕ) → Reach b t n → (i a : ℕ) → i < n → a ≡ addr-at b t i → (a ≡ 0 → ⊥) → 8 * a + 9 + getD b (8 * a + 8) 0 ≤ length b
+pub reach-past : (b : List ℕ) (t n : ℕ) → Reach b t n → (i a : ℕ) → i < n → a ≡ addr-at b t i → (a ≡ 0 → ⊥) → 8 * a + 9 + getD b (8 * a + 8) 0 + 8 ≤ length b
 unfolding Reach
-reach-at b t n r i a l e u =
-    subst (λ (v : ℕ). 8 * v + 9 + getD b (8 * v + 8) 0 ≤ length b) (sym e) (r i l (λ (z : addr-at b t i ≡ 0). u (e ∙ z)))
+reach-past b t n r i a l e u =
+    subst (λ (v : ℕ). 8 * v + 9 + getD b (8 * v + 8) 0 + 8 ≤ length b) (sym e) (r i l (λ (z : addr-at b t i ≡ 0). u (e ∙ z)))
+
+pub reach-at : (b : List ℕ) (t n : ℕ) → Reach b t n → (i a : ℕ) → i < n → a ≡ addr-at b t i → (a ≡ 0 → ⊥) → 8 * a + 9 + getD b (8 * a + 8) 0 ≤ length b
+reach-at b t n r i a l e u = omega (arith, reach-past b t n r i a l e u)
 
 pub same-at : (e : Edition) (b : List ℕ) (a c d : ℕ) (s : Bool) → a ≡ c → s ≡ same-name e (name-of b (8 * a)) (name-of b (8 * d)) → s ≡ same-name e (name-of b (8 * c)) (name-of b (8 * d))
 same-at e b a c d s q h = h ∙ ap (λ (v : ℕ). same-name e (name-of b (8 * v)) (name-of b (8 * d))) q

@@ -4,8 +4,9 @@ use Prim.Native.Nat.{ℕ, zero, suc, _+_, _-_, _*_, _/_, _%_, _≤_, _<_, min}
 use mathlib.Core.Bool.{Bool, true, false, not, cond, _&&_, _||_, Bool·beq}
 use mathlib.Core.Path.{_≡_}
 use mathlib.Core.List.{List, [], _∷_}
-use lib.Dec.{eqb, leb}
-use lib.ListN.{length, take, drop, getD, set}
+use lib.Bits.{bitAnd}
+use lib.Dec.{eqb, leb, ltb}
+use lib.ListN.{length, take, drop, getD, set, replicate}
 use Rattle.refusal.specs.Refusal.{TILE, NAME, NUMBER, INDEX, BEST, TWICE, HIGHEST}
 use Rattle.be.specs.Lists.{every, some-of, tally, same, keep}
 use Rattle.be.specs.Bytes.{byte, field, part}
@@ -13,6 +14,7 @@ use Rattle.be.specs.Codes.{_unless_then_}
 use Rattle.edition.specs.declared.Edition.{Edition}
 use Rattle.edition.specs.Edition.{largest-block}
 use Rattle.name.specs.Name.{legal-name, hash-of, same-name, dot, dotdot}
+use Rattle.name_words.specs.Words.{key-of}
 use Rattle.dir_block_rules.specs.Record.{Rec, rec, cut, says, whole, is-gap, entries, gaps, name, size}
 use Rattle.dir_block_rules.specs.Block.{Slot, slots-in, is-stale}
 use Rattle.dir_block_rules.specs.Verdict.{name-ok, number-fits, number-ok, Pair, is-gap-of, best-ok, best-pairs, once-ok, names-ok, numbers-ok, index-ok}
@@ -108,14 +110,13 @@ best-left x y z p q r gs =
     && ((z || some-of (is-gap-of r) (unnamed q (unnamed p gs)))
     && every (λ g. leb (size g) (r .long)) (unnamed r (unnamed q (unnamed p gs)))))
 
--- which pair names the record: 1, 2 or 3; 4 if none has to, 0 if one should
-unfoldable pub which : Bool → ℕ → ℕ → Pair → Pair → Pair → ℕ
-which g o n p q r =
-    cond g
-    (cond (eqb o (p .from) && eqb n (p .long)) 1 (
+-- which pair names the gap of n bytes at o: 1, 2 or 3; 4 if none has to, 0 if one should
+unfoldable pub which : ℕ → ℕ → Pair → Pair → Pair → ℕ
+which o n p q r =
+    cond (eqb o (p .from) && eqb n (p .long)) 1 (
     cond (eqb o (q .from) && eqb n (q .long)) 2 (
     cond (eqb o (r .from) && eqb n (r .long)) 3 (
-    cond (leb n (r .long)) 4 0)))) 4
+    cond (leb n (r .long)) 4 0)))
 
 -- a live slot at address a has the hash h, at the head of the slots ss, and the name of the entry at address c
 unfoldable pub clash-from : Edition → List ℕ → ℕ → ℕ → List Slot → Bool
@@ -129,14 +130,33 @@ unfoldable pub runs-on : ℕ → List Slot → Bool
 runs-on h [] = false
 runs-on h (s ∷ ss) = eqb (s .hash) h
 
+-- slot i has the hash of the one before it
+unfoldable pub follows : List ℕ → ℕ → ℕ → Bool
+follows b t i = ltb 0 i && eqb (hash-at b t (i - 1)) (hash-at b t i)
+
+-- a second number for a name
+abbrev pub second-key : List ℕ → ℕ
+second-key n = key-of n / 65536
+
+-- the name of each live slot from i on that follows one of its hash has a 1 in its cell, by the number f
+abbrev pub Each-marked : List ℕ → ℕ → ℕ → (List ℕ → ℕ) → ℕ → List ℕ → Type 0
+Each-marked b t n f i S =
+    (j : ℕ) → i ≤ j → j < n → follows b t j ≡ true → (addr-at b t j ≡ 0 → ⊥) → getD S (bitAnd (f (name-of b (8 * addr-at b t j))) (length S - 1)) 0 ≡ 1
+
+-- and by both numbers
+pub record Marked (b : List ℕ) (t n i : ℕ) (S : List ℕ) : Type 0 where
+  pub some : 0 < length S
+  pub first : Each-marked b t n key-of i S
+  pub second : Each-marked b t n second-key i S
+
 -- TWICE in one pass over the slots
 unfoldable pub once-in : Edition → List ℕ → List Slot → Bool
 once-in e b [] = true
 once-in e b (s ∷ ss) = not (not (eqb (s .addr) 0) && clash-from e b (s .hash) (s .addr) ss) && once-in e b ss
 
--- the names of the entries that the n slots at t address are within the block
+-- the names of the entries that the n slots at t address are within the block, and eight more bytes follow them
 unfoldable pub Reach : List ℕ → ℕ → ℕ → Type 0
-Reach b t n = (i : ℕ) → i < n → (addr-at b t i ≡ 0 → ⊥) → 8 * addr-at b t i + 9 + byte (8 * addr-at b t i + 8) b ≤ length b
+Reach b t n = (i : ℕ) → i < n → (addr-at b t i ≡ 0 → ⊥) → 8 * addr-at b t i + 9 + byte (8 * addr-at b t i + 8) b + 8 ≤ length b
 
 -- the verdict on a block whose records are rs and slots ss, from BEST on, from NAME on, and from TILE on
 unfoldable pub after-index : Edition → List ℕ → List Rec → ℕ
@@ -151,9 +171,9 @@ after-tile e b rs ss m =
 unfoldable pub after-span : Edition → List ℕ → List Rec → List Slot → ℕ → ℕ
 after-span e b rs ss m = TILE unless tile-from e false rs then after-tile e b rs ss m
 
--- a block whose data ends at t and has n slots there, all counted
+-- a block whose data ends at t and has n slots there, all counted, and behind them its tail
 pub record Parts (e : Edition) (b : List ℕ) (t n : ℕ) : Type 0 where
-  pub slots-fit : t + 8 * n ≤ length b
+  pub slots-fit : t + 8 * n + 8 ≤ length b
   pub eights : t % 8 ≡ 0
   pub least : e .header ≤ t
   pub short : t < 65536
@@ -164,13 +184,32 @@ pub record Data-tiled (e : Edition) (b : List ℕ) (t n : ℕ) : Type 0 where
   pub parts : Parts e b t n
   pub tiles : tile-from e false (rest e b t (length b) (e .header)) ≡ true
 
--- one more than the index of each of the first i slots at t, by its address, in a table; the last slot at an address counts
+-- a hash and an address as one number
+abbrev pub slot-word : ℕ → ℕ → ℕ
+slot-word h a = h * 4294967296 + a
+
+-- the words of the first i slots at t, by their addresses, in a table; the last slot at an address counts
 unfoldable pub cells-of : List ℕ → ℕ → List ℕ → ℕ → List ℕ
 cells-of b t M zero = M
-cells-of b t M (suc i) = set (cells-of b t M i) (addr-at b t i) (suc i)
+cells-of b t M (suc i) = set (cells-of b t M i) (addr-at b t i) (slot-word (hash-at b t i) (addr-at b t i))
 
--- the slot that the table has for address a is one of the n, at that address, and has the hash h
-unfoldable pub hint : List ℕ → List ℕ → ℕ → ℕ → ℕ → ℕ → Bool
-hint M b t n a h =
-    let p = getD M a 0 in
-    leb 1 p && (leb p n && (eqb (addr-at b t (p - 1)) a && eqb (hash-at b t (p - 1)) h))
+-- the table has the word of hash h at address a
+unfoldable pub hint : List ℕ → ℕ → ℕ → Bool
+hint M a h = eqb (getD M a 0) (slot-word h a)
+
+-- a slot has the hash of the one before it; before the first stands h
+unfoldable pub level : ℕ → List Slot → Bool
+level h [] = false
+level h (s ∷ ss) = eqb h (s .hash) || level (s .hash) ss
+
+-- what the pass over the records rs answers: n as `tile-count` does, and if the data is tiled, w the lowest fault and best the answer B
+pub record Walks (e : Edition) (own : ℕ) (f : ℕ → ℕ → Bool) (rs : List Rec) (B : Bool) (n w : ℕ) (best : Bool) : Type 0 where
+  pub tiles : n ≡ tile-count e false 1 rs
+  pub faults : (n ≡ 0 → ⊥) → w ≡ worst e own f rs
+  pub bests : (n ≡ 0 → ⊥) → best ≡ B
+
+-- w is the lowest fault, by a table of zeros that the slots have filled
+pub record Faulted (e : Edition) (b : List ℕ) (t n w : ℕ) : Type 0 where
+  pub cells : ℕ
+  pub long : t ≤ 8 * cells
+  pub lowest : w ≡ worst e (own-at e b) (hint (cells-of b t (replicate cells 0) n)) (rest e b t (length b) (e .header))

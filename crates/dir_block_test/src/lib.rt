@@ -1,33 +1,26 @@
-// The test of a block directory: any bytes, answered by 0 or the number of the first test that fails.
+// The test of a block directory: any bytes, answered by 0 or the number of the first test that fails. One pass over the slots, which leaves
+// each slot's hash and address in a table by address; one over the records; and, where slots have one hash, one more over the slots.
 ghost use mathlib.Core.Path.{_≡_};
-ghost use mathlib.Core.Bool.{true, false, not, _&&_, cond, Bool·beq};
+ghost use mathlib.Core.Bool.{true, false, not, _&&_, _||_, cond, Bool·beq};
 ghost use Prim.Native.Nat.{_+_, _*_, _-_, _/_, _%_, _≤_, _<_, min};
-ghost use lib.Dec.{eqb, ltb};
-ghost use lib.ListN.{length, set};
-ghost use Rattle.be.specs.Lists.{every};
+ghost use lib.Dec.{eqb, leb, ltb};
+ghost use lib.ListN.{length, getD, set, replicate};
 ghost use Rattle.be.specs.Bytes.{byte, field, part};
 ghost use Rattle.edition.specs.Edition.{v4, Sane};
 ghost use Rattle.name.specs.Name.{legal-name, same-name};
-ghost use Rattle.dir_block_rules.specs.Record.{says, whole, gaps, entries};
+ghost use Rattle.name_words.specs.Words.{key-of};
+ghost use Rattle.dir_block_rules.specs.Record.{says, gaps, entries};
 ghost use Rattle.dir_block_rules.specs.Verdict.{pair, best-pairs, best-ok, index-ok, verdict};
-ghost use Rattle.dir_block_test.specs.Passes.{no-fault, rest, whole-len, tile-count, slots-from, in-order, hash-at, addr-at, cells-of, hint, name-fits, name-of, fault-at, own-at, worst, best-left, which, clash-from, runs-on, once-in, Reach, after-index, after-tile, after-span, Parts, Data-tiled};
+ghost use Rattle.dir_block_test.specs.Passes.{no-fault, rest, whole-len, slots-from, in-order, level, hash-at, addr-at, slot-word, cells-of, hint, name-fits, name-of, fault-at, own-at, worst, best-left, which, Walks, Faulted, clash-from, runs-on, follows, Marked, once-in, Reach, after-index, after-tile, after-span, Parts, Data-tiled};
 use edition::Edition;
 use edition::V4;
 
-// The table of slots has a cell for every 8 bytes up to the data's end. Clearing that of the largest block would show in the test of a
-// small one: data that ends by SMALL has a table of its own.
-const CELLS: usize = edition::LARGEST_BLOCK / 8;
-
-const SMALL: usize = 16384;
-
-const SMALL_CELLS: usize = SMALL / 8;
-
 // Whether the record at o is a gap.
 fn is_gap(b: &[u8], o: usize) -> bool
-    requires { ⌜ o + 2 ≤ length (now b) ⌝ }
+    requires { ⌜ o + 8 ≤ length (now b) ⌝ }
     ensures { λ r. ⌜ r ≡ eqb (field o 2 (now (b .entry))) 0xffff ⌝ }
 {
-    be::be16(b, o) == 0xffff
+    be::ones_at(b, o)
 }
 
 // How long the record at o says it is; the data ends at t.
@@ -67,34 +60,6 @@ fn whole_len(e: Edition, b: &[u8], o: usize, t: usize) -> usize
     n
 }
 
-// 0 if records do not tile the data up to t, else one more than it has entries.
-fn tiles(e: Edition, b: &[u8], t: usize) -> usize
-    requires { ⌜ Sane e ⌝ }
-    requires { ⌜ (t ≤ length (now b)) × (t % 8 ≡ 0) × (e .header ≤ t) ⌝ }
-    ensures { λ r. ⌜ r ≡ tile-count e false 1 (rest e (now (b .entry)) t (length (now (b .entry))) (e .header)) ⌝ }
-{
-    let mut o = e.header;
-    let mut after = false;
-    let mut n = 1;
-    while o < t {
-        let len = whole_len(e, b, o, t);
-        if len == 0 {
-            return 0;
-        }
-        if is_gap(b, o) {
-            if after {
-                return 0;
-            }
-            after = true;
-        } else {
-            after = false;
-            n += 1;
-        }
-        o += len;
-    }
-    n
-}
-
 // The hash of slot i, of those at t.
 fn slot_hash(b: &[u8], t: usize, i: usize) -> usize
     requires { ⌜ t + 8 * i + 8 ≤ length (now b) ⌝ }
@@ -111,72 +76,65 @@ fn slot_addr(b: &[u8], t: usize, i: usize) -> usize
     be::be32(b, t + 8 * i + 4)
 }
 
-// Whether the hashes of the n slots at t never fall, and m of the slots are stale.
-fn ordered(b: &[u8], t: usize, n: usize, m: usize) -> bool
+// Stores the word of a hash and an address in the address's cell, if the table has it.
+fn keep(cells: &mut [u64], a: usize, h: usize)
+    requires { ⌜ (a < 4294967296) × (h < 4294967296) ⌝ }
+    ensures { λ _. ⌜ now (cells .exit) ≡ set (now (cells .entry)) a (slot-word h a) ⌝ }
+{
+    if a < cells.len() {
+        cells[a] = h as u64 * 4294967296 + a as u64;
+    }
+}
+
+fn ones(x: bool) -> usize
+    ensures { λ r. ⌜ (r ≡ cond x 1 0) × (r ≤ 1) ⌝ }
+{
+    if x {
+        return 1;
+    }
+    0
+}
+
+// What the pass over the slots shows: whether their hashes never fall and as many are stale as should be; whether neighbours have one hash
+// (or the first slot's is 0, which only costs time).
+struct Run {
+    good: bool,
+    equal: bool,
+}
+
+// Goes over the n slots at t, of which m should be stale, and keeps each one's word in the cell of its address.
+fn slots<'a, 'b>(b: &'a [u8], t: usize, n: usize, m: usize, cells: &'b mut [u64]) -> Run
     requires { ⌜ t + 8 * n ≤ length (now b) ⌝ }
-    ensures { λ r. ⌜ r ≡ in-order 0 0 m (slots-from (now (b .entry)) t n 0) ⌝ }
+    ensures { λ r. ⌜ (r .good ≡ in-order 0 0 m (slots-from (now (b .entry)) t n 0)) × (r .equal ≡ level 0 (slots-from (now (b .entry)) t n 0))
+        × (now (cells .exit) ≡ cells-of (now (b .entry)) t (now (cells .entry)) n) ⌝ }
 {
     let mut i = 0;
     let mut last = 0;
     let mut stale = 0;
+    let mut good = true;
+    let mut equal = false;
     while i < n {
         let h = slot_hash(b, t, i);
-        if h < last {
-            return false;
-        }
-        if slot_addr(b, t, i) == 0 {
-            stale += 1;
-        }
+        let a = slot_addr(b, t, i);
+        keep(cells, a, h);
+        good = good & (last <= h);
+        equal = equal | (last == h);
+        stale += ones(a == 0);
         last = h;
         i += 1;
     }
-    stale == m
-}
-
-// Stores v in cell a, if the table has it.
-fn mark(pos: &mut [u16], a: usize, v: u16)
-    ensures { λ _. ⌜ now (pos .exit) ≡ set (now (pos .entry)) a v ⌝ }
-{
-    if a < pos.len() {
-        pos[a] = v;
+    Run {
+        good: good & (stale == m),
+        equal,
     }
 }
 
-// Fills the table: at each address one more than the index of the last of the n slots at t that has it.
-fn mark_all<'a, 'b>(b: &'a [u8], t: usize, n: usize, pos: &'b mut [u16])
-    requires { ⌜ (t + 8 * n ≤ length (now b)) × (n < 65536) ⌝ }
-    ensures { λ _. ⌜ now (pos .exit) ≡ cells-of (now (b .entry)) t (now (pos .entry)) n ⌝ }
+// Whether the cell of address a has the word of hash h.
+fn has_slot(cells: &[u64], h: usize, a: usize) -> bool
+    requires { ⌜ (a < length (now cells)) × (a < 4294967296) × (h < 4294967296) ⌝ }
+    ensures { λ r. ⌜ r ≡ hint (now (cells .entry)) a h ⌝ }
 {
-    let mut i: usize = 0;
-    while i < n {
-        let a = slot_addr(b, t, i);
-        i += 1;
-        mark(pos, a, i as u16);
-    }
-}
-
-fn wide16(x: u16) -> usize
-    ensures { λ r. ⌜ r ≡ x ⌝ }
-{
-    x as usize
-}
-
-// Whether the slot that the table has for address a is there and has hash h.
-fn has_slot(b: &[u8], t: usize, n: usize, pos: &[u16], h: usize, a: usize) -> bool
-    requires { ⌜ (t + 8 * n ≤ length (now b)) × (a < length (now pos)) ⌝ }
-    ensures { λ r. ⌜ r ≡ hint (now (pos .entry)) (now (b .entry)) t n a h ⌝ }
-{
-    let p = wide16(pos[a]);
-    if p < 1 {
-        return false;
-    }
-    if n < p {
-        return false;
-    }
-    if slot_addr(b, t, p - 1) != a {
-        return false;
-    }
-    slot_hash(b, t, p - 1) == h
+    cells[a] == h as u64 * 4294967296 + a as u64
 }
 
 fn agree(x: bool, y: bool) -> bool
@@ -197,6 +155,9 @@ fn name_fits(e: Edition, legal: bool, s: &[u8], o: usize) -> bool
     if !legal {
         return false;
     }
+    if (2 < s.len()) & (e.header + 16 < o) {
+        return true;
+    }
     if !agree(name::equal(s, b"."), o == e.header) {
         return false;
     }
@@ -207,62 +168,33 @@ fn name_fits(e: Edition, legal: bool, s: &[u8], o: usize) -> bool
 const NO_FAULT: usize = refusal::HIGHEST + 1;
 
 // The first test that the entry at o fails: NAME, NUMBER or INDEX.
-fn entry_fault(e: Edition, b: &[u8], o: usize, t: usize, n: usize, pos: &[u16]) -> usize
+fn entry_fault(e: Edition, b: &[u8], o: usize, t: usize, cells: &[u64]) -> usize
     requires { ⌜ Sane e ⌝ }
-    requires { ⌜ (t + 8 * n ≤ length (now b)) × (t ≤ 8 * length (now pos)) × (o + 9 + byte (o + 8) (now b) ≤ t) ⌝ }
-    ensures { λ r. ⌜ r ≡ fault-at e (own-at e (now (b .entry))) (hint (now (pos .entry)) (now (b .entry)) t n) (now (b .entry)) o ⌝ }
+    requires { ⌜ (t + 8 ≤ length (now b)) × (t < 65536) × (t ≤ 8 * length (now cells)) × (o + 9 + byte (o + 8) (now b) ≤ t) ⌝ }
+    ensures { λ r. ⌜ r ≡ fault-at e (own-at e (now (b .entry))) (hint (now (cells .entry))) (now (b .entry)) o ⌝ }
 {
     let from = o + 9;
     let end = from + be::be8(b, o + 8);
-    let c = name::check(e, &b[from..end]);
+    let c = name_words::check_in(e, b, from, end);
     if !name_fits(e, c.legal, &b[from..end], o) {
         return refusal::NAME;
     }
-    if !name::number_legal(be::be64(b, o)) {
+    if !name_words::number_legal_at(b, o) {
         return refusal::NUMBER;
     }
-    if has_slot(b, t, n, pos, c.hash, o / 8) {
+    if has_slot(cells, c.hash, o / 8) {
         return NO_FAULT;
     }
     refusal::INDEX
 }
 
-// The lower of w and the record's first fault.
-fn worse(e: Edition, b: &[u8], o: usize, t: usize, n: usize, pos: &[u16], w: usize) -> usize
-    requires { ⌜ Sane e ⌝ }
-    requires { ⌜ (t + 8 * n ≤ length (now b)) × (t ≤ 8 * length (now pos)) × (o + 2 ≤ t)
-        × (eqb (field o 2 (now b)) 0xffff ≡ false → o + 9 + byte (o + 8) (now b) ≤ t) ⌝ }
-    ensures { λ r. ⌜ r ≡ min w (cond (eqb (field o 2 (now (b .entry))) 0xffff) no-fault
-        (fault-at e (own-at e (now (b .entry))) (hint (now (pos .entry)) (now (b .entry)) t n) (now (b .entry)) o)) ⌝ }
+fn lower(x: usize, y: usize) -> usize
+    ensures { λ r. ⌜ r ≡ min x y ⌝ }
 {
-    if is_gap(b, o) {
-        if NO_FAULT < w {
-            return NO_FAULT;
-        }
-        return w;
+    if y < x {
+        return y;
     }
-    let f = entry_fault(e, b, o, t, n, pos);
-    if f < w {
-        return f;
-    }
-    w
-}
-
-// The lowest fault of the entries' names, numbers and slots.
-fn faults(e: Edition, b: &[u8], t: usize, n: usize, pos: &[u16]) -> usize
-    requires { ⌜ Sane e ⌝ }
-    requires { ⌜ (t + 8 * n ≤ length (now b)) × (t ≤ 8 * length (now pos)) × (t % 8 ≡ 0) × (e .header ≤ t)
-        × (every (whole e) (rest e (now b) t (length (now b)) (e .header)) ≡ true) ⌝ }
-    ensures { λ r. ⌜ r ≡ worst e (own-at e (now (b .entry))) (hint (now (pos .entry)) (now (b .entry)) t n)
-        (rest e (now (b .entry)) t (length (now (b .entry))) (e .header)) ⌝ }
-{
-    let mut o = e.header;
-    let mut w = NO_FAULT;
-    while o < t {
-        w = worse(e, b, o, t, n, pos, w);
-        o += rec_len(e, b, o, t);
-    }
-    w
+    x
 }
 
 // A pair of the best-gap table.
@@ -278,13 +210,10 @@ fn named(p: Best, o: usize, n: usize) -> bool
     (o == p.from) & (n == p.long)
 }
 
-// Which pair names the record of n bytes at o: 1, 2 or 3; 4 if none has to, 0 if one should.
-fn which(g: bool, o: usize, n: usize, p: Best, q: Best, s: Best) -> usize
-    ensures { λ r. ⌜ r ≡ which g o n (pair (p .from) (p .long)) (pair (q .from) (q .long)) (pair (s .from) (s .long)) ⌝ }
+// Which pair names the gap of n bytes at o: 1, 2 or 3; 4 if none has to, 0 if one should.
+fn which(o: usize, n: usize, p: Best, q: Best, s: Best) -> usize
+    ensures { λ r. ⌜ r ≡ which o n (pair (p .from) (p .long)) (pair (q .from) (q .long)) (pair (s .from) (s .long)) ⌝ }
 {
-    if !g {
-        return 4;
-    }
     if named(p, o, n) {
         return 1;
     }
@@ -300,39 +229,81 @@ fn which(g: bool, o: usize, n: usize, p: Best, q: Best, s: Best) -> usize
     4
 }
 
-// Whether the pairs p, q and s name the longest gaps, where x, y and z say which need not name one.
-fn best_left(
+// What the pass over the records shows: n is 0 if the data is not tiled, else one more than it has entries; w is the lowest fault of
+// their names, numbers and slots; best says whether the pairs name the longest gaps.
+struct Walked {
+    n: usize,
+    w: usize,
+    best: bool,
+}
+
+fn untiled() -> Walked
+    ensures { λ r. ⌜ r .n ≡ 0 ⌝ }
+{
+    Walked {
+        n: 0,
+        w: 0,
+        best: false,
+    }
+}
+
+// Goes over the records up to t, where x0, y0 and z0 say which pairs need not name a gap.
+fn walk(
     e: Edition,
     b: &[u8],
     t: usize,
+    cells: &[u64],
     p: Best,
     q: Best,
     s: Best,
     x0: bool,
     y0: bool,
     z0: bool,
-) -> bool
+) -> Walked
     requires { ⌜ Sane e ⌝ }
-    requires { ⌜ (t ≤ length (now b)) × (t % 8 ≡ 0) × (e .header ≤ t) × (every (whole e) (rest e (now b) t (length (now b)) (e .header)) ≡ true) ⌝ }
-    ensures { λ r. ⌜ r ≡ best-left x0 y0 z0 (pair (p .from) (p .long)) (pair (q .from) (q .long)) (pair (s .from) (s .long))
-        (gaps (rest e (now (b .entry)) t (length (now (b .entry))) (e .header))) ⌝ }
+    requires { ⌜ (t + 8 ≤ length (now b)) × (t < 65536) × (t % 8 ≡ 0) × (e .header ≤ t) × (t ≤ 8 * length (now cells)) ⌝ }
+    ensures { λ r. ⌜ Walks e (own-at e (now (b .entry))) (hint (now (cells .entry))) (rest e (now (b .entry)) t (length (now (b .entry))) (e .header))
+        (best-left x0 y0 z0 (pair (p .from) (p .long)) (pair (q .from) (q .long)) (pair (s .from) (s .long))
+        (gaps (rest e (now (b .entry)) t (length (now (b .entry))) (e .header))))
+        (r .n) (r .w) (r .best) ⌝ }
 {
     let mut o = e.header;
+    let mut after = false;
+    let mut n = 1;
+    let mut w = NO_FAULT;
     let mut x = x0;
     let mut y = y0;
     let mut z = z0;
+    let mut best = true;
     while o < t {
-        let n = rec_len(e, b, o, t);
-        let k = which(is_gap(b, o), o, n, p, q, s);
-        if k == 0 {
-            return false;
+        if !is_gap(b, o) {
+            let len = whole_len(e, b, o, t);
+            if len == 0 {
+                return untiled();
+            }
+            w = lower(w, entry_fault(e, b, o, t, cells));
+            n += 1;
+            after = false;
+            o += len;
+            continue;
         }
+        let len = whole_len(e, b, o, t);
+        if (len == 0) | after {
+            return untiled();
+        }
+        let k = which(o, len, p, q, s);
+        best = best & (k != 0);
         x = x | (k == 1);
         y = y | (k == 2);
         z = z | (k == 3);
-        o += n;
+        after = true;
+        o += len;
     }
-    x & (y & z)
+    Walked {
+        n,
+        w,
+        best: best & (x & (y & z)),
+    }
 }
 
 // Whether the entries at p and at q have the same name.
@@ -383,33 +354,103 @@ fn runs_on(b: &[u8], t: usize, n: usize, i: usize) -> bool
     false
 }
 
-// Whether slot i is live, and a later one addresses an entry of the same name.
-fn twin(e: Edition, b: &[u8], t: usize, n: usize, i: usize) -> bool
-    requires { ⌜ (t + 8 * n ≤ length (now b)) × (i < n) × Reach (now b) t n ⌝ }
-    ensures { λ r. ⌜ r ≡ (not (eqb (addr-at (now (b .entry)) t i) 0)
-        && clash-from e (now (b .entry)) (hash-at (now (b .entry)) t i) (addr-at (now (b .entry)) t i) (slots-from (now (b .entry)) t n (i + 1))) ⌝ }
+// Whether slot i has the hash of the one before it.
+fn follows(b: &[u8], t: usize, i: usize) -> bool
+    requires { ⌜ t + 8 * i + 8 ≤ length (now b) ⌝ }
+    ensures { λ r. ⌜ r ≡ follows (now (b .entry)) t i ⌝ }
 {
-    if slot_addr(b, t, i) == 0 {
+    if 0 < i {
+        return slot_hash(b, t, i - 1) == slot_hash(b, t, i);
+    }
+    false
+}
+
+// Whether slot i has the hash of the one before it or behind it.
+fn in_run(b: &[u8], t: usize, n: usize, i: usize) -> bool
+    requires { ⌜ (t + 8 * n ≤ length (now b)) × (i < n) ⌝ }
+    ensures { λ r. ⌜ r ≡ (follows (now (b .entry)) t i || runs-on (hash-at (now (b .entry)) t i) (slots-from (now (b .entry)) t n (i + 1))) ⌝ }
+{
+    if follows(b, t, i) {
+        return true;
+    }
+    runs_on(b, t, n, i)
+}
+
+// A number for the name of the entry at p, the same for equal names.
+fn name_key(b: &[u8], p: usize) -> usize
+    requires { ⌜ p + 9 + byte (p + 8) (now b) + 8 ≤ length (now b) ⌝ }
+    ensures { λ r. ⌜ r ≡ key-of (name-of (now (b .entry)) p) ⌝ }
+{
+    let i = p + 9;
+    let end = i + be::be8(b, p + 8);
+    name_words::key(b, i, end)
+}
+
+// Stores a 1 in cell k; whether one stood there.
+fn note(seen: &mut [u8], k: usize) -> bool
+    requires { ⌜ k < length (now seen) ⌝ }
+    ensures { λ r. ⌜ (r ≡ not (eqb (getD (now (seen .entry)) k 0) 0)) × (now (seen .exit) ≡ set (now (seen .entry)) k 1) ⌝ }
+{
+    let was = seen[k];
+    seen[k] = 1;
+    was != 0
+}
+
+// Whether slot i is live, and a later one addresses an entry of the same name. Each name has two cells: names are compared only where later
+// ones have both, so that many names of one hash are seldom compared.
+fn twin<'a, 'b>(e: Edition, b: &'a [u8], t: usize, n: usize, i: usize, seen: &'b mut [u8]) -> bool
+    requires { ⌜ (t + 8 * n ≤ length (now b)) × (i < n) × Reach (now b) t n × Marked (now b) t n (i + 1) (now seen) ⌝ }
+    ensures { λ r. ⌜ (r ≡ (not (eqb (addr-at (now (b .entry)) t i) 0)
+        && clash-from e (now (b .entry)) (hash-at (now (b .entry)) t i) (addr-at (now (b .entry)) t i) (slots-from (now (b .entry)) t n (i + 1))))
+        × Marked (now (b .entry)) t n i (now (seen .exit)) ⌝ }
+{
+    let a = slot_addr(b, t, i);
+    if a == 0 {
+        return false;
+    }
+    let cells = seen.len();
+    let k = name_key(b, 8 * a);
+    let one = note(seen, k & (cells - 1));
+    let two = note(seen, (k / 65536) & (cells - 1));
+    if !(one & two) {
         return false;
     }
     clash(e, b, t, n, i)
 }
 
-// Whether no name is stored twice: names are compared inside runs of equal hashes alone.
+// Whether no name is stored twice, from the last slot down; what the table holds at first doesn't matter.
+fn once_with<'a, 'b>(e: Edition, b: &'a [u8], t: usize, n: usize, seen: &'b mut [u8]) -> bool
+    requires { ⌜ (t + 8 * n ≤ length (now b)) × Reach (now b) t n × (0 < length (now seen)) ⌝ }
+    ensures { λ r. ⌜ r ≡ once-in e (now (b .entry)) (slots-from (now (b .entry)) t n 0) ⌝ }
+{
+    let mut i = n;
+    while 0 < i {
+        i -= 1;
+        if in_run(b, t, n, i) {
+            if twin(e, b, t, n, i, seen) {
+                return false;
+            }
+        }
+    }
+    true
+}
+
+// How much is cleared for the names seen follows the block's size.
+const FEW: usize = 4096;
+
+const MANY: usize = 32768;
+
+// Whether no name is stored twice.
 fn once(e: Edition, b: &[u8], t: usize, n: usize) -> bool
     requires { ⌜ (t + 8 * n ≤ length (now b)) × Reach (now b) t n ⌝ }
     ensures { λ r. ⌜ r ≡ once-in e (now (b .entry)) (slots-from (now (b .entry)) t n 0) ⌝ }
 {
-    let mut i: usize = 0;
-    while i < n {
-        if runs_on(b, t, n, i) {
-            if twin(e, b, t, n, i) {
-                return false;
-            }
-        }
-        i += 1;
+    if t <= FEW {
+        let mut seen = [0u8; FEW];
+        return once_with(e, b, t, n, &mut seen);
     }
-    true
+    let mut seen = [0u8; MANY];
+    once_with(e, b, t, n, &mut seen)
 }
 
 // The pair at o.
@@ -428,32 +469,26 @@ fn is_zero(p: Best) -> bool
     (p.from == 0) & (p.long == 0)
 }
 
-// 9: whether the best-gap table is right.
-fn best_fits(e: Edition, b: &[u8], t: usize, n: usize) -> bool
-    requires { ⌜ Sane e ⌝ }
-    requires { ⌜ Data-tiled e (now b) t n ⌝ }
-    ensures { λ r. ⌜ r ≡ best-ok (best-pairs e (now (b .entry))) (gaps (rest e (now (b .entry)) t (length (now (b .entry))) (e .header))) ⌝ }
+// BEST: whether the pairs do not rise, and name the longest gaps.
+fn best_fits(p: Best, q: Best, s: Best, left: bool) -> bool
+    ensures { λ r. ⌜ r ≡ (leb (q .long) (p .long) && (leb (s .long) (q .long) && left)) ⌝ }
 {
-    let p = pair_at(b, e.best);
-    let q = pair_at(b, e.best + 4);
-    let s = pair_at(b, e.best + 8);
-    if p.long < q.long {
-        return false;
-    }
-    if q.long < s.long {
-        return false;
-    }
-    best_left(e, b, t, p, q, s, is_zero(p), is_zero(q), is_zero(s))
+    (q.long <= p.long) & ((s.long <= q.long) & left)
 }
 
-// The tests from BEST on.
-fn test_best(e: Edition, b: &[u8], t: usize, n: usize, m: usize) -> usize
+// The tests from BEST on. Names are compared only if neighbours have one hash.
+fn test_best(e: Edition, b: &[u8], t: usize, n: usize, m: usize, best: bool, equal: bool) -> usize
     requires { ⌜ Sane e ⌝ }
-    requires { ⌜ Data-tiled e (now b) t n × (index-ok e (rest e (now b) t (length (now b)) (e .header)) (slots-from (now b) t n 0) m ≡ true) ⌝ }
+    requires { ⌜ Data-tiled e (now b) t n × (index-ok e (rest e (now b) t (length (now b)) (e .header)) (slots-from (now b) t n 0) m ≡ true)
+        × (best ≡ best-ok (best-pairs e (now b)) (gaps (rest e (now b) t (length (now b)) (e .header))))
+        × (equal ≡ level 0 (slots-from (now b) t n 0)) ⌝ }
     ensures { λ r. ⌜ r ≡ after-index e (now (b .entry)) (rest e (now (b .entry)) t (length (now (b .entry))) (e .header)) ⌝ }
 {
-    if !best_fits(e, b, t, n) {
+    if !best {
         return refusal::BEST;
+    }
+    if !equal {
+        return 0;
     }
     if !once(e, b, t, n) {
         return refusal::TWICE;
@@ -463,7 +498,7 @@ fn test_best(e: Edition, b: &[u8], t: usize, n: usize, m: usize) -> usize
 
 // Whether an entry stands at o.
 fn entry_at(b: &[u8], o: usize, t: usize) -> bool
-    requires { ⌜ (o < t → o + 2 ≤ length (now b)) ⌝ }
+    requires { ⌜ (o < t → o + 8 ≤ length (now b)) ⌝ }
     ensures { λ r. ⌜ r ≡ (ltb o t && not (eqb (field o 2 (now (b .entry))) 0xffff)) ⌝ }
 {
     if o < t {
@@ -472,42 +507,26 @@ fn entry_at(b: &[u8], o: usize, t: usize) -> bool
     false
 }
 
-// Whether the hashes never fall, m slots are stale, and the others are as many as the entries.
-fn counts_fit(b: &[u8], t: usize, n: usize, m: usize, live: usize) -> bool
-    requires { ⌜ (t + 8 * n ≤ length (now b)) × (m ≤ n) ⌝ }
-    ensures { λ r. ⌜ r ≡ (in-order 0 0 m (slots-from (now (b .entry)) t n 0) && eqb (n - m) live) ⌝ }
-{
-    ordered(b, t, n, m) & (n - m == live)
-}
-
-fn searched(fit: bool, n: usize) -> usize
-    ensures { λ r. ⌜ r ≡ cond fit n 0 ⌝ }
-{
-    if fit {
-        return n;
-    }
-    0
-}
-
-// The tests from NAME on, with a table for the slots; what it holds at first doesn't matter.
-fn test_entries_with<'a, 'b>(
+// The tests from NAME on, by what the passes showed.
+fn test_entries(
     e: Edition,
-    b: &'a [u8],
+    b: &[u8],
     t: usize,
     n: usize,
     m: usize,
     live: usize,
-    pos: &'b mut [u16],
+    run: Run,
+    w: usize,
+    best: bool,
 ) -> usize
     requires { ⌜ Sane e ⌝ }
     requires { ⌜ Data-tiled e (now b) t n × (m ≤ n) × (live ≡ length (entries (rest e (now b) t (length (now b)) (e .header))))
-        × (t ≤ 8 * length (now pos)) ⌝ }
+        × (run .good ≡ in-order 0 0 m (slots-from (now b) t n 0)) × (run .equal ≡ level 0 (slots-from (now b) t n 0))
+        × Faulted e (now b) t n w
+        × (best ≡ best-ok (best-pairs e (now b)) (gaps (rest e (now b) t (length (now b)) (e .header)))) ⌝ }
     ensures { λ r. ⌜ r ≡ after-tile e (now (b .entry)) (rest e (now (b .entry)) t (length (now (b .entry))) (e .header))
         (slots-from (now (b .entry)) t n 0) m ⌝ }
 {
-    let fit = counts_fit(b, t, n, m, live);
-    mark_all(b, t, n, pos);
-    let w = faults(e, b, t, searched(fit, n), &pos[..]);
     if w <= refusal::NAME {
         return refusal::NAME;
     }
@@ -517,29 +536,58 @@ fn test_entries_with<'a, 'b>(
     if w <= refusal::NUMBER {
         return refusal::NUMBER;
     }
-    if !fit {
+    if !(run.good & (n - m == live)) {
         return refusal::INDEX;
     }
     if w <= refusal::INDEX {
         return refusal::INDEX;
     }
-    test_best(e, b, t, n, m)
+    test_best(e, b, t, n, m, best, run.equal)
 }
 
-// The tests from NAME on.
-fn test_entries(e: Edition, b: &[u8], t: usize, n: usize, m: usize, live: usize) -> usize
+// The tests from TILE on, with a table of zeros for the slots.
+fn test_data_with<'a, 'b>(
+    e: Edition,
+    b: &'a [u8],
+    t: usize,
+    n: usize,
+    m: usize,
+    cells: &'b mut [u64],
+) -> usize
     requires { ⌜ Sane e ⌝ }
-    requires { ⌜ Data-tiled e (now b) t n × (m ≤ n) × (live ≡ length (entries (rest e (now b) t (length (now b)) (e .header)))) ⌝ }
-    ensures { λ r. ⌜ r ≡ after-tile e (now (b .entry)) (rest e (now (b .entry)) t (length (now (b .entry))) (e .header))
+    requires { ⌜ Parts e (now b) t n × (m ≤ n) × (t ≤ 8 * length (now cells)) × (now cells ≡ replicate (length (now cells)) 0) ⌝ }
+    ensures { λ r. ⌜ r ≡ after-span e (now (b .entry)) (rest e (now (b .entry)) t (length (now (b .entry))) (e .header))
         (slots-from (now (b .entry)) t n 0) m ⌝ }
 {
-    if t <= SMALL {
-        let mut pos = [0u16; SMALL_CELLS];
-        return test_entries_with(e, b, t, n, m, live, &mut pos);
+    let run = slots(b, t, n, m, cells);
+    let p = pair_at(b, e.best);
+    let q = pair_at(b, e.best + 4);
+    let s = pair_at(b, e.best + 8);
+    let r = walk(
+        e,
+        b,
+        t,
+        &cells[..],
+        p,
+        q,
+        s,
+        is_zero(p),
+        is_zero(q),
+        is_zero(s),
+    );
+    if r.n == 0 {
+        return refusal::TILE;
     }
-    let mut pos = [0u16; CELLS];
-    test_entries_with(e, b, t, n, m, live, &mut pos)
+    test_entries(e, b, t, n, m, r.n - 1, run, r.w, best_fits(p, q, s, r.best))
 }
+
+// The table has a cell for every 8 bytes up to the data's end. Clearing that of the largest block would show in the test of a small one:
+// what is cleared follows the block's size.
+const DATA_1: usize = 1024;
+
+const DATA_4: usize = 4096;
+
+const DATA_16: usize = 16384;
 
 // The tests from TILE on.
 fn test_data(e: Edition, b: &[u8], t: usize, n: usize, m: usize) -> usize
@@ -548,11 +596,20 @@ fn test_data(e: Edition, b: &[u8], t: usize, n: usize, m: usize) -> usize
     ensures { λ r. ⌜ r ≡ after-span e (now (b .entry)) (rest e (now (b .entry)) t (length (now (b .entry))) (e .header))
         (slots-from (now (b .entry)) t n 0) m ⌝ }
 {
-    let k = tiles(e, b, t);
-    if k == 0 {
-        return refusal::TILE;
+    if t <= DATA_1 {
+        let mut cells = [0u64; DATA_1 / 8];
+        return test_data_with(e, b, t, n, m, &mut cells);
     }
-    test_entries(e, b, t, n, m, k - 1)
+    if t <= DATA_4 {
+        let mut cells = [0u64; DATA_4 / 8];
+        return test_data_with(e, b, t, n, m, &mut cells);
+    }
+    if t <= DATA_16 {
+        let mut cells = [0u64; DATA_16 / 8];
+        return test_data_with(e, b, t, n, m, &mut cells);
+    }
+    let mut cells = [0u64; edition::LARGEST_BLOCK / 8];
+    test_data_with(e, b, t, n, m, &mut cells)
 }
 
 // The test of a block of an edition: 0, or the number of the first test that fails.

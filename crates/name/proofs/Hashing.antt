@@ -24,7 +24,7 @@ step-lt : (h x : ℕ) → h < 2 ^ 32 → x < 256 → hash-byte h x < 2 ^ 32
 unfolding hash-byte
 step-lt h x p q = xor-lt 32 (rol 7 h) x (rol-lt 7 h (lit≤ tt) p) (omega arith)
 
-hash-from-lt : (h : ℕ) (n : List ℕ) → h < 2 ^ 32 → bytes n ≡ true → hash-from h n < 2 ^ 32
+pub hash-from-lt : (h : ℕ) (n : List ℕ) → h < 2 ^ 32 → bytes n ≡ true → hash-from h n < 2 ^ 32
 unfolding hash-from
 hash-from-lt h [] p b = p
 hash-from-lt h (x ∷ xs) p b =

@@ -5,3 +5,4 @@ pub mod FirstBytes
 pub mod Same
 pub mod Legality
 pub mod Once
+pub mod EqualWords

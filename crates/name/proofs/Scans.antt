@@ -1,18 +1,18 @@
 -- Bytes tested one after the other: the turns and the ends of the loops over names.
 -- Assumes nothing.
-use Prim.Native.Nat.{ℕ, suc, _+_, _-_, _/_, _≤_, _<_}
+use Prim.Native.Nat.{ℕ, suc, _+_, _≤_, _<_}
 use native.Mathlib.Numerals.{add-one}
 use native.Mathlib.Omega.{arith}
-use mathlib.Core.Bool.{Bool, true, false, _&&_, and-assoc}
+use mathlib.Core.Bool.{Bool, true, false, cond, _&&_, and-assoc}
 use mathlib.Core.Path.{_≡_, refl, sym, _∙_, ap}
 use mathlib.Core.List.{List, [], _∷_, _++_}
+use lib.Bits.{bitOr, or-zero-r, or-add-and, and-le-l}
 use lib.Dec.{eqb}
 use lib.ListN.{length, drop, getD, drop-of-length-le}
 use lib.Seq.{drop-cons, drop-length}
 use borrow.Author.Tests.{eq-eqb, ne-eqb}
 use Rattle.be.specs.Lists.{every, same}
-use Rattle.be.proofs.Bools.{by-cases, and-true, every-append}
-use Rattle.name.specs.Name.{clear-of}
+use Rattle.be.proofs.Bools.{by-cases, and-true, and-false}
 
 -- ---- the bytes of one turn, and those behind them
 
@@ -34,55 +34,22 @@ four-at s i h =
 
 -- ---- a test of every byte
 
-pub every-on : (p : ℕ → Bool) (s : List ℕ) (i : ℕ) → i < length s → p (getD s i 0) ≡ true → every p (drop i s) ≡ every p (drop (i + 1) s)
-every-on p s i h q = rw (add-one, drop-cons s i 0 h, q) refl
-
-pub every-stop : (p : ℕ → Bool) (s : List ℕ) (i : ℕ) → i < length s → p (getD s i 0) ≡ false → every p (drop i s) ≡ false
-every-stop p s i h q = rw (drop-cons s i 0 h, q) refl
-
 pub every-end : (p : ℕ → Bool) (s : List ℕ) (i : ℕ) → length s ≤ i → every p (drop i s) ≡ true
 every-end p s i h = rw (drop-of-length-le s h) refl
 
--- of one to three bytes: the first, the one at half the length and the last are all of them
-pub every-short : (p : ℕ → Bool) (s : List ℕ) → 0 < length s → length s < 4
-    → (true && p (getD s 0 0) && p (getD s (length s / 2) 0) && p (getD s (length s - 1) 0)) ≡ every p s
-every-short p [] h k = absurd (omega arith)
-every-short p (x ∷ []) h k = by-cases (p x) (λ q. rw q refl) (λ q. rw q refl)
-every-short p (x ∷ y ∷ []) h k = by-cases (p x) (λ q. by-cases (p y) (λ r. rw (q, r) refl) (λ r. rw (q, r) refl)) (λ q. rw q refl)
-every-short p (x ∷ y ∷ z ∷ []) h k = simp (and-assoc, and-true)
-every-short p (x ∷ y ∷ z ∷ w ∷ ws) h k = absurd (omega arith)
+none-bad : (n : ℕ) (c : Bool) → eqb (bitOr n (cond c 0 1)) 0 ≡ (eqb n 0 && c)
+none-bad n true = rw (or-zero-r n) (sym (and-true (eqb n 0)))
+none-bad n false = ne-eqb (bitOr n 1) 0 (λ (z : bitOr n 1 ≡ 0). omega (arith, or-add-and n 1, and-le-l n 1)) ∙ sym (and-false (eqb n 0))
 
--- the bytes before i are clear of 0 and t
-pub record Clear (t : ℕ) (s : List ℕ) (i : ℕ) : Type 0 where
-  pub upto : i ≤ length s
-  pub rest : every (clear-of t) s ≡ every (clear-of t) (drop i s)
+-- n is 0 if all bytes before i pass: a turn, and the end
+module _ (p : ℕ → Bool) (s : List ℕ) (i n : ℕ) (so : every p s ≡ (eqb n 0 && every p (drop i s))) where
+  pub every-turn : i < length s → (x : ℕ) → x ≡ cond (p (getD s i 0)) 0 1 → every p s ≡ (eqb (bitOr n x) 0 && every p (drop (i + 1) s))
+  every-turn h x q =
+      so ∙ rw (add-one, drop-cons s i 0 h) (sym (and-assoc (eqb n 0) (p (getD s i 0)) (every p (drop (suc i) s))))
+      ∙ ap (λ (t : Bool). t && every p (drop (i + 1) s)) (sym (ap (λ (y : ℕ). eqb (bitOr n y) 0) q ∙ none-bad n (p (getD s i 0))))
 
-pub clear-next : (t : ℕ) (s : List ℕ) (i : ℕ) → Clear t s i → i < length s → (getD s i 0 ≡ 0 → ⊥) → (getD s i 0 ≡ t → ⊥) → Clear t s (i + 1)
-clear-next t s i v h a b =
-    record { upto = omega arith; rest = v .rest ∙ every-on (clear-of t) s i h (rw (ne-eqb (getD s i 0) 0 a, ne-eqb (getD s i 0) t b) refl) }
-
-pub clear-zero : (t : ℕ) (s : List ℕ) (i : ℕ) → Clear t s i → i < length s → getD s i 0 ≡ 0 → false ≡ every (clear-of t) s
-clear-zero t s i v h a = sym (v .rest ∙ every-stop (clear-of t) s i h (rw (eq-eqb (getD s i 0) 0 a) refl))
-
-pub clear-other : (t : ℕ) (s : List ℕ) (i : ℕ) → Clear t s i → i < length s → getD s i 0 ≡ t → false ≡ every (clear-of t) s
-clear-other t s i v h a =
-    sym (v .rest ∙ every-stop (clear-of t) s i h (by-cases (eqb (getD s i 0) 0) (λ q. rw q refl) (λ q. rw (q, eq-eqb (getD s i 0) t a) refl)))
-
-pub clear-done : (t : ℕ) (s : List ℕ) (i : ℕ) → Clear t s i → length s ≤ i → true ≡ every (clear-of t) s
-clear-done t s i v h = sym (v .rest ∙ every-end (clear-of t) s i h)
-
--- d is the test so far, v that with the bytes from i on: a turn over the run xs, and the end
-module _ (p : ℕ → Bool) (s : List ℕ) (i : ℕ) (d v : Bool) where
-  pub and-turn : (xs : List ℕ) (j : ℕ) (a : Bool) → drop i s ≡ xs ++ drop j s → a ≡ (d && every p xs)
-      → v ≡ (d && every p (drop i s)) → v ≡ (a && every p (drop j s))
-  and-turn xs j a e q h = h ∙ rw (e, every-append p xs (drop j s), q) (sym (and-assoc d (every p xs) (every p (drop j s))))
-
-  pub and-end : length s ≤ i → v ≡ (d && every p (drop i s)) → d ≡ v
-  and-end l h = sym (h ∙ rw (every-end p s i l) (and-true d))
-
--- one test after another, and all of them as the test of a run
-pub four-tests : (d x y z w : Bool) → (d && x && y && z && w) ≡ (d && (x && (y && (z && (w && true)))))
-four-tests d x y z w = simp (and-assoc, and-true)
+  pub every-done : length s ≤ i → eqb n 0 ≡ every p s
+  every-done h = sym (so ∙ rw (every-end p s i h) (and-true (eqb n 0)))
 
 -- ---- two runs of bytes, byte by byte
 
@@ -106,17 +73,18 @@ unlike (x ∷ s) [] h = refl
 unlike (x ∷ s) (y ∷ t) h =
     by-cases (eqb x y) (λ q. rw q (unlike s t (λ k. h (ap suc k)))) (λ q. rw q refl)
 
--- as long as each other, and equal before i
-pub record Alike (s t : List ℕ) (i : ℕ) : Type 0 where
+-- as long as each other, and v says whether they are equal from i on
+pub record Alike (v : Bool) (s t : List ℕ) (i : ℕ) : Type 0 where
   pub upto : i ≤ length s
   pub long : length s ≡ length t
-  pub rest : same s t ≡ same (drop i s) (drop i t)
+  pub rest : v ≡ same (drop i s) (drop i t)
 
-pub alike-next : (s t : List ℕ) (i : ℕ) → Alike s t i → i < length s → getD s i 0 ≡ getD t i 0 → Alike s t (i + 1)
-alike-next s t i v h a = record { upto = omega arith; long = v .long; rest = v .rest ∙ same-on s t i h (omega arith) a }
+module _ (v : Bool) (s t : List ℕ) (i : ℕ) where
+  pub alike-next : Alike v s t i → i < length s → getD s i 0 ≡ getD t i 0 → Alike v s t (i + 1)
+  alike-next a h q = record { upto = omega arith; long = a .long; rest = a .rest ∙ same-on s t i h (omega arith) q }
 
-pub alike-not : (s t : List ℕ) (i : ℕ) → Alike s t i → i < length s → (getD s i 0 ≡ getD t i 0 → ⊥) → false ≡ same s t
-alike-not s t i v h a = sym (v .rest ∙ same-stop s t i h (omega arith) a)
+  pub alike-not : Alike v s t i → i < length s → (getD s i 0 ≡ getD t i 0 → ⊥) → false ≡ v
+  alike-not a h q = sym (a .rest ∙ same-stop s t i h (omega arith) q)
 
-pub alike-done : (s t : List ℕ) (i : ℕ) → Alike s t i → length s ≤ i → true ≡ same s t
-alike-done s t i v h = let q : i ≡ length s = omega arith in sym (v .rest ∙ same-end s t i q (v .long))
+  pub alike-done : Alike v s t i → length s ≤ i → true ≡ v
+  alike-done a h = let q : i ≡ length s = omega arith in sym (a .rest ∙ same-end s t i q (a .long))

@@ -1,28 +1,35 @@
 // Names and inode numbers: which are legal, the hash of a name, and when two names are the same.
 ghost use mathlib.Core.Path.{_≡_};
-ghost use mathlib.Core.Bool.{_&&_};
+ghost use mathlib.Core.Bool.{cond};
 ghost use mathlib.Core.List.{[], _∷_};
 ghost use Prim.Native.Nat.{_≤_, _<_};
 ghost use lib.ListN.{length, take, drop};
 ghost use Rattle.be.specs.Lists.{every, same};
-ghost use Rattle.name.specs.Name.{clear-of, legal-byte, legal-name, legal-attr-name, legal-number, rol, hash-byte, hash-from, hash-of, same-name, fixed-name};
+ghost use Rattle.name.specs.Name.{clear-of, legal-name, legal-attr-name, legal-number, rol, hash-from, hash-of, same-name, fixed-name};
 use edition::Edition;
 
-// Whether no byte is 0 or equal to t.
+// 0 if x is neither 0 nor t, else 1.
+fn bad_byte(x: u8, t: u8) -> u8
+    ensures { λ r. ⌜ r ≡ cond (clear-of t x) 0 1 ⌝ }
+{
+    if (x == 0) | (x == t) {
+        return 1;
+    }
+    0
+}
+
+// Whether no byte is 0 or equal to t. All bytes are looked at, whatever the first ones show, and what they show is kept as a number: so the
+// loop takes many at once.
 fn clear_of(s: &[u8], t: u8) -> bool
     ensures { λ r. ⌜ r ≡ every (clear-of t) (now (s .entry)) ⌝ }
 {
+    let mut bad: u8 = 0;
     let mut i = 0;
     while i < s.len() {
-        if s[i] == 0 {
-            return false;
-        }
-        if s[i] == t {
-            return false;
-        }
+        bad = bad | bad_byte(s[i], t);
         i += 1;
     }
-    true
+    bad == 0
 }
 
 // Whether a name may stand in a directory.
@@ -65,18 +72,11 @@ fn wide(h: u32) -> usize
 }
 
 // 32 bits, rotated left by k.
-fn rotated(h: u32, k: u32) -> u32
+pub fn rotated(h: u32, k: u32) -> u32
     requires { ⌜ (0 < k) × (k < 32) ⌝ }
     ensures { λ r. ⌜ r ≡ rol k h ⌝ }
 {
     (h << k) | (h >> (32 - k))
-}
-
-// The hash with one byte more.
-fn hash_byte(h: u32, x: u8) -> u32
-    ensures { λ r. ⌜ r ≡ hash-byte h x ⌝ }
-{
-    rotated(h, 7) ^ (x as u32)
 }
 
 // The hash with four bytes more, as in the kernel: one rotation for all of them, and each byte moved past those behind it.
@@ -138,99 +138,12 @@ pub fn hash(e: Edition, s: &[u8]) -> usize
     wide(hash32(e, s))
 }
 
-// What one pass over a directory name shows.
-pub struct Checked {
-    pub legal: bool,
-    pub hash: usize,
-}
-
-// Whether the bytes so far were clear of 0 and "/", and x is too.
-fn still_clear(clear: bool, x: u8) -> bool
-    ensures { λ r. ⌜ r ≡ (clear && legal-byte x) ⌝ }
+// Whether two runs as long as each other are equal from a place on, byte by byte.
+fn equal_rest(s: &[u8], t: &[u8], from: usize) -> bool
+    requires { ⌜ (from ≤ length (now s)) × (length (now s) ≡ length (now t)) ⌝ }
+    ensures { λ r. ⌜ r ≡ same (drop from (now (s .entry))) (drop from (now (t .entry))) ⌝ }
 {
-    clear & !((x == 0) | (x == 47))
-}
-
-// The same with four bytes.
-fn four_clear(clear: bool, a: u8, b: u8, c: u8, d: u8) -> bool
-    ensures { λ r. ⌜ r ≡ (clear && every legal-byte (a ∷ b ∷ c ∷ d ∷ [])) ⌝ }
-{
-    still_clear(still_clear(still_clear(still_clear(clear, a), b), c), d)
-}
-
-// What the bytes of a directory name so far show.
-struct Passed {
-    clear: bool,
-    hash: u32,
-}
-
-// What is shown with the bytes from the place `from` on, one at a time.
-fn check_rest(begun: Passed, s: &[u8], from: usize) -> Passed
-    ensures { λ r. ⌜ (r .clear ≡ (begun .clear && every legal-byte (drop from (now (s .entry)))))
-        × (r .hash ≡ hash-from (begun .hash) (drop from (now (s .entry)))) ⌝ }
-{
-    let mut clear = begun.clear;
-    let mut hash = begun.hash;
     let mut i = from;
-    while i < s.len() {
-        let x = s[i];
-        clear = still_clear(clear, x);
-        hash = hash_byte(hash, x);
-        i += 1;
-    }
-    Passed { clear, hash }
-}
-
-// Whether fewer than four bytes are clear of 0 and "/", read as in `hash_short`.
-fn short_clear(s: &[u8]) -> bool
-    requires { ⌜ length (now s) < 4 ⌝ }
-    ensures { λ r. ⌜ r ≡ every legal-byte (now (s .entry)) ⌝ }
-{
-    let n = s.len();
-    if n == 0 {
-        return true;
-    }
-    still_clear(still_clear(still_clear(true, s[0]), s[n / 2]), s[n - 1])
-}
-
-// Legality and hash of a directory name in one pass. Fewer than four bytes take one step; else four a turn, then those that make no four.
-// With those first, as in the hash by itself, up to three bytes would be tested twice: measured, 5-byte names took longer so than byte by
-// byte.
-pub fn check(e: Edition, s: &[u8]) -> Checked
-    ensures { λ r. ⌜ (r .legal ≡ legal-name e (now (s .entry))) × ((r .hash ≡ hash-of e (now (s .entry))) × (r .hash < 4294967296)) ⌝ }
-{
-    let n = s.len();
-    if n < 4 {
-        let legal = (1 <= n) & short_clear(s);
-        let hash = wide(hash_short(s));
-        return Checked { legal, hash };
-    }
-    let mut hash: u32 = 0;
-    let mut clear = true;
-    let mut i = 0;
-    while 4 <= n - i {
-        let a = s[i];
-        let b = s[i + 1];
-        let c = s[i + 2];
-        let d = s[i + 3];
-        clear = four_clear(clear, a, b, c, d);
-        hash = hash_four(hash, a, b, c, d);
-        i += 4;
-    }
-    let all = check_rest(Passed { clear, hash }, s, i);
-    let legal = (n <= 255) & all.clear;
-    let hash = wide(all.hash);
-    Checked { legal, hash }
-}
-
-// Whether two runs of bytes are equal.
-pub fn equal(s: &[u8], t: &[u8]) -> bool
-    ensures { λ r. ⌜ r ≡ same (now (s .entry)) (now (t .entry)) ⌝ }
-{
-    if s.len() != t.len() {
-        return false;
-    }
-    let mut i = 0;
     while i < s.len() {
         if s[i] != t[i] {
             return false;
@@ -238,6 +151,24 @@ pub fn equal(s: &[u8], t: &[u8]) -> bool
         i += 1;
     }
     true
+}
+
+// Whether two runs of bytes are equal: eight bytes a turn as long as eight are left.
+pub fn equal(s: &[u8], t: &[u8]) -> bool
+    ensures { λ r. ⌜ r ≡ same (now (s .entry)) (now (t .entry)) ⌝ }
+{
+    let n = s.len();
+    if n != t.len() {
+        return false;
+    }
+    let mut i = 0;
+    while 8 <= n - i {
+        if be::le64(s, i) != be::le64(t, i) {
+            return false;
+        }
+        i += 8;
+    }
+    equal_rest(s, t, i)
 }
 
 // Whether the directory name s asked for is the stored name t.

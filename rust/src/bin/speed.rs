@@ -1,10 +1,11 @@
 //! Times the library, the yardstick and the model on one machine and the same inputs, and prints medians and ratios as tables.
 //!
-//! Each row's contenders take turns, so that a busy moment of the machine falls on all of them; so do the library's calls where they are
+//! The contenders of a row (but for the model's changes) take turns, so that a busy moment of the machine falls on all of them; so do the library's calls where they are
 //! compared with each other. Full blocks are filled by the library's own insert, with names from fixed seeds.
 
 use pelunziwa::model::{self, Options};
 use pelunziwa::{block, hash, yardstick, Refusal};
+use std::cell::RefCell;
 use std::hint::black_box;
 use std::time::Instant;
 
@@ -54,7 +55,29 @@ const TYPICAL: Names = Names::of("8 to 24 byte", 8, 24);
 const LONGEST: Names = Names::of("255 byte", 255, 255);
 const KINDS: [Names; 4] = [TINY, SHORT, TYPICAL, LONGEST];
 
-/// A full block, and the names in it.
+/// Blocks that mkfs.xfs and a kernel filled, by their size.
+const REAL: [(usize, &[&str]); 3] = [
+    (
+        4096,
+        &[
+            "mk-v4-b512-n4096-i256-near",
+            "mk-v4-ci-b4096-n4096-i256-near",
+        ],
+    ),
+    (
+        16_384,
+        &["full-v4-b4096-n16384", "mk-v4-b4096-n16384-i1024-near"],
+    ),
+    (
+        65_536,
+        &[
+            "mk-v4-b4096-n65536-i256-full",
+            "mk-v4-b4096-n65536-i256-near",
+        ],
+    ),
+];
+
+/// A full block, and the names in it; of a real one the names are not asked for.
 struct Full {
     bytes: Vec<u8>,
     names: Vec<Vec<u8>>,
@@ -78,22 +101,43 @@ fn empty(size: usize) -> Vec<u8> {
     b
 }
 
-/// Inserts until 200 names in a row find no room.
-fn full(size: usize, kind: &Names, seed: u64) -> Full {
+/// Inserts until 200 names have found no room, or there are no more.
+fn fill(size: usize, seed: u64, more: impl Iterator<Item = Vec<u8>>) -> Full {
     let mut random = Random(seed);
     let mut bytes = empty(size);
     let mut names = Vec::new();
     let mut refused = 0;
-    while refused < 200 {
-        let name = random.name(kind.shortest, kind.longest);
+    for name in more {
         let number = 1 + random.below(1 << 40);
         match block::insert(&mut bytes, &name, number) {
             Ok(()) => names.push(name),
             Err(Refusal::NoRoom) => refused += 1,
             Err(_) => (),
         }
+        if refused == 200 {
+            break;
+        }
     }
     Full { bytes, names }
+}
+
+fn full(size: usize, kind: &Names, seed: u64) -> Full {
+    let mut random = Random(!seed);
+    let (shortest, longest) = (kind.shortest, kind.longest);
+    fill(
+        size,
+        seed,
+        std::iter::repeat_with(move || random.name(shortest, longest)),
+    )
+}
+
+/// A real block of this size, full or nearly so.
+fn real(file: &str) -> Full {
+    let folder = concat!(env!("CARGO_MANIFEST_DIR"), "/tests/images/");
+    Full {
+        bytes: std::fs::read(format!("{folder}{file}.dirblock")).expect("a real block"),
+        names: Vec::new(),
+    }
 }
 
 type Job<'a> = Box<dyn FnMut() + 'a>;
@@ -169,13 +213,13 @@ fn library_test(b: &[u8]) -> u32 {
     block::test(b).map_or_else(Refusal::number, |()| 0)
 }
 
-/// A test by the library, the yardstick and the model.
-fn tests(blocks: &[Full]) -> [Job<'_>; 3] {
-    [
-        testing(blocks, library_test),
-        testing(blocks, yardstick::test),
-        testing(blocks, |b| model::block::test(V4, b)),
-    ]
+/// A run of the bare walk over all blocks.
+fn walking(blocks: &[Full]) -> Job<'_> {
+    Box::new(move || {
+        for b in blocks {
+            assert!(black_box(yardstick::bare_walk(black_box(&b.bytes))) > 2);
+        }
+    })
 }
 
 /// A block, and a name in it that a call is about.
@@ -185,7 +229,7 @@ fn asked_of((turn, b): (usize, &Full)) -> Asked {
     (b.bytes.clone(), b.names[turn % b.names.len()].clone())
 }
 
-/// A lookup of a stored name, by the same three.
+/// A lookup of a stored name, by the library, the yardstick and the model.
 fn lookups(asked: &[Asked]) -> [Job<'_>; 3] {
     for (b, n) in asked {
         assert_eq!(block::lookup(b, n).ok(), yardstick::lookup(b, n).ok());
@@ -209,18 +253,37 @@ fn lookups(asked: &[Asked]) -> [Job<'_>; 3] {
     ]
 }
 
-/// A stored name's removal with its insert after it, by the library, which works in place, and by the model.
-fn changes<'a>(ours: &'a mut [Asked], asked: &'a [Asked]) -> [Job<'a>; 2] {
+/// Blocks that calls change in place.
+type Changed = RefCell<Vec<Asked>>;
+
+/// A stored name's removal, which leaves the block as the next job, its insert, finds it.
+fn removing(ours: &Changed) -> Job<'_> {
+    Box::new(move || {
+        for (b, n) in ours.borrow_mut().iter_mut() {
+            assert!(block::remove(b, n).is_ok());
+        }
+    })
+}
+
+fn inserting(ours: &Changed) -> Job<'_> {
+    Box::new(move || {
+        for (b, n) in ours.borrow_mut().iter_mut() {
+            assert!(block::insert(b, n, 5).is_ok());
+        }
+    })
+}
+
+/// The same two by the model, each on its own copies.
+fn model_changes<'a>(asked: &'a [Asked], left: &'a [Asked]) -> [Job<'a>; 2] {
     [
         Box::new(move || {
-            for (b, n) in ours.iter_mut() {
-                assert!(block::remove(b, n).is_ok() && block::insert(b, n, 5).is_ok());
+            for (b, n) in asked {
+                assert_eq!(model::block::remove(V4, black_box(b), n).refusal, 0);
             }
         }),
         Box::new(move || {
-            for (b, n) in asked {
-                let left = model::block::remove(V4, black_box(b), n);
-                assert_eq!(model::block::insert(V4, &left.bytes, n, 5).refusal, 0);
+            for (b, n) in left {
+                assert_eq!(model::block::insert(V4, black_box(b), n, 5).refusal, 0);
             }
         }),
     ]
@@ -244,19 +307,74 @@ fn micro(nanoseconds: f64) -> String {
     }
 }
 
-fn row(size: usize, kind: &Names) {
+/// The test of blocks by the library and the yardstick, and the bare walk over their records.
+fn test_row(what: &str, blocks: &[Full]) {
+    let [ours, yard, bare] = medians(
+        blocks.len(),
+        [
+            testing(blocks, library_test),
+            testing(blocks, yardstick::test),
+            walking(blocks),
+        ],
+    );
+    println!(
+        "| {what} | {} | {} | {} | {:.3} | {:.2} |",
+        micro(ours),
+        micro(yard),
+        micro(bare),
+        ours / yard,
+        bare / ours
+    );
+}
+
+fn named_row(size: usize, kind: &Names) {
+    let (blocks, entries) = filled(BLOCKS, size, kind);
+    let what = format!("{size} bytes, {} names ({entries:.0})", kind.what);
+    test_row(&what, &blocks);
+}
+
+/// Blocks whose names all have one hash: few, since the yardstick takes long.
+fn alike_row(size: usize) {
+    let blocks: Vec<_> = (0..2)
+        .map(|seed| fill(size, 1 + seed, (0..1 << 11).map(yardstick::of_one_hash)))
+        .collect();
+    let entries = blocks[0].names.len();
+    test_row(&format!("{size} bytes, one hash ({entries})"), &blocks);
+}
+
+fn tests() {
+    println!("| test of full blocks (names in each) | library, us | yardstick, us | bare walk, us | library / yardstick | bare walk / library |");
+    println!("|---|---|---|---|---|---|");
+    for size in [512, 4096, 16_384, 65_536] {
+        for kind in &KINDS {
+            named_row(size, kind);
+        }
+    }
+    for (what, files) in REAL {
+        let blocks: Vec<_> = files.iter().map(|file| real(file)).collect();
+        test_row(&format!("{what} bytes, real ({})", files.len()), &blocks);
+    }
+    for size in [4096, 16_384, 65_536] {
+        alike_row(size);
+    }
+    println!();
+}
+
+/// A lookup, a removal and an insert, and what they take by the side of a test.
+fn call_rows(size: usize, kind: &Names) {
     let (blocks, entries) = filled(BLOCKS, size, kind);
     let asked: Vec<_> = (37..).step_by(37).zip(&blocks).map(asked_of).collect();
-    let mut ours = asked.clone();
+    let without = |(b, n): &Asked| (model::block::remove(V4, b, n).bytes, n.clone());
+    let left: Vec<_> = asked.iter().map(without).collect();
+    let ours = RefCell::new(asked.clone());
     let count = blocks.len();
-    let [test, yard, model] = medians(count, tests(&blocks));
     let [look, yard_look, model_look] = medians(count, lookups(&asked));
-    let [change, model_change] = medians(2 * count, changes(&mut ours, &asked));
-    // The library's calls once more, in turns with each other alone: a turn behind the model's finds fewer branches learned.
-    let [own_test, ..] = tests(&blocks);
+    let [model_remove, model_insert] = medians(count, model_changes(&asked, &left));
+    // The library's calls in turns with each other alone: a turn behind the model's finds fewer branches learned.
     let [own_look, ..] = lookups(&asked);
-    let [own_change, ..] = changes(&mut ours, &asked);
-    let [own_test, own_look, own_change] = medians(count, [own_test, own_look, own_change]);
+    let test = testing(&blocks, library_test);
+    let jobs = [test, own_look, removing(&ours), inserting(&ours)];
+    let [test, own_look, remove, insert] = medians(count, jobs);
     let name = format!("{size} bytes, {} names ({entries:.0})", kind.what);
     let line = |call: &str, ours: f64, yard: Option<f64>, model: f64, own: f64| {
         let (y, ratio) = match yard {
@@ -268,13 +386,12 @@ fn row(size: usize, kind: &Names) {
             micro(ours),
             micro(model),
             ours / model,
-            own / own_test
+            own / test
         );
     };
-    line("test", test, Some(yard), model, own_test);
     line("lookup", look, Some(yard_look), model_look, own_look);
-    let each = "insert, removal (each)";
-    line(each, change, None, model_change, own_change / 2.0);
+    line("removal", remove, None, model_remove, remove);
+    line("insert", insert, None, model_insert, insert);
 }
 
 const SIZES: usize = 8;
@@ -324,12 +441,13 @@ fn per_entry() {
 
 fn main() {
     hashes();
+    tests();
     per_entry();
     println!("| full blocks (names in each) | call | library, us | yardstick, us | model, us | library / yardstick | library / model | call / test |");
     println!("|---|---|---|---|---|---|---|---|");
     for size in [512, 4096, 16_384, 65_536] {
         for kind in &KINDS {
-            row(size, kind);
+            call_rows(size, kind);
         }
     }
 }

@@ -4,6 +4,7 @@
 use super::{hex, Cover, Guarded, Rng, V4};
 use pelunziwa::boundary as raw;
 use pelunziwa::model::{self, attr, block, inode, sfdir, Change};
+use pelunziwa::yardstick;
 use std::fmt::Debug;
 
 pub struct Lab {
@@ -289,6 +290,11 @@ impl Lab {
 impl Lab {
     pub fn block_test(&mut self, block: &[u8]) {
         let want = block::test(V4, block);
+        assert_eq!(
+            yardstick::test(block),
+            want,
+            "the yardstick tests other rules"
+        );
         self.call(
             "block_test",
             &(),

@@ -1,47 +1,70 @@
 use native.Mathlib.Omega.{arith}
 use denote.Ref.{now}
+use Rattle.be.proofs.Parts.{bytes-all}
 use Rattle.edition.specs.Edition.{entry-size}
-use Rattle.dir_block_laws.proofs.SlotSearch.{tiled}
+use Rattle.name.proofs.Hashing.{hash-lt}
 use Rattle.dir_block_laws.proofs.InsertStores.{other-same, other-next}
 use borrow.Author.Needs.{needs}
 use Rattle.dir_block_edit.proofs.choose.Statement.{statement}
 use Rattle.dir_block_edit.proofs.choose.Tie as tie
 
-pass-requires : tie.Need-pass-requires
-pass-requires c κs =
-    let p = c .before .before .before in
-    ((p .pre .0 .0, tiled _ (now (p .args .b)) (p .pre .0 .1)), p .pre .1 .0 .0)
+spot-requires : tie.Need-spot-requires
+spot-requires c κs =
+    let p = c .before .before .before .before .before .before in
+    let k = c .before .before .before .before .shared-slice-known .given in
+    let l = hash-lt (p .args .e) (now (p .args .name)) (bytes-all (now (p .args .name)) (λ i. k i .fits)) in
+    (p .pre .0, ((p .pre .1 .0 .0, p .pre .1 .0 .1 .0), omega (arith, p .pre .1 .1 .0, l)))
 
 choose-ab-requires : tie.Need-choose-ab-requires
 choose-ab-requires c κs =
-    let c₂ = c .before .before in
-    let c₄ = c₂ .before .before in
-    let c₅ = c₄ .before in
-    let c₆ = c₅ .before in
-    let c₉ = c₆ .before .before .before in
-    let p = c₉ .before in
-    (p .pre .0, ((p .pre .1 .0 .0, (p .pre .1 .0 .1 .0, (p .pre .1 .0 .1 .1, omega (arith, c .before .if1 .taken)))), (c₂ .spot .ensures, (c₆ .pass .ensures, (c₄ .hash .ensures .0, (c₅ .entry-size .ensures .0, p .pre .1 .1))))))
+    let q = c .before .before .before .before in
+    let p = c .before .before .before .before .before .before .before .before .before in (
+      p .pre .0,
+      (
+        (p .pre .1 .0 .0, (p .pre .1 .0 .1 .0, (p .pre .1 .0 .1 .1, omega (arith, c .before .if1 .taken)))),
+        (c .before .before .spot .ensures, (q .before .known .ensures, (p .pre .1 .1 .0, (q .entry-size .ensures .0, p .pre .1 .1 .1)))),
+      ),
+    )
 
 choose-cd-requires : tie.Need-choose-cd-requires
 choose-cd-requires c κs =
-    let p = c .before .before .before .before .before .before .before .before .before .before .before .before in
-    let g = c .before .before .before .before .before .before .before .before .pass .result in
-    (p .pre .0, ((p .pre .1 .0 .0, (p .pre .1 .0 .1 .0, omega (arith, p .pre .1 .0, c .before .before .before .if1 .left))), (c .before .before .before .before .spot .ensures, (c .before .before .before .before .before .before .before .before .pass .ensures, (other-next _ (now (p .args .b)) (now (p .args .name)) (p .args .to) (g .o1) (g .l1) (g .o2) (g .l2) (g .o3) (g .l3) (g .tat) (g .tlen) (p .args .stale) (c .before .before .before .before .before .before .before .entry-size .result) (c .before .before .before .before .before .before .before .before .pass .ensures) (p .pre .1 .0 .1 .1) (c .before .before .before .before .before .before .before .entry-size .ensures .0) (c .before .if2 .taken), (c .before .before .before .before .before .before .hash .ensures .0, (c .before .before .before .before .before .before .before .entry-size .ensures .0, p .pre .1 .1)))))))
+    let p = c .before .before .before .before .before .before .before .before .before .before .before in
+    let q = c .before .before .before .before .before .before in
+    let w = q .before .known in
+    let g = w .result in
+    let o =
+    other-next _ (now (p .args .b)) (now (p .args .name)) (p .args .to) (g .o1) (g .l1) (g .o2) (g .l2) (g .tat) (g .tlen) (p .args .stale)
+    (q .entry-size .result) (w .ensures) (p .pre .1 .0 .1 .1) (q .entry-size .ensures .0) (c .before .if2 .taken) in (
+      p .pre .0,
+      (
+        (p .pre .1 .0 .0, (p .pre .1 .0 .1 .0, omega (arith, p .pre .1 .0, c .before .before .before .if1 .left))),
+        (c .before .before .before .before .spot .ensures, (w .ensures, (o, (p .pre .1 .1 .0, (q .entry-size .ensures .0, p .pre .1 .1 .1))))),
+      ),
+    )
 
 choose-cd-requires-2 : tie.Need-choose-cd-requires-2
 choose-cd-requires-2 c κs =
-    let p = c .before .before .before .before .before .before .before .before .before .before .before .before in
-    let g = c .before .before .before .before .before .before .before .before .pass .result in
-    (p .pre .0, ((p .pre .1 .0 .0, (p .pre .1 .0 .1 .0, omega (arith, p .pre .1 .0, c .before .before .before .if1 .left))), (c .before .before .before .before .spot .ensures, (c .before .before .before .before .before .before .before .before .pass .ensures, (other-same _ (now (p .args .b)) (now (p .args .name)) (p .args .to) (g .o1) (g .l1) (g .o2) (g .l2) (g .o3) (g .l3) (g .tat) (g .tlen) (p .args .stale) (c .before .before .before .before .before .before .before .entry-size .result) (c .before .before .before .before .before .before .before .before .pass .ensures) (p .pre .1 .0 .1 .1) (c .before .before .before .before .before .before .before .entry-size .ensures .0) (c .before .if2 .left), (c .before .before .before .before .before .before .hash .ensures .0, (c .before .before .before .before .before .before .before .entry-size .ensures .0, p .pre .1 .1)))))))
+    let p = c .before .before .before .before .before .before .before .before .before .before .before in
+    let q = c .before .before .before .before .before .before in
+    let w = q .before .known in
+    let g = w .result in
+    let o =
+    other-same _ (now (p .args .b)) (now (p .args .name)) (p .args .to) (g .o1) (g .l1) (g .o2) (g .l2) (g .tat) (g .tlen) (p .args .stale)
+    (q .entry-size .result) (w .ensures) (p .pre .1 .0 .1 .1) (q .entry-size .ensures .0) (c .before .if2 .left) in (
+      p .pre .0,
+      (
+        (p .pre .1 .0 .0, (p .pre .1 .0 .1 .0, omega (arith, p .pre .1 .0, c .before .before .before .if1 .left))),
+        (c .before .before .before .before .spot .ensures, (w .ensures, (o, (p .pre .1 .1 .0, (q .entry-size .ensures .0, p .pre .1 .1 .1))))),
+      ),
+    )
 
 pub choose-spec : {M : Type 1} → statement M
 choose-spec =
     tie.close
     (tie.spec
-    pass-requires
+    (λ c κs. (c .before .before .before .pre .0, c .before .before .before .pre .1 .0 .0))
     (λ c κs. search needs)
-    (λ c κs. search needs)
-    (λ c κs. search needs)
+    spot-requires
     choose-ab-requires
     (λ c. search needs)
     (λ c. search needs)

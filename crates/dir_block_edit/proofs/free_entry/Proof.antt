@@ -3,6 +3,9 @@ use native.Mathlib.Omega.{arith}
 use mathlib.Core.Path.{refl, _∙_, ap}
 use denote.Ref.{now}
 use Rattle.edition.specs.Edition.{entry-size}
+use Rattle.dir_block_rules.specs.Record.{gaps}
+use Rattle.dir_block_rules.specs.Block.{records}
+use Rattle.dir_block_rules.specs.Change.{gap-end-after}
 use Rattle.dir_block_laws.proofs.RecordSteps.{stale-read}
 use Rattle.dir_block_laws.proofs.SlotSearch.{tiled}
 use Rattle.dir_block_laws.proofs.GapsBeside.{entry-found, long-found, found-room}
@@ -96,11 +99,18 @@ returns c =
     let c₁₉ = c₁₈ .before in
     let c₂₂ = c₁₉ .before .before .before in
     let p = c₂₂ .before in
-    remove-stores _ (now (p .args .b)) (now (p .args .name)) (p .args .end) (p .args .slot) (p .args .at) (c₁₆ .joined-start .result)
-    (c₁₄ .joined-end .result) _ _ (c₁₂ .be32 .result) _ _ _ (p .pre .1 .1 .1 .0) (p .pre .1 .1 .1 .1) (p .pre .1 .0)
-    (stale-read (now (p .args .b)) (c₁₂ .be32 .result) (c₁₂ .be32 .ensures .0)) refl
-    (ap (λ (k : ℕ). p .args .at + k) (c₁₈ .entry-size .ensures .0 ∙ ap (entry-size (p .args .e)) (c₁₉ .be8 .ensures .0 ∙ long-found _ (p .pre .0 .0) (now (p .args .b)) (now (p .args .name)) (p .args .at) (p .pre .0 .1) (p .pre .1 .1 .0) (p .pre .1 .1 .1 .1))))
-    (c₁₆ .joined-start .ensures .0) (c₁₄ .joined-end .ensures .0) (c₁₀ .put-gap .ensures) (c₆ .put32 .ensures) (c₂ .put322 .ensures)
+    let m = ap (λ (k : ℕ). p .args .at + k) (c₁₈ .entry-size .ensures .0 ∙ ap (entry-size (p .args .e)) (c₁₉ .be8 .ensures .0 ∙ long-found _ (p .pre .0 .0) (now (p .args .b)) (now (p .args .name)) (p .args .at) (p .pre .0 .1) (p .pre .1 .1 .0) (p .pre .1 .1 .1 .1))) in
+    let o = c₁₆ .joined-start .ensures in
+    let u = c₁₄ .joined-end .ensures in (
+      remove-stores _ (now (p .args .b)) (now (p .args .name)) (p .args .end) (p .args .slot) (p .args .at) (c₁₆ .joined-start .result)
+          (c₁₄ .joined-end .result) _ _ (c₁₂ .be32 .result) _ _ _ (p .pre .1 .1 .1 .0) (p .pre .1 .1 .1 .1) (p .pre .1 .0)
+          (stale-read (now (p .args .b)) (c₁₂ .be32 .result) (c₁₂ .be32 .ensures .0)) refl
+          m (o .0) (u .0) (c₁₀ .put-gap .ensures) (c₆ .put32 .ensures) (c₂ .put322 .ensures),
+      (
+        omega (arith, o .1 .0, u .1 .0),
+        (o .0, u .0 ∙ ap (λ (k : ℕ). gap-end-after k (gaps (records (p .args .e) (now (p .args .b))))) m),
+      ),
+    )
 
 pub free-entry-spec : {M : Type 1} → statement M
 free-entry-spec =

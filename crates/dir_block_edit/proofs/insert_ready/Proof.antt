@@ -1,14 +1,29 @@
-use Prim.Native.Nat.{ℕ}
+use Prim.Native.Nat.{ℕ, _≤_, _<_}
 use native.Mathlib.Omega.{arith}
-use mathlib.Core.Path.{sym, _∙_, ap, subst}
-use mathlib.Core.Bool.{Bool}
-use mathlib.Core.List.{List}
+use mathlib.Core.Path.{_≡_, sym, _∙_, ap, subst}
+use mathlib.Core.Bool.{Bool, true, false}
+use mathlib.Core.List.{List, [], _∷_}
+use lib.ListN.{length}
 use denote.Ref.{now}
-use Rattle.dir_block_rules.specs.Lookup.{Sought}
+use Rattle.be.specs.Bytes.{bytes, written}
+use Rattle.edition.specs.declared.Edition.{Edition}
+use Rattle.edition.specs.Edition.{entry-size, Sane}
+use Rattle.name.specs.Name.{legal-name, fixed-name}
+use Rattle.dir.specs.declared.Target.{Target}
+use Rattle.dir.specs.Target.{legal-target}
+use Rattle.dir_block_rules.specs.Record.{gaps}
+use Rattle.dir_block_rules.specs.Block.{records, stale-of}
+use Rattle.dir_block_rules.specs.Room.{has-room}
+use Rattle.dir_block_rules.specs.Lookup.{Sought, sought}
+use Rattle.dir_block_rules.specs.Verdict.{Pair, best-pairs}
+use Rattle.dir_block_rules.specs.Change.{best-of, insert-writes}
 use Rattle.dir_block_rules.proofs.EachCall.{name-lt}
-use Rattle.dir_block_laws.specs.Tiled.{Tiled}
-use Rattle.dir_block_laws.proofs.RecordSteps.{count-read, stale-read, end-read}
-use Rattle.dir_block_laws.proofs.SlotSearch.{slots-room}
+use Rattle.dir_block_rules.proofs.LookupFinds.{hit-of}
+use Rattle.dir_block_laws.specs.Tiled.{Tiled, Ready}
+use Rattle.dir_block_laws.specs.JoinedTable.{used-table, in-order}
+use Rattle.dir_block_laws.proofs.RecordSteps.{count-read, stale-read, end-read, head-end, end-fits}
+use Rattle.dir_block_laws.proofs.SlotSearch.{slots-room, tiled}
+use Rattle.dir_block_laws.proofs.UsedGap.{from-pairs}
 use Rattle.dir_block_laws.proofs.InsertStores.{insert-tiled}
 use Rattle.dir_block_laws.proofs.StoresTiled.{stores-changed}
 use Rattle.dir_block_edit.specs.Chosen.{chosen}
@@ -16,6 +31,21 @@ use Rattle.dir_block_edit.proofs.RoomTaken.{insert-there, insert-no-roo
 use borrow.Author.Needs.{needs}
 use Rattle.dir_block_edit.proofs.insert_ready.Statement.{statement}
 use Rattle.dir_block_edit.proofs.insert_ready.Tie as tie
+
+-- what the code knows of the block c that an insert leaves, from the pairs stored in b
+module _ (e : Edition) (sane : Sane e) (b n : List ℕ) (i : Target) (r : Ready e b) (nb : bytes n ≡ true) (ln : legal-name e n ≡ true)
+    (li : legal-target e i ≡ true) (fx : fixed-name n ≡ false) (ht : sought e b n .hit ≡ false) (rm : has-room e b n ≡ true)
+    (c : List ℕ) (w : c ≡ written b (insert-writes e b n i)) where
+  left-tiled : Tiled e c
+  left-tiled = subst (λ (l : List ℕ). Tiled e l) (sym w) (insert-tiled e sane b n i r nb ln li fx ht rm)
+
+  left-best : (st : ℕ) (p q t : Pair) → st ≡ stale-of b → p ∷ q ∷ t ∷ [] ≡ best-pairs e b → t .long ≡ 0 → 0 < st → entry-size e (length n) ≤ p .long
+      → best-of 3 (gaps (records e c)) ≡ used-table (entry-size e (length n)) (in-order p q)
+  left-best st p q t a s z m h =
+      ap (λ (l : List ℕ). best-of 3 (gaps (records e l))) w
+      ∙ from-pairs e sane b n i r
+      (record { name-bytes = nb; name-legal = ln; number-legal = li; not-fixed = fx; absent = sym (hit-of e sane b (r .are-bytes) (r .ok) n) ∙ ht })
+      (subst (λ (x : ℕ). 0 < x) a m) p q t s z h
 
 sub-be32 : tie.Need-sub-be32
 sub-be32 c =
@@ -50,54 +80,75 @@ sub-end-2 c =
 seek-requires : tie.Need-seek-requires
 seek-requires c κs =
     let c₃ = c .before .before .before in
-    let c₆ = c₃ .before .before .before in
-    let p = c₆ .before in
-    (p .pre .0, (end-read (now (p .args .b)) (c₃ .be32 .result) (count-read (now (p .args .b)) (c₃ .be32 .result) (c₃ .be32 .ensures .0)), count-read (now (p .args .b)) (c₃ .be32 .result) (c₃ .be32 .ensures .0)))
+    let p = c₃ .before .before .before .before in
+    let n = count-read (now (p .args .b)) (c₃ .be32 .result) (c₃ .be32 .ensures .0) in
+    (p .pre .0, ((end-read (now (p .args .b)) (c₃ .be32 .result) n, n), p .pre .1 .1))
 
 returns : tie.Need-returns
 returns c =
     let p = c .before .before .before .before .before .before .before .before .before in
-    insert-there _ (p .pre .0 .0) (now (p .args .b)) (now (p .args .name)) (p .args .to) (p .pre .0 .1) (p .pre .1 .0) (p .pre .1 .1 .0) (p .pre .1 .1 .1 .0) (ap (λ (s : Sought). s .hit) (c .before .seek .ensures) ∙ c .if1 .taken)
+    insert-there _ (p .pre .0 .0) (now (p .args .b)) (now (p .args .name)) (p .args .to) (p .pre .0 .1) (p .pre .1 .0 .0) (p .pre .1 .0 .1 .0) (p .pre .1 .0 .1 .1 .0) (ap (λ (s : Sought). s .hit) (c .before .seek .ensures) ∙ c .if1 .taken)
+
+stored-requires : tie.Need-stored-requires
+stored-requires c κs =
+    let p = c .before .before .before .before .before .before .before .before .before .before in
+    let t = tiled _ (now (p .args .b)) (p .pre .0 .1) in
+    (p .pre .0 .0, omega (arith, head-end _ (now (p .args .b)) t, end-fits _ (now (p .args .b)) t))
 
 choose-requires : tie.Need-choose-requires
 choose-requires c κs =
-    let c₄ = c .before .before .before .before in
-    let c₆ = c₄ .before .before in
-    let c₉ = c₆ .before .before .before in
-    let p = c₉ .before in
-    (p .pre .0, ((end-read (now (p .args .b)) (c₆ .be32 .result) (count-read (now (p .args .b)) (c₆ .be32 .result) (c₆ .be32 .ensures .0)), (count-read (now (p .args .b)) (c₆ .be32 .result) (c₆ .be32 .ensures .0), stale-read (now (p .args .b)) (c₄ .be322 .result) (c₄ .be322 .ensures .0))), name-lt _ (now (p .args .name)) (p .pre .1 .0)))
+    let c₆ = c .before .before .before .before .before .before in
+    let c₈ = c₆ .before .before in
+    let p = c₈ .before .before .before .before in
+    let n = count-read (now (p .args .b)) (c₈ .be32 .result) (c₈ .be32 .ensures .0) in (
+      p .pre .0,
+      (
+        (end-read (now (p .args .b)) (c₈ .be32 .result) n, (n, stale-read (now (p .args .b)) (c₆ .be322 .result) (c₆ .be322 .ensures .0))),
+        (p .pre .1 .1, name-lt _ (now (p .args .name)) (p .pre .1 .0 .0)),
+      ),
+    )
 
-best-table-requires : tie.Need-best-table-requires
-best-table-requires c κs =
+used-table-requires : tie.Need-used-table-requires
+used-table-requires c κs =
     let c₄ = c .before .before .before .before in
     let c₆ = c₄ .before .before in
-    let c₇ = c₆ .before in
-    let c₁₄ = c₇ .before .before .before .before .before .before .before in
-    let p = c₁₄ .before in
-    (p .pre .0 .0, subst (λ (l : List ℕ). Tiled (p .args .e) l) (sym (c₄ .choose .ensures .1 ∙ ap (λ (t : Bool). chosen (p .args .e) t (now (p .args .b)) (now (p .args .name)) (p .args .to)) (c .before .if2 .taken))) (insert-tiled _ (p .pre .0 .0) (now (p .args .b)) (now (p .args .name)) (p .args .to) (p .pre .0 .1) (p .pre .1 .1 .1 .1) (p .pre .1 .0) (p .pre .1 .1 .0) (p .pre .1 .1 .1 .0) (ap (λ (s : Sought). s .hit) (c₇ .seek .ensures) ∙ c₆ .if1 .left) (sym (c₄ .choose .ensures .0) ∙ c .before .if2 .taken)))
+    let c₈ = c₆ .before .before in
+    let c₉ = c₈ .before in
+    let c₁₁ = c₉ .before .before in
+    let p = c₁₁ .before .before .before .before .before .before in
+    let b = now (p .args .b) in
+    let n = now (p .args .name) in
+    let h = ap (λ (s : Sought). s .hit) (c₉ .seek .ensures) ∙ c₈ .if1 .left in
+    let rm = sym (c₄ .choose .ensures .0) ∙ c .before .if2 .taken in
+    let w = c₄ .choose .ensures .1 ∙ ap (λ (t : Bool). chosen (p .args .e) t b n (p .args .to)) (c .before .if2 .taken) in (
+      (p .pre .0 .0, left-tiled _ (p .pre .0 .0) b n (p .args .to) (p .pre .0 .1) (p .pre .1 .0 .1 .1 .1) (p .pre .1 .0 .0) (p .pre .1 .0 .1 .0) (p .pre .1 .0 .1 .1 .0) h rm _ w),
+      (
+        (name-lt _ n (p .pre .1 .0 .0), c₆ .stored .ensures .1),
+        left-best _ (p .pre .0 .0) b n (p .args .to) (p .pre .0 .1) (p .pre .1 .0 .1 .1 .1) (p .pre .1 .0 .0) (p .pre .1 .0 .1 .0) (p .pre .1 .0 .1 .1 .0) h rm _ w
+            (c₁₁ .be322 .result) _ _ _ (stale-read b (c₁₁ .be322 .result) (c₁₁ .be322 .ensures .0)) (c₆ .stored .ensures .0),
+      ),
+    )
 
 returns-2 : tie.Need-returns-2
 returns-2 c =
     let c₂ = c .before .before in
     let c₄ = c₂ .before .before in
     let c₇ = c₄ .before .before .before in
-    let c₉ = c₇ .before .before in
-    let c₁₀ = c₉ .before in
-    let c₁₇ = c₁₀ .before .before .before .before .before .before .before in
-    let p = c₁₇ .before in
-    insert-made _ (p .pre .0 .0) (now (p .args .b)) (now (p .args .name)) (p .args .to) (p .pre .0 .1) (p .pre .1 .0) (p .pre .1 .1 .0)
-    (p .pre .1 .1 .1 .0) (ap (λ (s : Sought). s .hit) (c₁₀ .seek .ensures) ∙ c₉ .if1 .left) (sym (c₄ .if2 .taken) ∙ c₇ .choose .ensures .0) _
-    (stores-changed _ (p .pre .0 .0) (now (p .args .b)) _ _ _ (c₇ .choose .ensures .1 ∙ ap (λ (t : Bool). chosen (p .args .e) t (now (p .args .b)) (now (p .args .name)) (p .args .to)) (c₄ .if2 .taken)) (c₂ .best-table .ensures))
+    let c₁₁ = c₇ .before .before .before .before in
+    let c₁₂ = c₁₁ .before in
+    let p = c₁₂ .before .before .before .before .before .before .before .before in
+    insert-made _ (p .pre .0 .0) (now (p .args .b)) (now (p .args .name)) (p .args .to) (p .pre .0 .1) (p .pre .1 .0 .0) (p .pre .1 .0 .1 .0)
+    (p .pre .1 .0 .1 .1 .0) (ap (λ (s : Sought). s .hit) (c₁₂ .seek .ensures) ∙ c₁₁ .if1 .left) (sym (c₄ .if2 .taken) ∙ c₇ .choose .ensures .0) _
+    (stores-changed _ (p .pre .0 .0) (now (p .args .b)) _ _ _ (c₇ .choose .ensures .1 ∙ ap (λ (t : Bool). chosen (p .args .e) t (now (p .args .b)) (now (p .args .name)) (p .args .to)) (c₄ .if2 .taken)) (c₂ .used-table .ensures))
 
 returns-3 : tie.Need-returns-3
 returns-3 c =
     let c₃ = c .before .before .before in
-    let c₅ = c₃ .before .before in
-    let c₆ = c₅ .before in
-    let c₁₃ = c₆ .before .before .before .before .before .before .before in
-    let p = c₁₃ .before in
-    insert-no-room _ (p .pre .0 .0) (now (p .args .b)) (now (p .args .name)) (p .args .to) (p .pre .0 .1) (p .pre .1 .0) (p .pre .1 .1 .0)
-    (p .pre .1 .1 .1 .0) (ap (λ (s : Sought). s .hit) (c₆ .seek .ensures) ∙ c₅ .if1 .left) (sym (c .if2 .left) ∙ c₃ .choose .ensures .0) _
+    let c₇ = c₃ .before .before .before .before in
+    let c₈ = c₇ .before in
+    let p = c₈ .before .before .before .before .before .before .before .before in
+    insert-no-room _ (p .pre .0 .0) (now (p .args .b)) (now (p .args .name)) (p .args .to) (p .pre .0 .1) (p .pre .1 .0 .0) (p .pre .1 .0 .1 .0)
+    (p .pre .1 .0 .1 .1 .0) (ap (λ (s : Sought). s .hit) (c₈ .seek .ensures) ∙ c₇ .if1 .left) (sym (c .if2 .left) ∙ c₃ .choose .ensures .0) _
     (c₃ .choose .ensures .1 ∙ ap (λ (t : Bool). chosen (p .args .e) t (now (p .args .b)) (now (p .args .name)) (p .args .to)) (c .if2 .left))
 
 pub insert-ready-spec : {M : Type 1} → statement M
@@ -114,8 +165,9 @@ insert-ready-spec =
     seek-requires
     (λ c. search needs)
     returns
+    stored-requires
     choose-requires
-    best-table-requires
+    used-table-requires
     (λ c. search needs)
     returns-2
     (λ c. search needs)

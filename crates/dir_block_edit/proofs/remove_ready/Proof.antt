@@ -32,7 +32,8 @@ sub-end-2 c =
 seek-requires : tie.Need-seek-requires
 seek-requires c κs =
     let p = c .before .before .before .before .before in
-    (p .pre .0, (end-read (now (p .args .b)) (c .before .be32 .result) (count-read (now (p .args .b)) (c .before .be32 .result) (c .before .be32 .ensures .0)), count-read (now (p .args .b)) (c .before .be32 .result) (c .before .be32 .ensures .0)))
+    let n = count-read (now (p .args .b)) (c .before .be32 .result) (c .before .be32 .ensures .0) in
+    (p .pre .0, ((end-read (now (p .args .b)) (c .before .be32 .result) n, n), p .pre .1 .1))
 
 remove-found-requires : tie.Need-remove-found-requires
 remove-found-requires c κs =
@@ -40,7 +41,11 @@ remove-found-requires c κs =
     let c₄ = c₂ .before .before in
     let c₇ = c₄ .before .before .before in
     let p = c₇ .before in
-    (p .pre .0, (end-read (now (p .args .b)) (c₄ .be32 .result) (count-read (now (p .args .b)) (c₄ .be32 .result) (c₄ .be32 .ensures .0)), ((ap (λ (s : Sought). s .hit) (c₂ .seek .ensures) ∙ c .before .if1 .taken, (ap (λ (s : Sought). s .index) (c₂ .seek .ensures), ap (λ (s : Sought). s .at) (c₂ .seek .ensures))), p .pre .1 .1)))
+    let m = end-read (now (p .args .b)) (c₄ .be32 .result) (count-read (now (p .args .b)) (c₄ .be32 .result) (c₄ .be32 .ensures .0)) in
+    let f = c₂ .seek .ensures in
+    let i = ap (λ (s : Sought). s .index) f in
+    let o = ap (λ (s : Sought). s .at) f in
+    (p .pre .0, (m, ((ap (λ (s : Sought). s .hit) f ∙ c .before .if1 .taken, (i, o)), p .pre .1 .0 .1)))
 
 returns : tie.Need-returns
 returns c =
@@ -49,12 +54,14 @@ returns c =
     let c₅ = c₄ .before in
     let c₁₀ = c₅ .before .before .before .before .before in
     let p = c₁₀ .before in
-    removed-done _ (p .pre .0 .0) (now (p .args .b)) (now (p .args .name)) (p .pre .0 .1) (p .pre .1 .0) (p .pre .1 .1) _ (ap (λ (s : Sought). s .hit) (c₅ .seek .ensures) ∙ c₄ .if1 .taken) (c₂ .remove-found .ensures)
+    removed-done _ (p .pre .0 .0) (now (p .args .b)) (now (p .args .name)) (p .pre .0 .1) (p .pre .1 .0 .0) (p .pre .1 .0 .1) _
+    (ap (λ (s : Sought). s .hit) (c₅ .seek .ensures) ∙ c₄ .if1 .taken) (c₂ .remove-found .ensures)
 
 returns-2 : tie.Need-returns-2
 returns-2 c =
     let p = c .before .before .before .before .before .before .before in
-    removed-absent _ (p .pre .0 .0) (now (p .args .b)) (now (p .args .name)) (p .pre .0 .1) (p .pre .1 .0) (p .pre .1 .1) (ap (λ (s : Sought). s .hit) (c .before .seek .ensures) ∙ c .if1 .left)
+    removed-absent _ (p .pre .0 .0) (now (p .args .b)) (now (p .args .name)) (p .pre .0 .1) (p .pre .1 .0 .0) (p .pre .1 .0 .1)
+    (ap (λ (s : Sought). s .hit) (c .before .seek .ensures) ∙ c .if1 .left)
 
 pub remove-ready-spec : {M : Type 1} → statement M
 remove-ready-spec =

@@ -18,20 +18,39 @@ target-at-requires c κs =
     let a = c .before .before .before .before .before .args in
     let q = c .before .before .before .before .before .pre in
     let s = c .before .seek .ensures in
-    (q .0 .0, omega (arith, found-room _ (q .0 .0) (now (a .b)) (now (a .name)) _ _ _ (q .0 .1) (ap (λ (x : Sought). x .hit) s ∙ c .if1 .taken) (ap (λ (x : Sought). x .index) s) (ap (λ (x : Sought). x .at) s) (end-read (now (a .b)) _ (count-read (now (a .b)) _ (c .before .before .be32 .ensures .0))), slots-room _ (now (a .b)) (q .0 .0) (q .0 .1), entry-size-least (a .e) (getD (now (a .b)) (c .before .seek .result .at + 8) 0)))
+    let r =
+    found-room _ (q .0 .0) (now (a .b)) (now (a .name)) _ _ _ (q .0 .1) (ap (λ (x : Sought). x .hit) s ∙ c .if1 .taken) (ap (λ (x : Sought). x .index) s)
+    (ap (λ (x : Sought). x .at) s) (end-read (now (a .b)) _ (count-read (now (a .b)) _ (c .before .before .be32 .ensures .0))) in
+    (q .0 .0, omega (arith, r, slots-room _ (now (a .b)) (q .0 .0) (q .0 .1), entry-size-least (a .e) (getD (now (a .b)) (c .before .seek .result .at + 8) 0)))
+
+seek-requires : tie.Need-seek-requires
+seek-requires c κs =
+    let p = c .before .before .before in
+    let n = count-read (now (p .args .b)) _ (c .be32 .ensures .0) in
+    (p .pre .0, ((end-read (now (p .args .b)) _ n, n), p .pre .1 .1))
+
+returns : tie.Need-returns
+returns c =
+    let q = c .before .before .before .before .before .before .pre in
+    lookup-found _ _ _ (q .0 .0) (q .0 .1) (q .1 .0) _ (c .before .before .seek .ensures) (c .before .if1 .taken) _ (c .target-at .ensures)
+
+returns-2 : tie.Need-returns-2
+returns-2 c =
+    let q = c .before .before .before .before .before .pre in
+    lookup-absent _ _ _ (q .0 .0) (q .0 .1) (q .1 .0) _ (c .before .seek .ensures) (c .if1 .left)
 
 pub lookup-ready-spec : {M : Type 1} → statement M
 lookup-ready-spec =
     tie.close
     (tie.spec
-    (λ c. omega (arith, slots-room _ (now (c .before .before .args .b)) (c .before .before .pre .0 .0) (c .before .before .pre .0 .1)))
-    (λ c κs. omega (arith, slots-room _ (now (c .before .before .args .b)) (c .before .before .pre .0 .0) (c .before .before .pre .0 .1)))
-    (λ c. omega (arith, slots-room _ (now (c .before .before .before .args .b)) (c .before .before .before .pre .0 .0) (c .before .before .before .pre .0 .1)))
+    (λ c. let p = c .before .before in omega (arith, slots-room _ (now (p .args .b)) (p .pre .0 .0) (p .pre .0 .1)))
+    (λ c κs. let p = c .before .before in omega (arith, slots-room _ (now (p .args .b)) (p .pre .0 .0) (p .pre .0 .1)))
+    (λ c. let p = c .before .before .before in omega (arith, slots-room _ (now (p .args .b)) (p .pre .0 .0) (p .pre .0 .1)))
     (λ c. search needs)
-    (λ c. omega (arith, slots-room _ (now (c .before .before .before .args .b)) (c .before .before .before .pre .0 .0) (c .before .before .before .pre .0 .1), count-read (now (c .before .before .before .args .b)) _ (c .be32 .ensures .0)))
-    (λ c κs.
-    let c₃ = c .before .before .before in
-    (c₃ .pre .0, (end-read (now (c₃ .args .b)) _ (count-read (now (c₃ .args .b)) _ (c .be32 .ensures .0)), count-read (now (c₃ .args .b)) _ (c .be32 .ensures .0))))
+    (λ c.
+    let p = c .before .before .before in
+    omega (arith, slots-room _ (now (p .args .b)) (p .pre .0 .0) (p .pre .0 .1), count-read (now (p .args .b)) _ (c .be32 .ensures .0)))
+    seek-requires
     target-at-requires
-    (λ c. lookup-found _ _ _ (c .before .before .before .before .before .before .pre .0 .0) (c .before .before .before .before .before .before .pre .0 .1) (c .before .before .before .before .before .before .pre .1) _ (c .before .before .seek .ensures) (c .before .if1 .taken) _ (c .target-at .ensures))
-    (λ c. lookup-absent _ _ _ (c .before .before .before .before .before .pre .0 .0) (c .before .before .before .before .before .pre .0 .1) (c .before .before .before .before .before .pre .1) _ (c .before .seek .ensures) (c .if1 .left)))
+    returns
+    returns-2)

@@ -1,4 +1,5 @@
 use native.Mathlib.Omega.{arith}
+use mathlib.Core.Path.{refl}
 use denote.Ref.{now}
 use Rattle.dir_block_scan.proofs.TableStored.{best-stored}
 use Rattle.dir_block_laws.proofs.RecordSteps.{room-for, count-read, end-read}
@@ -48,4 +49,4 @@ best-table-spec =
     pass-requires
     put-table-requires
     (λ c. search needs)
-    (λ c. best-stored _ _ _ _ _ _ (c .before .before .before .before .pass .ensures) (c .before .before .put-table .ensures)))
+    (λ c. best-stored _ _ _ _ _ _ refl (c .before .before .before .before .pass .ensures) (c .before .before .put-table .ensures)))

@@ -1,16 +1,35 @@
 use Prim.Native.Nat.{_-_}
-use mathlib.Core.Path.{refl}
+use native.Mathlib.Omega.{arith}
+use mathlib.Core.Path.{refl, sym, _∙_}
+use denote.Ref.{now}
 use borrow.Author.Needs.{needs}
 use lib.ListN.{length}
-use Rattle.name.proofs.Scans.{Alike, alike-next, alike-not, alike-done, unlike}
+use Rattle.be.specs.Lists.{same}
+use Rattle.name.proofs.Scans.{Alike, unlike}
+use Rattle.name.proofs.EqualWords.{alike-word, alike-word-not}
 use Rattle.name.proofs.equal.Statement.{statement}
 use Rattle.name.proofs.equal.Tie as tie
 
 abbrev Inv-loop : tie.InvT-loop
-Inv-loop s t i₀ i = Alike s t i
+Inv-loop s t n i₀ i = Alike (same s t) s t i
 
 abbrev μ-loop : tie.MeasureT-loop
-μ-loop s t i₀ i = length s - i
+μ-loop s t n i₀ i = length s - i
+
+returns-2 : tie.Need-returns-2 Inv-loop μ-loop
+returns-2 c =
+    let l = c .before .before .before .before .loop in
+    alike-word-not _ _ _ (l .i) _ _ (l .inv) (omega arith) (c .before .before .le64 .ensures) (c .before .le642 .ensures) (c .if2 .taken)
+
+loop-again : tie.Need-loop-again Inv-loop μ-loop
+loop-again c =
+    let l = c .before .before .before .before .loop in
+    let k = c .before .before .before .before .before .before in
+    alike-word _ _ _ (l .i) _ _ (l .inv) (omega arith) (c .before .before .le64 .ensures) (c .before .le642 .ensures)
+    (λ n. k .before .shared-slice-known .given n .fits) (λ n. k .shared-slice-known2 .given n .fits) (c .if2 .left)
+
+returns-3 : tie.Need-returns-3 Inv-loop μ-loop
+returns-3 c = c .equal-rest .ensures ∙ sym (c .before .before .loop .inv .rest)
 
 pub equal-spec : {M : Type 1} → statement M
 equal-spec =
@@ -20,10 +39,12 @@ equal-spec =
     μ-loop
     (λ c. search (needs, unlike))
     (λ c. record { upto = search needs; long = search needs; rest = refl })
-    (λ c. search needs)
-    (λ c. search needs)
-    (λ c. search (needs, alike-not))
-    (λ c. search needs)
-    (λ c. search needs)
-    (λ c. search (needs, alike-next))
-    (λ c. search (needs, alike-done)))
+    (λ c. omega arith)
+    (λ c κs. omega arith)
+    (λ c κs. omega arith)
+    returns-2
+    (λ c. omega arith)
+    (λ c. omega arith)
+    loop-again
+    (λ c κs. search needs)
+    returns-3)

@@ -1,0 +1,41 @@
+-- The best-gap table of pairs in offset order, where a gap takes the place of some, or an entry of a gap's start.
+-- Assumes nothing.
+use Prim.Native.Nat.{ℕ, _+_, _-_}
+use mathlib.Core.Bool.{cond}
+use mathlib.Core.List.{List, [], _∷_}
+use lib.Dec.{leb, ltb}
+use Rattle.dir_block_rules.specs.Verdict.{Pair, pair}
+use Rattle.dir_block_laws.specs.BestSoFar.{ins}
+
+-- into the table ts those of the pairs that start before o
+unfoldable pub ins-before : ℕ → List Pair → List Pair → List Pair
+ins-before o [] ts = ts
+ins-before o (p ∷ ps) ts = ins-before o ps (cond (ltb (p .from) o) (ins p ts) ts)
+
+-- into the table ts those of the pairs that start at u or behind
+unfoldable pub ins-behind : ℕ → List Pair → List Pair → List Pair
+ins-behind u [] ts = ts
+ins-behind u (p ∷ ps) ts = ins-behind u ps (cond (leb u (p .from)) (ins p ts) ts)
+
+-- no gaps
+abbrev pub empty-table : List Pair
+empty-table = pair 0 0 ∷ pair 0 0 ∷ pair 0 0 ∷ []
+
+-- the table of the pairs, with one gap from o up to u in place of those that start there
+unfoldable pub joined-table : ℕ → ℕ → List Pair → List Pair
+joined-table o u ps = ins-behind u ps (ins (pair o (u - o)) (ins-before o ps empty-table))
+
+-- two pairs in offset order
+unfoldable pub in-order : Pair → Pair → List Pair
+in-order p q = cond (ltb (q .from) (p .from)) (q ∷ p ∷ []) (p ∷ q ∷ [])
+
+-- the gap p without its first n bytes
+abbrev pub less : ℕ → Pair → Pair
+less n p = pair (p .from + n) (p .long - n)
+
+-- the table of two pairs, with n bytes taken off the start of the longer one, of the first if they are as long
+unfoldable pub used-table : ℕ → List Pair → List Pair
+used-table n [] = []
+used-table n (a ∷ []) = []
+used-table n (a ∷ c ∷ ps) =
+    cond (leb (c .long) (a .long)) (ins c (ins (less n a) empty-table)) (ins (less n c) (ins a empty-table))

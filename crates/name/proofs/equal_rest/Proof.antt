@@ -1,0 +1,29 @@
+use Prim.Native.Nat.{_-_}
+use mathlib.Core.Path.{refl}
+use borrow.Author.Needs.{needs}
+use lib.ListN.{length, drop}
+use Rattle.be.specs.Lists.{same}
+use Rattle.name.proofs.Scans.{Alike, alike-next, alike-not, alike-done}
+use Rattle.name.proofs.equal_rest.Statement.{statement}
+use Rattle.name.proofs.equal_rest.Tie as tie
+
+abbrev Inv-loop : tie.InvT-loop
+Inv-loop s t from i₀ i = Alike (same (drop from s) (drop from t)) s t i
+
+abbrev μ-loop : tie.MeasureT-loop
+μ-loop s t from i₀ i = length s - i
+
+pub equal-rest-spec : {M : Type 1} → statement M
+equal-rest-spec =
+    tie.close
+    (tie.spec
+    Inv-loop
+    μ-loop
+    (λ c. record { upto = search needs; long = search needs; rest = refl })
+    (λ c. search needs)
+    (λ c. search needs)
+    (λ c. search (needs, alike-not))
+    (λ c. search needs)
+    (λ c. search needs)
+    (λ c. search (needs, alike-next))
+    (λ c. search (needs, alike-done)))

@@ -1,0 +1,12 @@
+pub mod Lanes
+pub mod MarkedLanes
+pub mod LegalBytes
+pub mod Halves
+pub mod HashWords
+pub mod Linear
+pub mod LastWord
+pub mod WordWalk
+pub mod Overlay
+pub mod WholeName
+pub mod Keys
+pub mod InodeNumbers
