@@ -28,6 +28,8 @@ mod refusal;
 mod walk;
 
 #[doc(hidden)]
+pub mod alike;
+#[doc(hidden)]
 pub mod model;
 #[doc(hidden)]
 pub mod yardstick;

@@ -347,14 +347,3 @@ pub fn bare_walk(b: &[u8]) -> usize {
     }
     records
 }
-
-/// A name of 12 bytes; all of them have one hash. A byte's lowest bit and the highest of the byte behind it fall on the same bit of the
-/// hash: each of the 11 lowest bits of `toggles` turns such a pair over.
-pub fn of_one_hash(toggles: u32) -> Vec<u8> {
-    let mut name = b"bdfhjlnprtvx".to_vec();
-    for i in (0..11).filter(|i| toggles >> i & 1 == 1) {
-        name[i] ^= 1;
-        name[i + 1] ^= 0x80;
-    }
-    name
-}

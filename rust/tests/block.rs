@@ -8,8 +8,8 @@ use common::calls::Lab;
 use common::damage::{self, Fields};
 use common::frame::{self, Case, Structure};
 use common::{images, names, rounds, Rng, V4};
-use pelunziwa::model::{block, entry_size, Change, END};
-use pelunziwa::yardstick;
+use pelunziwa::alike;
+use pelunziwa::model::{self, block, entry_size, Change, END};
 
 const TESTS: [u32; 9] = [1, 2, 4, 5, 6, 7, 8, 9, 10];
 
@@ -75,27 +75,34 @@ fn offsets(bytes: &[u8]) -> Vec<usize> {
     block.live().map(|(offset, _, _)| offset).skip(2).collect()
 }
 
-/// Names of one hash, all told apart: a block full of them is accepted, and refused with 10 with one of them stored twice, whichever
-/// two slots theirs are, and with stale slots among them.
+/// Names of one hash, all told apart, and names that share the library's second hash too: a block full of them is accepted, and refused
+/// with 10 with one of them stored twice, whichever two slots theirs are, and with stale slots among them.
 #[test]
 fn names_of_one_hash() {
     let mut lab = Lab::new(0x0e5a);
-    for len in BLOCK_SIZES {
-        let mut bytes = build::fresh_block(&mut lab.rng, len);
-        let names = (0..1 << 11).map(yardstick::of_one_hash);
-        let stored: Vec<_> = names
-            .take_while(|name| pelunziwa::block::insert(&mut bytes, name, 5).is_ok())
-            .collect();
-        twice_anywhere(&mut lab, &bytes);
-        for name in stored.iter().step_by(3) {
-            assert!(pelunziwa::block::remove(&mut bytes, name).is_ok());
+    let in_hash: Vec<_> = (0..1 << 11).map(alike::in_hash).collect();
+    for names in [in_hash, alike::in_both(1 << 11)] {
+        assert_eq!(names.len(), 1 << 11);
+        let hash = model::hash(&names[0]);
+        assert!(names.iter().all(|name| model::hash(name) == hash));
+        for len in BLOCK_SIZES {
+            let mut bytes = build::fresh_block(&mut lab.rng, len);
+            let stored: Vec<_> = names
+                .iter()
+                .take_while(|name| pelunziwa::block::insert(&mut bytes, name, 5).is_ok())
+                .collect();
+            twice_anywhere(&mut lab, &bytes, names[0].len());
+            for name in stored.iter().step_by(3) {
+                assert!(pelunziwa::block::remove(&mut bytes, name).is_ok());
+            }
+            twice_anywhere(&mut lab, &bytes, names[0].len());
         }
-        twice_anywhere(&mut lab, &bytes);
     }
     println!("{} calls", lab.cover.calls());
 }
 
-fn twice_anywhere(lab: &mut Lab, bytes: &[u8]) {
+/// The block is accepted, and refused with 10 with one name, of those of this length, in another's place.
+fn twice_anywhere(lab: &mut Lab, bytes: &[u8], len: usize) {
     assert_eq!(block::test(V4, bytes), 0);
     lab.block_test(bytes);
     let at = offsets(bytes);
@@ -104,7 +111,7 @@ fn twice_anywhere(lab: &mut Lab, bytes: &[u8]) {
     pairs.extend((0..12).map(|_| (lab.rng.below(at.len()), lab.rng.below(at.len()))));
     for (i, j) in pairs.into_iter().filter(|(i, j)| i != j) {
         let mut copy = bytes.to_vec();
-        copy.copy_within(at[i] + 9..at[i] + 21, at[j] + 9);
+        copy.copy_within(at[i] + 9..at[i] + 9 + len, at[j] + 9);
         assert_eq!(block::test(V4, &copy), 10);
         lab.block_test(&copy);
     }
@@ -114,17 +121,19 @@ fn twice_anywhere(lab: &mut Lab, bytes: &[u8]) {
 #[test]
 fn slots_of_other_entries() {
     let mut lab = Lab::new(0x5107);
-    for len in [512, 4096] {
+    for len in BLOCK_SIZES {
         let mut bytes = build::fresh_block(&mut lab.rng, len);
-        for _ in 0..400 {
+        for _ in 0..len / 10 {
             let name = names::legal(&mut lab.rng);
             let _ = pelunziwa::block::insert(&mut bytes, &name, 5);
         }
         let end = block::read(V4, &bytes).map(|b| b.data_end());
         let end = end.unwrap_or_else(|n| panic!("refused with {n}"));
         let addresses: Vec<_> = (end + 4..len - 8).step_by(8).collect();
+        // Some 120 slots of the larger blocks, each with 12 others.
+        let some = addresses.iter().step_by(addresses.len().div_ceil(120));
         let mut tried = 0;
-        for &p in &addresses {
+        for &p in some {
             for &q in addresses.iter().take(12) {
                 let mut copy = bytes.clone();
                 copy.copy_within(p..p + 4, q);

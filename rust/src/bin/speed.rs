@@ -4,7 +4,7 @@
 //! compared with each other. Full blocks are filled by the library's own insert, with names from fixed seeds.
 
 use pelunziwa::model::{self, Options};
-use pelunziwa::{block, hash, yardstick, Refusal};
+use pelunziwa::{alike, block, hash, yardstick, Refusal};
 use std::cell::RefCell;
 use std::hint::black_box;
 use std::time::Instant;
@@ -333,13 +333,13 @@ fn named_row(size: usize, kind: &Names) {
     test_row(&what, &blocks);
 }
 
-/// Blocks whose names all have one hash: few, since the yardstick takes long.
-fn alike_row(size: usize) {
+/// Blocks whose names fall together: few, since the yardstick takes long.
+fn alike_row(size: usize, what: &str, names: &[Vec<u8>]) {
     let blocks: Vec<_> = (0..2)
-        .map(|seed| fill(size, 1 + seed, (0..1 << 11).map(yardstick::of_one_hash)))
+        .map(|seed| fill(size, 1 + seed, names.iter().cloned()))
         .collect();
     let entries = blocks[0].names.len();
-    test_row(&format!("{size} bytes, one hash ({entries})"), &blocks);
+    test_row(&format!("{size} bytes, {what} ({entries})"), &blocks);
 }
 
 fn tests() {
@@ -354,8 +354,12 @@ fn tests() {
         let blocks: Vec<_> = files.iter().map(|file| real(file)).collect();
         test_row(&format!("{what} bytes, real ({})", files.len()), &blocks);
     }
-    for size in [4096, 16_384, 65_536] {
-        alike_row(size);
+    let in_hash: Vec<_> = (0..1 << 11).map(alike::in_hash).collect();
+    let in_both = alike::in_both(1 << 11);
+    for (what, names) in [("one hash", in_hash), ("one hash and key", in_both)] {
+        for size in [4096, 16_384, 65_536] {
+            alike_row(size, what, &names);
+        }
     }
     println!();
 }
@@ -392,6 +396,160 @@ fn call_rows(size: usize, kind: &Names) {
     line("lookup", look, Some(yard_look), model_look, own_look);
     line("removal", remove, None, model_remove, remove);
     line("insert", insert, None, model_insert, insert);
+}
+
+/// A change of a block, by name.
+type Change = fn(&mut [u8], &[u8]) -> Result<(), Refusal>;
+
+fn inserted(b: &mut [u8], name: &[u8]) -> Result<(), Refusal> {
+    block::insert(b, name, 5)
+}
+
+/// Changes that are made once, each on a copy of its block.
+struct Once {
+    what: &'static str,
+    change: Change,
+    asked: Vec<Asked>,
+}
+
+/// Nanoseconds of a call on a copy of each block; the copying is not counted.
+fn on_copies(asked: &[Asked], call: impl Fn(&mut [u8], &[u8])) -> f64 {
+    let mut copy = Vec::new();
+    let mut taken = 0.0;
+    for (b, name) in asked {
+        copy.clone_from(b);
+        let start = Instant::now();
+        call(black_box(&mut copy), name);
+        taken += start.elapsed().as_nanos() as f64;
+    }
+    taken / asked.len() as f64
+}
+
+/// What a change takes, and what a test of the same blocks does: medians of rounds in which the two take turns.
+fn change_and_test(once: &Once) -> [f64; 2] {
+    let mut times = [Vec::new(), Vec::new()];
+    for _ in 0..ROUNDS {
+        let changed = on_copies(&once.asked, |b, name| {
+            assert!((once.change)(b, name).is_ok())
+        });
+        let tested = on_copies(&once.asked, |b, _| assert!(block::test(b).is_ok()));
+        times[0].push(changed);
+        times[1].push(tested);
+    }
+    times.map(|mut t| {
+        t.sort_by(f64::total_cmp);
+        t[ROUNDS / 2]
+    })
+}
+
+/// How many slots, and how many of them stale.
+fn slots(b: &[u8]) -> [u32; 2] {
+    let tail = |back| u32::from_be_bytes(*b[b.len() - back..].first_chunk().expect("a tail"));
+    [tail(8), tail(4)]
+}
+
+/// Half full, with one gap: filled by (d), and the next insert is by (d).
+fn half_full(size: usize, kind: &Names, seed: u64) -> Full {
+    let mut full = full(size, kind, seed);
+    let half = full.names.len() / 2;
+    let mut bytes = empty(size);
+    for name in &full.names[..half] {
+        assert!(block::insert(&mut bytes, name, 5).is_ok());
+    }
+    full.bytes = bytes;
+    full
+}
+
+fn by_d(size: usize, kind: &Names, seed: u64) -> Asked {
+    let half = half_full(size, kind, seed);
+    assert_eq!(slots(&half.bytes)[1], 0);
+    let last = half.names[half.names.len() - 1].clone();
+    (half.bytes, last)
+}
+
+/// Half full, with a gap that an entry of a name of 100 bytes has left, and no stale slot: the next insert is by (c).
+fn by_c(size: usize, kind: &Names, seed: u64) -> Asked {
+    let long = [b'l'; 100];
+    let mut bytes = empty(size);
+    assert!(block::insert(&mut bytes, &long, 5).is_ok());
+    let names = full(size, kind, seed).names;
+    for name in &names[..names.len() / 2] {
+        assert!(block::insert(&mut bytes, name, 5).is_ok());
+    }
+    assert!(block::remove(&mut bytes, &long).is_ok());
+    assert!(block::insert(&mut bytes, b"!", 5).is_ok());
+    assert_eq!(slots(&bytes)[1], 0);
+    (bytes, names[names.len() - 1].clone())
+}
+
+/// Every eighth entry removed: as many gaps, and stale slots.
+fn with_gaps(size: usize, kind: &Names, seed: u64) -> Full {
+    let mut full = full(size, kind, seed);
+    for name in full.names.iter().step_by(8) {
+        assert!(block::remove(&mut full.bytes, name).is_ok());
+    }
+    full
+}
+
+/// A name that fits no gap, but in the place of stale slots: the insert is by (b).
+fn by_b(size: usize, kind: &Names, seed: u64) -> Asked {
+    let b = with_gaps(size, kind, seed).bytes;
+    let name = vec![b'b'; 32];
+    let mut after = b.clone();
+    assert!(block::insert(&mut after, &name, 5).is_ok());
+    assert_eq!(slots(&after), [slots(&b)[0] - slots(&b)[1] + 1, 0]);
+    (b, name)
+}
+
+/// Many gaps: a removal, and an insert by (a).
+fn removed_of_many(size: usize, kind: &Names, seed: u64) -> Asked {
+    let Full { bytes, names } = with_gaps(size, kind, seed);
+    (bytes, names[names.len() / 2 / 8 * 8 + 4].clone())
+}
+
+fn inserted_among_many(size: usize, kind: &Names, seed: u64) -> Asked {
+    let Full { bytes, names } = with_gaps(size, kind, seed);
+    let mut after = bytes.clone();
+    let name = names[names.len() / 2 / 8 * 8].clone();
+    assert!(block::insert(&mut after, &name, 5).is_ok());
+    assert_eq!(slots(&after), [slots(&bytes)[0], slots(&bytes)[1] - 1]);
+    (bytes, name)
+}
+
+/// Changes by every room rule and with many gaps, and what they take by the side of a test of the same block.
+fn other_changes() {
+    println!("| blocks | change | library, us | test, us | change / test |");
+    println!("|---|---|---|---|---|");
+    type Make = fn(usize, &Names, u64) -> Asked;
+    let changes: [(&str, Change, Make); 5] = [
+        ("insert by (b), many gaps", inserted, by_b),
+        ("insert by (c), two gaps", inserted, by_c),
+        ("insert by (d), one gap", inserted, by_d),
+        ("insert by (a), many gaps", inserted, inserted_among_many),
+        ("removal, many gaps", block::remove, removed_of_many),
+    ];
+    for size in [4096, 16_384, 65_536] {
+        for kind in [SHORT, TYPICAL] {
+            for (what, change, make) in changes {
+                let asked = (1000..1000 + BLOCKS).map(|seed| make(size, &kind, seed));
+                let once = Once {
+                    what,
+                    change,
+                    asked: asked.collect(),
+                };
+                let [changed, tested] = change_and_test(&once);
+                println!(
+                    "| {size} bytes, {} names | {} | {} | {} | {:.2} |",
+                    kind.what,
+                    once.what,
+                    micro(changed),
+                    micro(tested),
+                    changed / tested
+                );
+            }
+        }
+    }
+    println!();
 }
 
 const SIZES: usize = 8;
@@ -450,4 +608,6 @@ fn main() {
             call_rows(size, kind);
         }
     }
+    println!();
+    other_changes();
 }
