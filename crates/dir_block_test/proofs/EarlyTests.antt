@@ -15,7 +15,8 @@ use Rattle.edition.specs.Edition.{Sane, block-size, largest-block}
 use Rattle.dir_block_rules.specs.Record.{Rec, entries}
 use Rattle.dir_block_rules.specs.Block.{Slot, records, slots, slots-in, count-of, stale-of, data-end}
 use Rattle.dir_block_rules.specs.Verdict.{verdict, size-ok, magic-ok, span-ok}
-use Rattle.dir_block_test.specs.Passes.{rest, slots-from, Parts, Data-tiled, after-span, after-tile, after-index, tile-from, tile-count, cells-of, hint, worst, own-at, Faulted}
+use Rattle.dir_block_twice.specs.Twice.{slots-from}
+use Rattle.dir_block_test.specs.Passes.{rest, Parts, Data-tiled, after-span, after-tile, after-index, tile-from, tile-count, cells-of, hint, worst, own-at, Faulted}
 use Rattle.dir_block_test.proofs.FaultsAnswer.{tiled-not, tiled-done, tile-is}
 use Rattle.dir_block_rules.proofs.WholeRecords.{tile-law}
 -- TILE

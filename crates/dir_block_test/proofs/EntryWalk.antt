@@ -19,7 +19,8 @@ use Rattle.dir_block_rules.specs.Verdict.{number-fits}
 use Rattle.be.proofs.Bools.{and-left, and-right, by-cases}
 use Rattle.dir_block_rules.proofs.CutJoin.{Whole, whole→, head-size}
 use Rattle.edition.proofs.Sizes.{entry-size-least}
-use Rattle.dir_block_test.specs.Passes.{no-fault, rest, whole-len, name-fits, name-of, fault-at, fault, worst}
+use Rattle.dir_block_twice.specs.Twice.{name-of}
+use Rattle.dir_block_test.specs.Passes.{no-fault, rest, whole-len, name-fits, fault-at, fault, worst}
 use Rattle.be.proofs.Parts.{part-part, getD-part, part-length}
 use Rattle.dir_block_test.proofs.WholeRecord.{says-entry, gap-is}
 use Rattle.dir_block_test.proofs.TileWalk.{Head, head, rest-head, rest-end, head-gap}

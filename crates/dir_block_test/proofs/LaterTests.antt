@@ -3,7 +3,7 @@
 use Prim.Native.Nat.{ℕ, suc, _+_, _-_, _*_, _%_, _≤_, _<_}
 use native.Mathlib.Nat.{sub-zero}
 use native.Mathlib.Omega.{arith}
-use mathlib.Core.Bool.{Bool, true, false, not, cond, _&&_, Bool·beq}
+use mathlib.Core.Bool.{Bool, true, false, not, _&&_, Bool·beq}
 use mathlib.Core.Path.{_≡_, refl, sym, _∙_, ap, ap₂, subst}
 use mathlib.Core.List.{List, [], _∷_, _++_, map}
 use lib.Dec.{eqb, leb, ltb}
@@ -27,14 +27,15 @@ use Rattle.dir_block_rules.proofs.RecordPlaces.{apart-keep, laid-eights}
 use Rattle.dir_block_rules.proofs.SearchFinds.{Reads, Owner, owner}
 use Rattle.name.proofs.Same.{same-eq}
 use Rattle.dir_block_rules.proofs.GoodParts.{laid-small}
-use Rattle.dir_block_test.specs.Passes.{cells-of, hint, rest, name-of, Data-tiled, slots-from, Reach, addr-at, once-in, best-left, in-order, own-at, worst, after-tile, after-index}
+use Rattle.dir_block_twice.specs.Twice.{name-of, slots-from, Reach, addr-at, once-in}
+use Rattle.dir_block_test.specs.Passes.{cells-of, hint, rest, Data-tiled, best-left, in-order, own-at, worst, after-tile, after-index}
 use Rattle.be.proofs.Parts.{part-length}
 use Rattle.dir_block_rules.proofs.StoredPairs.{pairs-read}
 use Rattle.dir_block_test.proofs.TileWalk.{Head, rest-head, head-gap}
 use Rattle.dir_block_test.proofs.WholeRecord.{says-entry}
 use Rattle.dir_block_test.proofs.EntryWalk.{entry-fits, name-here, number-here}
-use Rattle.dir_block_test.proofs.SlotWalk.{slot-at}
-use Rattle.dir_block_test.proofs.SlotTable.{slots-split, table-law, hinted, length-cells}
+use Rattle.dir_block_twice.proofs.SlotList.{slot-at}
+use Rattle.dir_block_test.proofs.SlotTable.{slots-split, table-law, hinted}
 use Rattle.dir_block_test.proofs.FaultsAnswer.{tile-is, worst-7, worst-8, worst-9}
 use Rattle.dir_block_test.proofs.OneSlotEach.{in-order-is}
 use Rattle.dir_block_test.proofs.BestNamed.{at-most, best-law}

@@ -5,8 +5,6 @@ pub mod NamePlaces
 pub mod EntryWalk
 pub mod BestPass
 pub mod RecordWalk
-pub mod TwinWalk
-pub mod TwinKeys
 pub mod FaultsAnswer
 pub mod OneSlotEach
 pub mod SlotTable

@@ -1,6 +1,6 @@
 -- INDEX by a table: where the counts agree, the table's slot for each entry is all there is to test.
 -- Assumes nothing.
-use Prim.Native.Nat.{ℕ, zero, suc, _+_, _-_, _*_, _/_, _≤_, _<_}
+use Prim.Native.Nat.{ℕ, zero, suc, _+_, _-_, _/_, _≤_, _<_}
 use native.Mathlib.Nat.{zero-add}
 use native.Mathlib.Numerals.{add-one}
 use native.Mathlib.Omega.{arith}
@@ -22,8 +22,9 @@ use Rattle.dir_block_rules.proofs.SlotCounts.{Apart, at-addr, tally-le}
 use Rattle.dir_block_rules.proofs.IndexedEntries.{addr-of, at-both, Slotted, slotted}
 use Rattle.dir_block_rules.proofs.RecordPlaces.{apart-pos}
 use Rattle.be.proofs.Splits.{some-at}
-use Rattle.dir_block_test.specs.Passes.{slots-from, hash-at, addr-at, slot-word, cells-of, hint, slot-is}
-use Rattle.dir_block_test.proofs.SlotWalk.{slot-at, slots-next, slots-end}
+use Rattle.dir_block_twice.specs.Twice.{slots-from, hash-at, addr-at}
+use Rattle.dir_block_test.specs.Passes.{slot-word, cells-of, hint, slot-is}
+use Rattle.dir_block_twice.proofs.SlotList.{slot-at, slots-next, slots-end}
 use Rattle.dir_block_test.proofs.OneSlotEach.{index-law}
 
 pub length-cells : (b : List ℕ) (t : ℕ) (M : List ℕ) (n : ℕ) → length (cells-of b t M n) ≡ length M

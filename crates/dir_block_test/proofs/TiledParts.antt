@@ -18,7 +18,8 @@ use Rattle.dir_block_rules.proofs.CutJoin.{Laid, laid-cut}
 use Rattle.name.proofs.Same.{same-refl}
 use Rattle.dir_block_rules.proofs.RecordPlaces.{off-above, none-at}
 use Rattle.dir_block_rules.proofs.GoodParts.{small}
-use Rattle.dir_block_test.specs.Passes.{rest, name-of}
+use Rattle.dir_block_twice.specs.Twice.{name-of}
+use Rattle.dir_block_test.specs.Passes.{rest}
 use Rattle.dir_block_test.proofs.TileWalk.{Head, rest-head, rest-end, head-whole, head-gap}
 use Rattle.dir_block_test.proofs.EntryWalk.{entry-fits, name-here}
 use Rattle.dir_block_test.proofs.BestNamed.{Sep, at-most}

@@ -23,7 +23,7 @@ use Rattle.dir_block_rules.proofs.SlotCounts.{Apart, at-addr}
 use Rattle.dir_block_rules.proofs.IndexedEntries.{Indexed, addr-of, at-both, Slotted, slotted}
 use Rattle.dir_block_rules.proofs.RecordPlaces.{apart-pos, apart-front}
 use Rattle.dir_block_rules.proofs.SearchFinds.{Owner, owner, Reads, read-at as reads}
-use Rattle.dir_block_test.specs.Passes.{clash-from, once-in, name-of}
+use Rattle.dir_block_twice.specs.Twice.{clash-from, once-in, name-of}
 
 pub eqb-swap : (x y : ℕ) → eqb x y ≡ eqb y x
 eqb-swap x y = by-cases (eqb x y) (λ q. q ∙ sym (eq-eqb y x (sym (eqb-true x y q)))) (λ q. q ∙ sym (ne-eqb y x (λ (z : y ≡ x). eqb-false x y q (sym z))))

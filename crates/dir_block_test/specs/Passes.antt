@@ -4,28 +4,23 @@ use Prim.Native.Nat.{ℕ, zero, suc, _+_, _-_, _*_, _/_, _%_, _≤_, _<_, min}
 use mathlib.Core.Bool.{Bool, true, false, not, cond, _&&_, _||_, Bool·beq}
 use mathlib.Core.Path.{_≡_}
 use mathlib.Core.List.{List, [], _∷_}
-use lib.Bits.{bitAnd}
-use lib.Dec.{eqb, leb, ltb}
-use lib.ListN.{length, take, drop, getD, set, replicate}
+use lib.Dec.{eqb, leb}
+use lib.ListN.{length, take, getD, set, replicate}
 use Rattle.refusal.specs.Refusal.{TILE, NAME, NUMBER, INDEX, BEST, TWICE, HIGHEST}
 use Rattle.be.specs.Lists.{every, some-of, tally, same, keep}
-use Rattle.be.specs.Bytes.{byte, field, part}
+use Rattle.be.specs.Bytes.{field, part}
 use Rattle.be.specs.Codes.{_unless_then_}
 use Rattle.edition.specs.declared.Edition.{Edition}
 use Rattle.edition.specs.Edition.{largest-block}
-use Rattle.name.specs.Name.{legal-name, hash-of, same-name, dot, dotdot}
-use Rattle.name_words.specs.Words.{key-of}
+use Rattle.name.specs.Name.{legal-name, hash-of, dot, dotdot}
 use Rattle.dir_block_rules.specs.Record.{Rec, rec, cut, says, whole, is-gap, entries, gaps, name, size}
-use Rattle.dir_block_rules.specs.Block.{Slot, slots-in, is-stale}
+use Rattle.dir_block_rules.specs.Block.{Slot, is-stale}
 use Rattle.dir_block_rules.specs.Verdict.{name-ok, number-fits, number-ok, Pair, is-gap-of, best-ok, best-pairs, once-ok, names-ok, numbers-ok, index-ok}
+use Rattle.dir_block_twice.specs.Twice.{hash-at, addr-at, name-of}
 
 -- the records from o to the data's end t, with fuel k
 unfoldable pub rest : Edition → List ℕ → ℕ → ℕ → ℕ → List Rec
 rest e b t k o = cut e k o (part o (t - o) b)
-
--- the slots from index i on, of the n that stand at t
-unfoldable pub slots-from : List ℕ → ℕ → ℕ → ℕ → List Slot
-slots-from b t n i = slots-in (n - i) (drop (t + 8 * i) b)
 
 -- TILE in one pass: whether the record before was a gap, and the records to come
 unfoldable pub tile-from : Edition → Bool → List Rec → Bool
@@ -69,17 +64,6 @@ rising-from h (s ∷ ss) = leb h (s .hash) && rising-from (s .hash) ss
 unfoldable pub in-order : ℕ → ℕ → ℕ → List Slot → Bool
 in-order h n m ss = rising-from h ss && eqb (n + tally is-stale ss) m
 
--- slot i's hash and address, of those at t
-abbrev pub hash-at : List ℕ → ℕ → ℕ → ℕ
-hash-at b t i = field (t + 8 * i) 4 b
-
-abbrev pub addr-at : List ℕ → ℕ → ℕ → ℕ
-addr-at b t i = field (t + 8 * i + 4) 4 b
-
--- the name of the entry at o
-abbrev pub name-of : List ℕ → ℕ → List ℕ
-name-of b o = part (o + 9) (byte (o + 8) b) b
-
 -- a name that may stand at o
 unfoldable pub name-fits : Edition → ℕ → List ℕ → Bool
 name-fits e o n =
@@ -117,46 +101,6 @@ which o n p q r =
     cond (eqb o (q .from) && eqb n (q .long)) 2 (
     cond (eqb o (r .from) && eqb n (r .long)) 3 (
     cond (leb n (r .long)) 4 0)))
-
--- a live slot at address a has the hash h, at the head of the slots ss, and the name of the entry at address c
-unfoldable pub clash-from : Edition → List ℕ → ℕ → ℕ → List Slot → Bool
-clash-from e b h c [] = false
-clash-from e b h c (s ∷ ss) =
-    let r = clash-from e b h c ss in
-    eqb (s .hash) h && ((not (eqb (s .addr) 0) && same-name e (name-of b (8 * c)) (name-of b (8 * s .addr))) || r)
-
--- the first of the slots has this hash
-unfoldable pub runs-on : ℕ → List Slot → Bool
-runs-on h [] = false
-runs-on h (s ∷ ss) = eqb (s .hash) h
-
--- slot i has the hash of the one before it
-unfoldable pub follows : List ℕ → ℕ → ℕ → Bool
-follows b t i = ltb 0 i && eqb (hash-at b t (i - 1)) (hash-at b t i)
-
--- a second number for a name
-abbrev pub second-key : List ℕ → ℕ
-second-key n = key-of n / 65536
-
--- the name of each live slot from i on that follows one of its hash has a 1 in its cell, by the number f
-abbrev pub Each-marked : List ℕ → ℕ → ℕ → (List ℕ → ℕ) → ℕ → List ℕ → Type 0
-Each-marked b t n f i S =
-    (j : ℕ) → i ≤ j → j < n → follows b t j ≡ true → (addr-at b t j ≡ 0 → ⊥) → getD S (bitAnd (f (name-of b (8 * addr-at b t j))) (length S - 1)) 0 ≡ 1
-
--- and by both numbers
-pub record Marked (b : List ℕ) (t n i : ℕ) (S : List ℕ) : Type 0 where
-  pub some : 0 < length S
-  pub first : Each-marked b t n key-of i S
-  pub second : Each-marked b t n second-key i S
-
--- TWICE in one pass over the slots
-unfoldable pub once-in : Edition → List ℕ → List Slot → Bool
-once-in e b [] = true
-once-in e b (s ∷ ss) = not (not (eqb (s .addr) 0) && clash-from e b (s .hash) (s .addr) ss) && once-in e b ss
-
--- the names of the entries that the n slots at t address are within the block, and eight more bytes follow them
-unfoldable pub Reach : List ℕ → ℕ → ℕ → Type 0
-Reach b t n = (i : ℕ) → i < n → (addr-at b t i ≡ 0 → ⊥) → 8 * addr-at b t i + 9 + byte (8 * addr-at b t i + 8) b + 8 ≤ length b
 
 -- the verdict on a block whose records are rs and slots ss, from BEST on, from NAME on, and from TILE on
 unfoldable pub after-index : Edition → List ℕ → List Rec → ℕ

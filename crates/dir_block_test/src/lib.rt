@@ -1,17 +1,17 @@
 // The test of a block directory: any bytes, answered by 0 or the number of the first test that fails. One pass over the slots, which leaves
 // each slot's hash and address in a table by address; one over the records; and, where slots have one hash, one more over the slots.
 ghost use mathlib.Core.Path.{_≡_};
-ghost use mathlib.Core.Bool.{true, false, not, _&&_, _||_, cond, Bool·beq};
+ghost use mathlib.Core.Bool.{true, false, not, _&&_, cond, Bool·beq};
 ghost use Prim.Native.Nat.{_+_, _*_, _-_, _/_, _%_, _≤_, _<_, min};
 ghost use lib.Dec.{eqb, leb, ltb};
-ghost use lib.ListN.{length, getD, set, replicate};
+ghost use lib.ListN.{length, set, replicate};
 ghost use Rattle.be.specs.Bytes.{byte, field, part};
 ghost use Rattle.edition.specs.Edition.{v4, Sane};
-ghost use Rattle.name.specs.Name.{legal-name, same-name};
-ghost use Rattle.name_words.specs.Words.{key-of};
+ghost use Rattle.name.specs.Name.{legal-name};
 ghost use Rattle.dir_block_rules.specs.Record.{says, gaps, entries};
 ghost use Rattle.dir_block_rules.specs.Verdict.{pair, best-pairs, best-ok, index-ok, verdict};
-ghost use Rattle.dir_block_test.specs.Passes.{no-fault, rest, whole-len, slots-from, in-order, level, hash-at, addr-at, slot-word, cells-of, hint, name-fits, name-of, fault-at, own-at, worst, best-left, which, Walks, Faulted, clash-from, runs-on, follows, Marked, once-in, Reach, after-index, after-tile, after-span, Parts, Data-tiled};
+ghost use Rattle.dir_block_twice.specs.Twice.{slots-from};
+ghost use Rattle.dir_block_test.specs.Passes.{rest, whole-len, in-order, level, slot-word, cells-of, hint, name-fits, fault-at, own-at, best-left, which, Walks, Faulted, after-index, after-tile, after-span, Parts, Data-tiled};
 use edition::Edition;
 use edition::V4;
 
@@ -60,22 +60,6 @@ fn whole_len(e: Edition, b: &[u8], o: usize, t: usize) -> usize
     n
 }
 
-// The hash of slot i, of those at t.
-fn slot_hash(b: &[u8], t: usize, i: usize) -> usize
-    requires { ⌜ t + 8 * i + 8 ≤ length (now b) ⌝ }
-    ensures { λ r. ⌜ (r ≡ hash-at (now (b .entry)) t i) × (r < 4294967296) ⌝ }
-{
-    be::be32(b, t + 8 * i)
-}
-
-// Its address.
-fn slot_addr(b: &[u8], t: usize, i: usize) -> usize
-    requires { ⌜ t + 8 * i + 8 ≤ length (now b) ⌝ }
-    ensures { λ r. ⌜ (r ≡ addr-at (now (b .entry)) t i) × (r < 4294967296) ⌝ }
-{
-    be::be32(b, t + 8 * i + 4)
-}
-
 // Stores the word of a hash and an address in the address's cell, if the table has it.
 fn keep(cells: &mut [u64], a: usize, h: usize)
     requires { ⌜ (a < 4294967296) × (h < 4294967296) ⌝ }
@@ -114,8 +98,8 @@ fn slots<'a, 'b>(b: &'a [u8], t: usize, n: usize, m: usize, cells: &'b mut [u64]
     let mut good = true;
     let mut equal = false;
     while i < n {
-        let h = slot_hash(b, t, i);
-        let a = slot_addr(b, t, i);
+        let h = dir_block_twice::slot_hash(b, t, i);
+        let a = dir_block_twice::slot_addr(b, t, i);
         keep(cells, a, h);
         good = good & (last <= h);
         equal = equal | (last == h);
@@ -306,153 +290,6 @@ fn walk(
     }
 }
 
-// Whether the entries at p and at q have the same name.
-fn same_names(e: Edition, b: &[u8], p: usize, q: usize) -> bool
-    requires { ⌜ (p + 9 + byte (p + 8) (now b) ≤ length (now b)) × (q + 9 + byte (q + 8) (now b) ≤ length (now b)) ⌝ }
-    ensures { λ r. ⌜ r ≡ same-name e (name-of (now (b .entry)) p) (name-of (now (b .entry)) q) ⌝ }
-{
-    let i = p + 9;
-    let j = q + 9;
-    let k = i + be::be8(b, p + 8);
-    let l = j + be::be8(b, q + 8);
-    name::matches(e, &b[i..k], &b[j..l])
-}
-
-// Whether a later slot of slot i's hash addresses an entry of the same name.
-fn clash(e: Edition, b: &[u8], t: usize, n: usize, i: usize) -> bool
-    requires { ⌜ (t + 8 * n ≤ length (now b)) × (i < n) × Reach (now b) t n × (addr-at (now b) t i ≡ 0 → ⊥) ⌝ }
-    ensures { λ r. ⌜ r ≡ clash-from e (now (b .entry)) (hash-at (now (b .entry)) t i) (addr-at (now (b .entry)) t i)
-        (slots-from (now (b .entry)) t n (i + 1)) ⌝ }
-{
-    let h = slot_hash(b, t, i);
-    let p = 8 * slot_addr(b, t, i);
-    let mut j = i + 1;
-    while j < n {
-        if slot_hash(b, t, j) != h {
-            return false;
-        }
-        let a = slot_addr(b, t, j);
-        if a != 0 {
-            if same_names(e, b, p, 8 * a) {
-                return true;
-            }
-        }
-        j += 1;
-    }
-    false
-}
-
-// Whether the slot after slot i has the same hash.
-fn runs_on(b: &[u8], t: usize, n: usize, i: usize) -> bool
-    requires { ⌜ (t + 8 * n ≤ length (now b)) × (i < n) ⌝ }
-    ensures { λ r. ⌜ r ≡ runs-on (hash-at (now (b .entry)) t i) (slots-from (now (b .entry)) t n (i + 1)) ⌝ }
-{
-    let j = i + 1;
-    if j < n {
-        return slot_hash(b, t, j) == slot_hash(b, t, i);
-    }
-    false
-}
-
-// Whether slot i has the hash of the one before it.
-fn follows(b: &[u8], t: usize, i: usize) -> bool
-    requires { ⌜ t + 8 * i + 8 ≤ length (now b) ⌝ }
-    ensures { λ r. ⌜ r ≡ follows (now (b .entry)) t i ⌝ }
-{
-    if 0 < i {
-        return slot_hash(b, t, i - 1) == slot_hash(b, t, i);
-    }
-    false
-}
-
-// Whether slot i has the hash of the one before it or behind it.
-fn in_run(b: &[u8], t: usize, n: usize, i: usize) -> bool
-    requires { ⌜ (t + 8 * n ≤ length (now b)) × (i < n) ⌝ }
-    ensures { λ r. ⌜ r ≡ (follows (now (b .entry)) t i || runs-on (hash-at (now (b .entry)) t i) (slots-from (now (b .entry)) t n (i + 1))) ⌝ }
-{
-    if follows(b, t, i) {
-        return true;
-    }
-    runs_on(b, t, n, i)
-}
-
-// A number for the name of the entry at p, the same for equal names.
-fn name_key(b: &[u8], p: usize) -> usize
-    requires { ⌜ p + 9 + byte (p + 8) (now b) + 8 ≤ length (now b) ⌝ }
-    ensures { λ r. ⌜ r ≡ key-of (name-of (now (b .entry)) p) ⌝ }
-{
-    let i = p + 9;
-    let end = i + be::be8(b, p + 8);
-    name_words::key(b, i, end)
-}
-
-// Stores a 1 in cell k; whether one stood there.
-fn note(seen: &mut [u8], k: usize) -> bool
-    requires { ⌜ k < length (now seen) ⌝ }
-    ensures { λ r. ⌜ (r ≡ not (eqb (getD (now (seen .entry)) k 0) 0)) × (now (seen .exit) ≡ set (now (seen .entry)) k 1) ⌝ }
-{
-    let was = seen[k];
-    seen[k] = 1;
-    was != 0
-}
-
-// Whether slot i is live, and a later one addresses an entry of the same name. Each name has two cells: names are compared only where later
-// ones have both, so that many names of one hash are seldom compared.
-fn twin<'a, 'b>(e: Edition, b: &'a [u8], t: usize, n: usize, i: usize, seen: &'b mut [u8]) -> bool
-    requires { ⌜ (t + 8 * n ≤ length (now b)) × (i < n) × Reach (now b) t n × Marked (now b) t n (i + 1) (now seen) ⌝ }
-    ensures { λ r. ⌜ (r ≡ (not (eqb (addr-at (now (b .entry)) t i) 0)
-        && clash-from e (now (b .entry)) (hash-at (now (b .entry)) t i) (addr-at (now (b .entry)) t i) (slots-from (now (b .entry)) t n (i + 1))))
-        × Marked (now (b .entry)) t n i (now (seen .exit)) ⌝ }
-{
-    let a = slot_addr(b, t, i);
-    if a == 0 {
-        return false;
-    }
-    let cells = seen.len();
-    let k = name_key(b, 8 * a);
-    let one = note(seen, k & (cells - 1));
-    let two = note(seen, (k / 65536) & (cells - 1));
-    if !(one & two) {
-        return false;
-    }
-    clash(e, b, t, n, i)
-}
-
-// Whether no name is stored twice, from the last slot down; what the table holds at first doesn't matter.
-fn once_with<'a, 'b>(e: Edition, b: &'a [u8], t: usize, n: usize, seen: &'b mut [u8]) -> bool
-    requires { ⌜ (t + 8 * n ≤ length (now b)) × Reach (now b) t n × (0 < length (now seen)) ⌝ }
-    ensures { λ r. ⌜ r ≡ once-in e (now (b .entry)) (slots-from (now (b .entry)) t n 0) ⌝ }
-{
-    let mut i = n;
-    while 0 < i {
-        i -= 1;
-        if in_run(b, t, n, i) {
-            if twin(e, b, t, n, i, seen) {
-                return false;
-            }
-        }
-    }
-    true
-}
-
-// How much is cleared for the names seen follows the block's size.
-const FEW: usize = 4096;
-
-const MANY: usize = 32768;
-
-// Whether no name is stored twice.
-fn once(e: Edition, b: &[u8], t: usize, n: usize) -> bool
-    requires { ⌜ (t + 8 * n ≤ length (now b)) × Reach (now b) t n ⌝ }
-    ensures { λ r. ⌜ r ≡ once-in e (now (b .entry)) (slots-from (now (b .entry)) t n 0) ⌝ }
-{
-    if t <= FEW {
-        let mut seen = [0u8; FEW];
-        return once_with(e, b, t, n, &mut seen);
-    }
-    let mut seen = [0u8; MANY];
-    once_with(e, b, t, n, &mut seen)
-}
-
 // The pair at o.
 fn pair_at(b: &[u8], o: usize) -> Best
     requires { ⌜ o + 4 ≤ length (now b) ⌝ }
@@ -490,7 +327,7 @@ fn test_best(e: Edition, b: &[u8], t: usize, n: usize, m: usize, best: bool, equ
     if !equal {
         return 0;
     }
-    if !once(e, b, t, n) {
+    if !dir_block_twice::once(e, b, t, n) {
         return refusal::TWICE;
     }
     0

@@ -1,9 +1,8 @@
 use native.Mathlib.Omega.{arith}
 use mathlib.Core.Bool.{true}
 use mathlib.Core.Path.{refl, sym, _∙_}
-use borrow.Author.Needs.{needs}
 use borrow.Author.Tests.{not-true, not-false}
-use Rattle.dir_block_test.proofs.TwinKeys.{level-once}
+use Rattle.dir_block_test.proofs.SlotWalk.{level-once}
 use Rattle.dir_block_test.proofs.LaterTests.{reach, end-9, end-10, end-0}
 use Rattle.dir_block_test.proofs.test_best.Statement.{statement}
 use Rattle.dir_block_test.proofs.test_best.Tie as tie
@@ -20,7 +19,7 @@ returns-2 c =
 
 once-requires : tie.Need-once-requires
 once-requires c κs =
-    let p = c .before .before .before .pre in (omega (arith, p .1 .0 .parts .slots-fit), reach _ (p .0) _ _ _ (p .1 .0) _ (p .1 .1))
+    let p = c .before .before .before .pre in (omega (arith, p .1 .0 .parts .slots-fit), reach _ (p .0) _ _ _ (p .1 .0) _ (p .1 .1), omega (arith, p .1 .0 .parts .slots-fit, p .1 .0 .parts .top))
 
 returns-3 : tie.Need-returns-3
 returns-3 c =

@@ -1,0 +1,111 @@
+-- TWICE over the slots: names compared within runs of one hash.
+-- Assumes nothing.
+use Prim.Native.Nat.{ℕ, _+_, _-_, _*_, _/_, _≤_, _<_}
+use mathlib.Core.Bool.{Bool, true, false, not, _&&_, _||_}
+use mathlib.Core.Path.{_≡_}
+use mathlib.Core.List.{List, [], _∷_}
+use lib.Bits.{bitAnd}
+use lib.Dec.{eqb, ltb}
+use lib.ListN.{length, drop, getD}
+use Rattle.be.specs.Bytes.{byte, field, part}
+use Rattle.edition.specs.declared.Edition.{Edition}
+use Rattle.name.specs.Name.{same-name}
+use Rattle.name_words.specs.Words.{key-of}
+use Rattle.dir_block_rules.specs.Block.{Slot, slots-in}
+
+-- the slots from index i on, of the n that stand at t
+unfoldable pub slots-from : List ℕ → ℕ → ℕ → ℕ → List Slot
+slots-from b t n i = slots-in (n - i) (drop (t + 8 * i) b)
+
+-- slot i's hash and address, of those at t
+abbrev pub hash-at : List ℕ → ℕ → ℕ → ℕ
+hash-at b t i = field (t + 8 * i) 4 b
+
+abbrev pub addr-at : List ℕ → ℕ → ℕ → ℕ
+addr-at b t i = field (t + 8 * i + 4) 4 b
+
+-- the name of the entry at o
+abbrev pub name-of : List ℕ → ℕ → List ℕ
+name-of b o = part (o + 9) (byte (o + 8) b) b
+
+-- a live slot at address a has the hash h, at the head of the slots ss, and the name of the entry at address c
+unfoldable pub clash-from : Edition → List ℕ → ℕ → ℕ → List Slot → Bool
+clash-from e b h c [] = false
+clash-from e b h c (s ∷ ss) =
+    let r = clash-from e b h c ss in
+    eqb (s .hash) h && ((not (eqb (s .addr) 0) && same-name e (name-of b (8 * c)) (name-of b (8 * s .addr))) || r)
+
+-- the first of the slots has this hash
+unfoldable pub runs-on : ℕ → List Slot → Bool
+runs-on h [] = false
+runs-on h (s ∷ ss) = eqb (s .hash) h
+
+-- slot i has the hash of the one before it
+unfoldable pub follows : List ℕ → ℕ → ℕ → Bool
+follows b t i = ltb 0 i && eqb (hash-at b t (i - 1)) (hash-at b t i)
+
+-- a second number for a name
+abbrev pub second-key : List ℕ → ℕ
+second-key n = key-of n / 65536
+
+-- the name of each live slot from i on that follows one of its hash has a 1 in its cell, by the number f
+abbrev pub Each-marked : List ℕ → ℕ → ℕ → (List ℕ → ℕ) → ℕ → List ℕ → Type 0
+Each-marked b t n f i S =
+    (j : ℕ) → i ≤ j → j < n → follows b t j ≡ true → (addr-at b t j ≡ 0 → ⊥) → getD S (bitAnd (f (name-of b (8 * addr-at b t j))) (length S - 1)) 0 ≡ 1
+
+-- and by both numbers
+pub record Marked (b : List ℕ) (t n i : ℕ) (S : List ℕ) : Type 0 where
+  pub some : 0 < length S
+  pub first : Each-marked b t n key-of i S
+  pub second : Each-marked b t n second-key i S
+
+-- slot i is live, and a later one of its hash has its name
+abbrev pub twin-at : Edition → List ℕ → ℕ → ℕ → ℕ → Bool
+twin-at e b t n i = not (eqb (addr-at b t i) 0) && clash-from e b (hash-at b t i) (addr-at b t i) (slots-from b t n (i + 1))
+
+-- the table marks slot i too; and where r is false, slot i has no twin
+pub record Noted (b : List ℕ) (t n i : ℕ) (S : List ℕ) (r : Bool) : Type 0 where
+  pub marks : Marked b t n i S
+  pub live : r ≡ true → addr-at b t i ≡ 0 → ⊥
+  pub alone : r ≡ false → (e : Edition) → twin-at e b t n i ≡ false
+
+-- TWICE in one pass over the slots
+unfoldable pub once-in : Edition → List ℕ → List Slot → Bool
+once-in e b [] = true
+once-in e b (s ∷ ss) = not (not (eqb (s .addr) 0) && clash-from e b (s .hash) (s .addr) ss) && once-in e b ss
+
+-- the names of the entries that the n slots at t address are within the block, and eight more bytes follow them
+unfoldable pub Reach : List ℕ → ℕ → ℕ → Type 0
+Reach b t n = (i : ℕ) → i < n → (addr-at b t i ≡ 0 → ⊥) → 8 * addr-at b t i + 9 + byte (8 * addr-at b t i + 8) b + 8 ≤ length b
+
+-- as many slots as the largest block has room for
+abbrev pub most-slots : ℕ
+most-slots = 8192
+
+-- the bytes of one name come before those of another; under a case option it has to take the folded names, as `key-of` does
+unfoldable pub lex : List ℕ → List ℕ → Bool
+lex xs [] = false
+lex [] (y ∷ ys) = true
+lex (x ∷ xs) (y ∷ ys) = ltb x y || (eqb x y && lex xs ys)
+
+-- slot i is one of the n, and live
+unfoldable pub live-at : List ℕ → ℕ → ℕ → ℕ → Bool
+live-at b t n i = ltb i n && not (eqb (addr-at b t i) 0)
+
+-- slots i and j are live, and i's name comes before j's
+unfoldable pub sorts-before : List ℕ → ℕ → ℕ → ℕ → ℕ → Bool
+sorts-before b t n i j =
+    live-at b t n i && (live-at b t n j && lex (name-of b (8 * addr-at b t i)) (name-of b (8 * addr-at b t j)))
+
+-- the slots in the first m cells of O ascend
+unfoldable pub Ascends : List ℕ → ℕ → ℕ → List ℕ → ℕ → Type 0
+Ascends b t n O m = (k : ℕ) → k + 1 < m → sorts-before b t n (getD O k 0) (getD O (k + 1) 0) ≡ true
+
+-- slot i's rank, in R, is where it stands among the first m cells of O
+pub record Placed (O R : List ℕ) (m i : ℕ) : Type 0 where
+  pub below : getD R i 0 < m
+  pub there : getD O (getD R i 0) 0 ≡ i
+
+-- and that of every live slot
+unfoldable pub Ranked : List ℕ → ℕ → ℕ → List ℕ → List ℕ → ℕ → Type 0
+Ranked b t n O R m = (i : ℕ) → live-at b t n i ≡ true → Placed O R m i
