@@ -397,7 +397,7 @@ fn insert_ready(e: Edition, b: &mut [u8], to: Target, name: &[u8], h: usize) -> 
     let t = dir_block_scan::stored(e, &b[..]);
     let done = choose(e, b, end, c, s, to, name, h);
     if done {
-        dir_block_scan::used_table(e, b, t, s, name.len());
+        dir_block_scan::used_table(e, b, t, end, s, name.len());
         return 0;
     }
     refusal::NOROOM

@@ -15,7 +15,7 @@ use Rattle.dir_block_rules.specs.Record.{Rec, size, is-gap, gaps, besides}
 use Rattle.dir_block_rules.specs.Verdict.{Pair, pair, best-ok, zero-pair, is-gap-of}
 use Rattle.dir_block_rules.proofs.CutJoin.{Laid}
 use Rattle.dir_block_rules.proofs.PlainTests.{every-besides}
-use Rattle.dir_block_laws.specs.BestSoFar.{ins}
+use Rattle.dir_block_laws.specs.BestSoFar.{ins, ins-all}
 use Rattle.dir_block_laws.specs.JoinedTable.{ins-before, ins-behind, joined-table, in-order}
 use Rattle.dir_block_laws.proofs.BestKnown.{solid, ok-named, ok-rest, none-long, zero-is}
 
@@ -204,6 +204,14 @@ either-same false x y q = refl
 not-filled : (p : Pair) → filled p ≡ false → p .long ≡ 0
 not-filled p h = omega (arith, ltb-false 0 (p .long) h)
 
+pub all-filled : (ps ts : List Pair) → ins-all ps ts ≡ ins-all (keep filled ps) ts
+unfolding ins-all
+all-filled [] ts = refl
+all-filled (p ∷ ps) ts =
+    by-cases (filled p)
+    (λ q. rw q (all-filled ps (ins p ts)))
+    (λ q. rw q (ap (ins-all ps) (ins-empty p ts (not-filled p q)) ∙ all-filled ps ts))
+
 before-filled : (o : ℕ) (ps ts : List Pair) → ins-before o ps ts ≡ ins-before o (keep filled ps) ts
 unfolding ins-before
 before-filled o [] ts = refl
@@ -212,7 +220,7 @@ before-filled o (p ∷ ps) ts =
     (λ q. rw q (before-filled o ps (cond (ltb (p .from) o) (ins p ts) ts)))
     (λ q. rw q (ap (ins-before o ps) (either-same (ltb (p .from) o) (ins p ts) ts (ins-empty p ts (not-filled p q))) ∙ before-filled o ps ts))
 
-pub behind-filled : (u : ℕ) (ps ts : List Pair) → ins-behind u ps ts ≡ ins-behind u (keep filled ps) ts
+behind-filled : (u : ℕ) (ps ts : List Pair) → ins-behind u ps ts ≡ ins-behind u (keep filled ps) ts
 unfolding ins-behind
 behind-filled u [] ts = refl
 behind-filled u (p ∷ ps) ts =

@@ -8,6 +8,7 @@ pub mod LastGap
 pub mod StoresTiled
 pub mod FewGaps
 pub mod JoinedGaps
+pub mod TwoPairs
 pub mod UsedGap
 pub mod EditAnswers
 pub mod IndexStores

@@ -36,7 +36,7 @@ pub touch-entry : (o : ℕ) (xs : List Rec) (y : Rec) → is-gap y ≡ false →
 unfolding touching
 touch-entry o xs y g = rw (last-is o xs y) (rw g)
 
-gaps-gap : (xs : List Rec) (y : Rec) → is-gap y ≡ true → gaps (xs ++ (y ∷ [])) ≡ gaps xs ++ (y ∷ [])
+pub gaps-gap : (xs : List Rec) (y : Rec) → is-gap y ≡ true → gaps (xs ++ (y ∷ [])) ≡ gaps xs ++ (y ∷ [])
 gaps-gap xs y g = keep-append is-gap xs (y ∷ []) ∙ ap (λ (l : List Rec). gaps xs ++ l) (rw g)
 
 gaps-entry : (xs : List Rec) (y : Rec) → is-gap y ≡ false → gaps (xs ++ (y ∷ [])) ≡ gaps xs

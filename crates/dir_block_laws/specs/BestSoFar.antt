@@ -9,3 +9,8 @@ use Rattle.dir_block_rules.specs.Verdict.{Pair}
 unfoldable pub ins : Pair → List Pair → List Pair
 ins p [] = []
 ins p (q ∷ qs) = let r = ins p qs in cond (ltb (q .long) (p .long)) (p ∷ take (length qs) (q ∷ qs)) (q ∷ r)
+
+-- each of the pairs, in order
+unfoldable pub ins-all : List Pair → List Pair → List Pair
+ins-all [] ts = ts
+ins-all (p ∷ ps) ts = ins-all ps (ins p ts)

@@ -1,6 +1,6 @@
--- The best-gap table of pairs in offset order, where a gap takes the place of some, or an entry of a gap's start.
+-- The best-gap table of pairs in offset order, where a gap takes the place of some.
 -- Assumes nothing.
-use Prim.Native.Nat.{ℕ, _+_, _-_}
+use Prim.Native.Nat.{ℕ, _-_}
 use mathlib.Core.Bool.{cond}
 use mathlib.Core.List.{List, [], _∷_}
 use lib.Dec.{leb, ltb}
@@ -28,14 +28,3 @@ joined-table o u ps = ins-behind u ps (ins (pair o (u - o)) (ins-before o ps emp
 -- two pairs in offset order
 unfoldable pub in-order : Pair → Pair → List Pair
 in-order p q = cond (ltb (q .from) (p .from)) (q ∷ p ∷ []) (p ∷ q ∷ [])
-
--- the gap p without its first n bytes
-abbrev pub less : ℕ → Pair → Pair
-less n p = pair (p .from + n) (p .long - n)
-
--- the table of two pairs, with n bytes taken off the start of the longer one, of the first if they are as long
-unfoldable pub used-table : ℕ → List Pair → List Pair
-used-table n [] = []
-used-table n (a ∷ []) = []
-used-table n (a ∷ c ∷ ps) =
-    cond (leb (c .long) (a .long)) (ins c (ins (less n a) empty-table)) (ins (less n c) (ins a empty-table))

@@ -47,7 +47,7 @@ module _ (e : Edition) (sane : Sane e) (b : List ℕ) (h : bytes b ≡ true) (a 
   taken : List ℕ
   taken = drop (size t - 8) (t .raw)
 
-  kept-long : length kept ≡ size t - 8
+  pub kept-long : length kept ≡ size t - 8
   unfolding kept
   kept-long = simp length-take (omega arith)
 

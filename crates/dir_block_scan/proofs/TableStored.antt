@@ -1,8 +1,8 @@
 -- The best-gap table, stored number by number at its place; and that it is the table anew, after a pass or without one.
 -- Assumes nothing.
-use Prim.Native.Nat.{ℕ, _+_, _-_, _≤_, _<_}
-use mathlib.Core.Bool.{Bool, cond}
-use mathlib.Core.Path.{_≡_, refl, sym, _∙_, ap, ap₂}
+use Prim.Native.Nat.{ℕ, _+_, _-_, _*_, _≤_, _<_}
+use mathlib.Core.Bool.{Bool, true, false, cond, _||_}
+use mathlib.Core.Path.{_≡_, refl, sym, _∙_, ap}
 use mathlib.Core.List.{List, [], _∷_, _++_, append-assoc, append-nil}
 use native.Mathlib.Omega.{arith}
 use lib.Dec.{leb, ltb}
@@ -16,8 +16,9 @@ use Rattle.dir_block_rules.specs.Record.{gaps}
 use Rattle.dir_block_rules.specs.Block.{records}
 use Rattle.dir_block_rules.specs.Verdict.{Pair, pair}
 use Rattle.dir_block_rules.specs.Change.{best-of, pair-bytes, with-best}
-use Rattle.dir_block_laws.specs.BestSoFar.{ins}
-use Rattle.dir_block_laws.specs.JoinedTable.{empty-table, ins-before, ins-behind, joined-table, in-order, less, used-table}
+use Rattle.dir_block_laws.specs.BestSoFar.{ins, ins-all}
+use Rattle.dir_block_laws.specs.JoinedTable.{empty-table, ins-before, ins-behind, joined-table}
+use Rattle.dir_block_laws.specs.UsedTable.{left-a, left-b, left-c, left-d, left-pairs, used-table}
 use Rattle.dir_block_laws.specs.Pass.{Scanned}
 
 -- a number of 2 bytes behind the k bytes xs
@@ -56,32 +57,24 @@ table-joined o u a c ps t₀ t₁ t₂ t₃ t₄ t₅ q e₀ e₁ e₂ e₃ e₄
     let f₄ = e₄ ∙ m (leb u (a .from)) a _ _ f₃ in
     e₅ ∙ m (leb u (c .from)) c _ _ f₄ ∙ ap (joined-table o u) q
 
--- n bytes off the longer of the two
-pub table-first : (n : ℕ) (a c : Pair) (ps t₀ t₁ t₂ : List Pair) (l : ℕ) → a ∷ c ∷ [] ≡ ps → t₀ ≡ empty-table → l ≡ a .long - n
-    → t₁ ≡ ins (pair (a .from + n) l) t₀ → t₂ ≡ ins c t₁ → c .long ≤ a .long → t₂ ≡ used-table n ps
-unfolding used-table
-table-first n a c ps t₀ t₁ t₂ l q e₀ w e₁ e₂ h =
-    e₂ ∙ ap (ins c) (e₁ ∙ ap₂ (λ (x : ℕ) (t : List Pair). ins (pair (a .from + n) x) t) w e₀)
-    ∙ ap (λ (x : Bool). cond x (ins c (ins (less n a) empty-table)) (ins (less n c) (ins a empty-table))) (sym (le-leb (c .long) (a .long) h))
-    ∙ ap (used-table n) q
+-- what an insert leaves of the two, by each case of the room rule
+module _ (n s end : ℕ) (a c : Pair) (ps t : List Pair) (q : a ∷ c ∷ [] ≡ ps) where
+  pub table-a : 0 < s → (leb n (a .long) || leb n (c .long)) ≡ true → t ≡ ins-all (left-a n a c) empty-table → t ≡ used-table n s end ps
+  unfolding used-table left-pairs
+  table-a x y e = e ∙ sym (rw (le-leb 1 s x, y) refl) ∙ ap (used-table n s end) q
 
-pub table-second : (n : ℕ) (a c : Pair) (ps t₀ t₁ t₂ : List Pair) (l : ℕ) → a ∷ c ∷ [] ≡ ps → t₀ ≡ empty-table → l ≡ c .long - n
-    → t₁ ≡ ins a t₀ → t₂ ≡ ins (pair (c .from + n) l) t₁ → a .long < c .long → t₂ ≡ used-table n ps
-unfolding used-table
-table-second n a c ps t₀ t₁ t₂ l q e₀ w e₁ e₂ h =
-    e₂ ∙ ap₂ (λ (x : ℕ) (t : List Pair). ins (pair (c .from + n) x) t) w (e₁ ∙ ap (ins a) e₀)
-    ∙ ap (λ (x : Bool). cond x (ins c (ins (less n a) empty-table)) (ins (less n c) (ins a empty-table))) (sym (lt-leb (c .long) (a .long) h))
-    ∙ ap (used-table n) q
+  pub table-b : 0 < s → (leb n (a .long) || leb n (c .long)) ≡ false → t ≡ ins-all (left-b n (8 * (s - 1)) end a c) empty-table → t ≡ used-table n s end ps
+  unfolding used-table left-pairs
+  table-b x y e = e ∙ sym (rw (le-leb 1 s x, y) refl) ∙ ap (used-table n s end) q
+
+  pub table-c : s ≤ 0 → n ≤ a .long → t ≡ ins-all (left-c n a c) empty-table → t ≡ used-table n s end ps
+  unfolding used-table left-pairs
+  table-c x y e = e ∙ sym (rw (lt-leb 1 s (omega arith), le-leb n (a .long) y) refl) ∙ ap (used-table n s end) q
+
+  pub table-d : s ≤ 0 → a .long < n → t ≡ ins-all (left-d n a c) empty-table → t ≡ used-table n s end ps
+  unfolding used-table left-pairs
+  table-d x y e = e ∙ sym (rw (lt-leb 1 s (omega arith), lt-leb n (a .long) y) refl) ∙ ap (used-table n s end) q
 
 pub best-joined : (e : Edition) (b d : List ℕ) (ps : List Pair) → best-of 3 (gaps (records e b)) ≡ ps → d ≡ put b (e .best) (pair-bytes ps) → d ≡ with-best e b
 unfolding with-best written
 best-joined e b d ps q p = p ∙ ap (λ (l : List Pair). put b (e .best) (pair-bytes l)) (sym q)
-
--- two pairs put into an empty table, in offset order
-pub table-both : (p q a c : Pair) (s t r : List Pair) → a ∷ c ∷ [] ≡ in-order p q → s ≡ empty-table → t ≡ ins a s → r ≡ ins c t
-    → r ≡ ins-behind 0 (in-order p q) empty-table
-unfolding ins-behind
-table-both p q a c s t r o es et er =
-    er ∙ ap (ins c) (et ∙ ap (ins a) es)
-    ∙ sym (rw (le-leb 0 (a .from) (omega arith), le-leb 0 (c .from) (omega arith)) refl)
-    ∙ ap (λ (l : List Pair). ins-behind 0 l empty-table) o

@@ -3,6 +3,7 @@
 ghost use mathlib.Core.Path.{_≡_};
 ghost use Prim.Native.Nat.{_+_, _-_, _≤_, _<_};
 ghost use mathlib.Core.Bool.{cond};
+ghost use mathlib.Core.List.{[], _∷_};
 ghost use lib.ListN.{length};
 ghost use Rattle.be.specs.Bytes.{put};
 ghost use Rattle.edition.specs.Edition.{entry-size, Sane};
@@ -12,10 +13,11 @@ ghost use Rattle.dir_block_rules.specs.Verdict.{pair, best-pairs};
 ghost use Rattle.dir_block_rules.specs.Change.{best-of, with-best, pair-bytes};
 ghost use Rattle.dir_block_laws.specs.Tiled.{Tiled, Ready};
 ghost use Rattle.dir_block_laws.specs.Falls.{falls};
-ghost use Rattle.dir_block_laws.specs.BestSoFar.{ins};
-ghost use Rattle.dir_block_laws.specs.JoinedTable.{empty-table, ins-behind, joined-table, used-table, in-order};
+ghost use Rattle.dir_block_laws.specs.BestSoFar.{ins, ins-all};
+ghost use Rattle.dir_block_laws.specs.JoinedTable.{empty-table, joined-table, in-order};
+ghost use Rattle.dir_block_laws.specs.UsedTable.{left-a, left-b, left-c, left-d, used-table};
 ghost use Rattle.dir_block_laws.specs.Pass.{Passing, Scanned};
-ghost use Rattle.dir_block_scan.specs.Table.{table, top};
+ghost use Rattle.dir_block_scan.specs.Table.{table, top, Two-bytes};
 use edition::Edition;
 
 // Where the pass stands; the three longest gaps so far, as offset and length; the gap that ends here (none: here, and 0).
@@ -135,7 +137,7 @@ pub fn pass(e: Edition, b: &[u8], end: usize) -> Scan
 // The pairs that the block stores.
 pub fn stored(e: Edition, b: &[u8]) -> Scan
     requires { ⌜ Sane e × (e .header ≤ length (now b)) ⌝ }
-    ensures { λ r. ⌜ (table r ≡ best-pairs e (now (b .entry))) × ((r .o1 < 65536) × (r .o2 < 65536)) ⌝ }
+    ensures { λ r. ⌜ (table r ≡ best-pairs e (now (b .entry))) × Two-bytes r ⌝ }
 {
     let o1 = be::be16(b, e.best);
     let l1 = be::be16(b, e.best + 2);
@@ -186,7 +188,7 @@ fn with_last(e: Edition, b: &[u8], end: usize, s: Scan) -> Scan
 // The first two pairs in offset order.
 fn ordered(s: Scan) -> Scan
     ensures { λ r. ⌜ (top r ≡ in-order (pair (s .o1) (s .l1)) (pair (s .o2) (s .l2)))
-        × ((r .o1 ≤ s .o1 + s .o2) × (r .o2 ≤ s .o1 + s .o2)) ⌝ }
+        × ((r .o1 + r .o2 ≡ s .o1 + s .o2) × (r .l1 + r .l2 ≡ s .l1 + s .l2)) ⌝ }
 {
     let mut r = s;
     if s.o2 < s.o1 {
@@ -198,13 +200,20 @@ fn ordered(s: Scan) -> Scan
     r
 }
 
+// The table of two gaps: l bytes at o, and behind it k bytes at u.
+fn two(o: usize, l: usize, u: usize, k: usize) -> Scan
+    ensures { λ r. ⌜ table r ≡ ins-all (pair o l ∷ pair u k ∷ []) empty-table ⌝ }
+{
+    let t = with_pair(start(0), o, l);
+    with_pair(t, u, k)
+}
+
 // The table of the first two pairs of s.
 fn both(s: Scan) -> Scan
-    ensures { λ r. ⌜ table r ≡ ins-behind 0 (in-order (pair (s .o1) (s .l1)) (pair (s .o2) (s .l2))) empty-table ⌝ }
+    ensures { λ r. ⌜ table r ≡ ins-all (in-order (pair (s .o1) (s .l1)) (pair (s .o2) (s .l2))) empty-table ⌝ }
 {
     let d = ordered(s);
-    let t = with_pair(start(0), d.o1, d.l1);
-    with_pair(t, d.o2, d.l2)
+    two(d.o1, d.l1, d.o2, d.l2)
 }
 
 // The two longest gaps of an accepted block, and the gap at the slots. Without a third pair the first two name all gaps. Else the stored
@@ -298,35 +307,78 @@ fn minus(x: usize, y: usize) -> usize
     x - y
 }
 
-// The table of the first two pairs of s, with n bytes taken off the start of the longer one: the lower offset if they are as long.
-fn used(s: Scan, n: usize) -> Scan
-    requires { ⌜ (s .o1 < 65536) × ((s .o2 < 65536) × (n < 280)) ⌝ }
-    ensures { λ r. ⌜ table r ≡ used-table n (in-order (pair (s .o1) (s .l1)) (pair (s .o2) (s .l2))) ⌝ }
+// What an insert that needs n bytes leaves of the first two pairs of d, where they name all gaps, in offset order. (a): the longer one is
+// used, the first if they are as long.
+fn left_a(d: Scan, n: usize) -> Scan
+    requires { ⌜ (d .o1 + d .o2 < 131072) × (n < 280) ⌝ }
+    ensures { λ r. ⌜ table r ≡ ins-all (left-a n (pair (d .o1) (d .l1)) (pair (d .o2) (d .l2))) empty-table ⌝ }
 {
-    let d = ordered(s);
-    let none = start(0);
     if d.l2 <= d.l1 {
-        let l = minus(d.l1, n);
-        let t = with_pair(none, d.o1 + n, l);
-        return with_pair(t, d.o2, d.l2);
+        return two(d.o1 + n, minus(d.l1, n), d.o2, d.l2);
     }
-    let l = minus(d.l2, n);
-    let t = with_pair(none, d.o1, d.l1);
-    with_pair(t, d.o2 + n, l)
+    two(d.o1, d.l1, d.o2 + n, minus(d.l2, n))
 }
 
-// The best-gap table anew, where s are the pairs stored before an entry with a name of n bytes went in. Without a third pair the first
-// two named all gaps; with a stale slot the longest gap was used, if it was long enough. No pass is made then.
-pub fn used_table(e: Edition, b: &mut [u8], s: Scan, stale: usize, n: usize)
+// (b): k bytes of slots, which start at end, are used, behind the second pair if it touches them.
+fn left_b(d: Scan, n: usize, k: usize, end: usize) -> Scan
+    requires { ⌜ (d .o1 + d .o2 < 131072) × ((d .l1 + d .l2 < 131072) × (n < 280)) ⌝ }
+    requires { ⌜ (k < 65536) × (end ≤ 65536) ⌝ }
+    ensures { λ r. ⌜ table r ≡ ins-all (left-b n k end (pair (d .o1) (d .l1)) (pair (d .o2) (d .l2))) empty-table ⌝ }
+{
+    if d.o2 + d.l2 == end {
+        return two(d.o1, d.l1, d.o2 + n, minus(d.l2 + k, n));
+    }
+    let t = two(d.o1, d.l1, d.o2, d.l2);
+    with_pair(t, end + n, minus(k, n))
+}
+
+// (c): the first pair is used, and the second, which is T, gives 8 bytes off its end to the index.
+fn left_c(d: Scan, n: usize) -> Scan
+    requires { ⌜ (d .o1 + d .o2 < 131072) × (n < 280) ⌝ }
+    ensures { λ r. ⌜ table r ≡ ins-all (left-c n (pair (d .o1) (d .l1)) (pair (d .o2) (d .l2))) empty-table ⌝ }
+{
+    two(d.o1 + n, minus(d.l1, n), d.o2, minus(d.l2, 8))
+}
+
+// (d): the second pair, which is T, is used, without the 8 bytes off its end.
+fn left_d(d: Scan, n: usize) -> Scan
+    requires { ⌜ (d .o1 + d .o2 < 131072) × (n < 280) ⌝ }
+    ensures { λ r. ⌜ table r ≡ ins-all (left-d n (pair (d .o1) (d .l1)) (pair (d .o2) (d .l2))) empty-table ⌝ }
+{
+    let l = minus(d.l2, 8);
+    two(d.o1, d.l1, d.o2 + n, minus(l, n))
+}
+
+// By the room rule, where there is room: without stale slots T is then at least 8 long, and so is the second pair.
+fn used(s: Scan, n: usize, stale: usize, end: usize) -> Scan
+    requires { ⌜ Two-bytes s × ((n < 280) × ((stale < 8192) × (end ≤ 65536))) ⌝ }
+    ensures { λ r. ⌜ table r ≡ used-table n stale end (in-order (pair (s .o1) (s .l1)) (pair (s .o2) (s .l2))) ⌝ }
+{
+    let d = ordered(s);
+    if 0 < stale {
+        if (n <= d.l1) | (n <= d.l2) {
+            return left_a(d, n);
+        }
+        return left_b(d, n, 8 * (stale - 1), end);
+    }
+    if n <= d.l1 {
+        return left_c(d, n);
+    }
+    left_d(d, n)
+}
+
+// The best-gap table anew, after an entry with a name of n bytes went in. Before that the stored pairs were s, the slots started at end,
+// and some of them were stale. Without a third pair the first two named all gaps, and no pass is made.
+pub fn used_table(e: Edition, b: &mut [u8], s: Scan, end: usize, stale: usize, n: usize)
     requires { ⌜ Sane e × Tiled e (now b) ⌝ }
-    requires { ⌜ (n < 256) × ((s .o1 < 65536) × (s .o2 < 65536)) ⌝ }
-    requires { ⌜ (s .l3 ≡ 0 → 0 < stale → entry-size e n ≤ s .l1
-        → best-of 3 (gaps (records e (now b))) ≡ used-table (entry-size e n) (in-order (pair (s .o1) (s .l1)) (pair (s .o2) (s .l2)))) ⌝ }
+    requires { ⌜ Two-bytes s × ((n < 256) × ((stale < 8192) × (end ≤ 65536))) ⌝ }
+    requires { ⌜ (s .l3 ≡ 0 → best-of 3 (gaps (records e (now b)))
+        ≡ used-table (entry-size e n) stale end (in-order (pair (s .o1) (s .l1)) (pair (s .o2) (s .l2)))) ⌝ }
     ensures { λ _. ⌜ now (b .exit) ≡ with-best e (now (b .entry)) ⌝ }
 {
-    let need = edition::entry_size(e, n);
-    if (s.l3 == 0) & (0 < stale) & (need <= s.l1) {
-        let t = used(s, need);
+    if s.l3 == 0 {
+        let need = edition::entry_size(e, n);
+        let t = used(s, need, stale, end);
         put_table(b, e.best, t);
         return;
     }

@@ -1,6 +1,6 @@
 use Prim.Native.Nat.{ℕ, _≤_, _<_}
 use native.Mathlib.Omega.{arith}
-use mathlib.Core.Path.{_≡_, sym, _∙_, ap, subst}
+use mathlib.Core.Path.{_≡_, sym, _∙_, ap, ap₂, subst}
 use mathlib.Core.Bool.{Bool, true, false}
 use mathlib.Core.List.{List, [], _∷_}
 use lib.ListN.{length}
@@ -12,7 +12,7 @@ use Rattle.name.specs.Name.{legal-name, fixed-name}
 use Rattle.dir.specs.declared.Target.{Target}
 use Rattle.dir.specs.Target.{legal-target}
 use Rattle.dir_block_rules.specs.Record.{gaps}
-use Rattle.dir_block_rules.specs.Block.{records, stale-of}
+use Rattle.dir_block_rules.specs.Block.{records, stale-of, data-end}
 use Rattle.dir_block_rules.specs.Room.{has-room}
 use Rattle.dir_block_rules.specs.Lookup.{Sought, sought}
 use Rattle.dir_block_rules.specs.Verdict.{Pair, best-pairs}
@@ -20,9 +20,10 @@ use Rattle.dir_block_rules.specs.Change.{best-of, insert-writes}
 use Rattle.dir_block_rules.proofs.EachCall.{name-lt}
 use Rattle.dir_block_rules.proofs.LookupFinds.{hit-of}
 use Rattle.dir_block_laws.specs.Tiled.{Tiled, Ready}
-use Rattle.dir_block_laws.specs.JoinedTable.{used-table, in-order}
+use Rattle.dir_block_laws.specs.JoinedTable.{in-order}
+use Rattle.dir_block_laws.specs.UsedTable.{used-table}
 use Rattle.dir_block_laws.proofs.RecordSteps.{count-read, stale-read, end-read, head-end, end-fits}
-use Rattle.dir_block_laws.proofs.SlotSearch.{slots-room, tiled}
+use Rattle.dir_block_laws.proofs.SlotSearch.{slots-room, stale-within, tiled}
 use Rattle.dir_block_laws.proofs.UsedGap.{from-pairs}
 use Rattle.dir_block_laws.proofs.InsertStores.{insert-tiled}
 use Rattle.dir_block_laws.proofs.StoresTiled.{stores-changed}
@@ -32,6 +33,11 @@ use borrow.Author.Needs.{needs}
 use Rattle.dir_block_edit.proofs.insert_ready.Statement.{statement}
 use Rattle.dir_block_edit.proofs.insert_ready.Tie as tie
 
+index-small : (e : Edition) → Sane e → (b : List ℕ) → Ready e b → (st end : ℕ) → st ≡ stale-of b → end ≡ data-end b → (st < 8192) × (end ≤ 65536)
+index-small e sane b r st end q d =
+    let z = slots-room e b sane r in
+    (omega (arith, stale-within e b r), omega arith)
+
 -- what the code knows of the block c that an insert leaves, from the pairs stored in b
 module _ (e : Edition) (sane : Sane e) (b n : List ℕ) (i : Target) (r : Ready e b) (nb : bytes n ≡ true) (ln : legal-name e n ≡ true)
     (li : legal-target e i ≡ true) (fx : fixed-name n ≡ false) (ht : sought e b n .hit ≡ false) (rm : has-room e b n ≡ true)
@@ -39,13 +45,14 @@ module _ (e : Edition) (sane : Sane e) (b n : List ℕ) (i : Target) (r : Ready 
   left-tiled : Tiled e c
   left-tiled = subst (λ (l : List ℕ). Tiled e l) (sym w) (insert-tiled e sane b n i r nb ln li fx ht rm)
 
-  left-best : (st : ℕ) (p q t : Pair) → st ≡ stale-of b → p ∷ q ∷ t ∷ [] ≡ best-pairs e b → t .long ≡ 0 → 0 < st → entry-size e (length n) ≤ p .long
-      → best-of 3 (gaps (records e c)) ≡ used-table (entry-size e (length n)) (in-order p q)
-  left-best st p q t a s z m h =
+  left-best : (st end : ℕ) (p q t : Pair) → st ≡ stale-of b → end ≡ data-end b → p ∷ q ∷ t ∷ [] ≡ best-pairs e b → t .long ≡ 0
+      → best-of 3 (gaps (records e c)) ≡ used-table (entry-size e (length n)) st end (in-order p q)
+  left-best st end p q t a d s z =
       ap (λ (l : List ℕ). best-of 3 (gaps (records e l))) w
       ∙ from-pairs e sane b n i r
       (record { name-bytes = nb; name-legal = ln; number-legal = li; not-fixed = fx; absent = sym (hit-of e sane b (r .are-bytes) (r .ok) n) ∙ ht })
-      (subst (λ (x : ℕ). 0 < x) a m) p q t s z h
+      rm p q t s z
+      ∙ sym (ap₂ (λ (x y : ℕ). used-table (entry-size e (length n)) x y (in-order p q)) a d)
 
 sub-be32 : tie.Need-sub-be32
 sub-be32 c =
@@ -115,17 +122,20 @@ used-table-requires c κs =
     let c₈ = c₆ .before .before in
     let c₉ = c₈ .before in
     let c₁₁ = c₉ .before .before in
-    let p = c₁₁ .before .before .before .before .before .before in
+    let c₁₃ = c₁₁ .before .before in
+    let p = c₁₃ .before .before .before .before in
     let b = now (p .args .b) in
     let n = now (p .args .name) in
     let h = ap (λ (s : Sought). s .hit) (c₉ .seek .ensures) ∙ c₈ .if1 .left in
     let rm = sym (c₄ .choose .ensures .0) ∙ c .before .if2 .taken in
-    let w = c₄ .choose .ensures .1 ∙ ap (λ (t : Bool). chosen (p .args .e) t b n (p .args .to)) (c .before .if2 .taken) in (
+    let w = c₄ .choose .ensures .1 ∙ ap (λ (t : Bool). chosen (p .args .e) t b n (p .args .to)) (c .before .if2 .taken) in
+    let st = stale-read b (c₁₁ .be322 .result) (c₁₁ .be322 .ensures .0) in
+    let d = end-read b (c₁₃ .be32 .result) (count-read b (c₁₃ .be32 .result) (c₁₃ .be32 .ensures .0)) in (
       (p .pre .0 .0, left-tiled _ (p .pre .0 .0) b n (p .args .to) (p .pre .0 .1) (p .pre .1 .0 .1 .1 .1) (p .pre .1 .0 .0) (p .pre .1 .0 .1 .0) (p .pre .1 .0 .1 .1 .0) h rm _ w),
       (
-        (name-lt _ n (p .pre .1 .0 .0), c₆ .stored .ensures .1),
+        (c₆ .stored .ensures .1, (name-lt _ n (p .pre .1 .0 .0), index-small _ (p .pre .0 .0) b (p .pre .0 .1) _ _ st d)),
         left-best _ (p .pre .0 .0) b n (p .args .to) (p .pre .0 .1) (p .pre .1 .0 .1 .1 .1) (p .pre .1 .0 .0) (p .pre .1 .0 .1 .0) (p .pre .1 .0 .1 .1 .0) h rm _ w
-            (c₁₁ .be322 .result) _ _ _ (stale-read b (c₁₁ .be322 .result) (c₁₁ .be322 .ensures .0)) (c₆ .stored .ensures .0),
+            _ _ _ _ _ st d (c₆ .stored .ensures .0),
       ),
     )
 

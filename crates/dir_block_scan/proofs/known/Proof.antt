@@ -1,12 +1,7 @@
 use native.Mathlib.Omega.{arith}
-use mathlib.Core.List.{List}
-use mathlib.Core.Path.{sym, _∙_, ap}
+use mathlib.Core.Path.{sym, _∙_}
 use denote.Ref.{now}
-use lib.ListN.{take}
 use borrow.Author.Needs.{needs}
-use Rattle.dir_block_rules.specs.Record.{gaps}
-use Rattle.dir_block_rules.specs.Block.{records}
-use Rattle.dir_block_rules.specs.Verdict.{Pair}
 use Rattle.dir_block_laws.proofs.RecordSteps.{head-end, end-fits}
 use Rattle.dir_block_laws.proofs.RecordPass.{seen-two}
 use Rattle.dir_block_laws.proofs.SlotSearch.{tiled}
