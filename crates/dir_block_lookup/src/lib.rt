@@ -153,10 +153,11 @@ fn lookup_in(e: Edition, b: &[u8], name: &[u8]) -> Looked
     if n != 0 {
         return Looked::Refused(n);
     }
-    if !name::legal(e, name) {
+    let asked = name_words::check(e, name);
+    if !asked.legal {
         return Looked::Refused(refusal::ASKED);
     }
-    lookup_ready(e, b, name, name::hash(e, name))
+    lookup_ready(e, b, name, asked.hash)
 }
 
 // The lookup of a name in a block of the V4 edition.

@@ -1,4 +1,4 @@
--- TWICE over the slots: names compared within runs of one hash.
+-- TWICE over the slots: names compared within runs of one hash, and names in order.
 -- Assumes nothing.
 use Prim.Native.Nat.{ℕ, _+_, _-_, _*_, _/_, _≤_, _<_}
 use mathlib.Core.Bool.{Bool, true, false, not, _&&_, _||_}
@@ -9,6 +9,7 @@ use lib.Dec.{eqb, ltb}
 use lib.ListN.{length, drop, getD}
 use Rattle.be.specs.Bytes.{byte, field, part}
 use Rattle.edition.specs.declared.Edition.{Edition}
+use Rattle.edition.specs.Edition.{largest-block}
 use Rattle.name.specs.Name.{same-name}
 use Rattle.name_words.specs.Words.{key-of}
 use Rattle.dir_block_rules.specs.Block.{Slot, slots-in}
@@ -80,7 +81,7 @@ Reach b t n = (i : ℕ) → i < n → (addr-at b t i ≡ 0 → ⊥) → 8 * addr
 
 -- as many slots as the largest block has room for
 abbrev pub most-slots : ℕ
-most-slots = 8192
+most-slots = largest-block / 8
 
 -- the bytes of one name come before those of another; under a case option it has to take the folded names, as `key-of` does
 unfoldable pub lex : List ℕ → List ℕ → Bool

@@ -1,5 +1,5 @@
-// TWICE, a block directory's tenth test: no name is stored twice. Names are compared only within runs of one hash, of those only where two
-// more hashes agree too; and where that is still often, the names are sorted, and the order is tested.
+// TWICE, a block directory's tenth test: no name is stored twice. Names are compared only within runs of one hash, and there only where a
+// second hash agrees too; where that still happens often, the names are sorted, and their order is tested.
 ghost use mathlib.Core.Path.{_≡_};
 ghost use mathlib.Core.Bool.{true, false, not, _||_};
 ghost use Prim.Native.Nat.{_+_, _*_, _≤_, _<_};
@@ -117,8 +117,8 @@ fn note(seen: &mut [u8], k: usize) -> bool
     was != 0
 }
 
-// Whether slot i has to be compared with later ones: it is live and in a run. Each name has two cells: names are compared only where later
-// ones have both, so that many names of one hash are seldom compared.
+// Whether slot i has to be compared with later ones: it is live and in a run, and later names have noted both of its name's cells. So many
+// names of one hash are seldom compared.
 fn suspect<'a, 'b>(b: &'a [u8], t: usize, n: usize, i: usize, seen: &'b mut [u8]) -> bool
     requires { ⌜ (t + 8 * n ≤ length (now b)) × (i < n) × Reach (now b) t n × Marked (now b) t n (i + 1) (now seen) ⌝ }
     ensures { λ r. ⌜ Noted (now (b .entry)) t n i (now (seen .exit)) r ⌝ }
@@ -307,8 +307,8 @@ fn later(b: &[u8], t: usize, n: usize, order: &[u16], k: usize, m: usize) -> usi
     k
 }
 
-// Sifts the cell `from` down the heap of the first m. That the order comes out right is not proved of this nor of the next two: it is
-// tested where it is used.
+// Sifts the cell `from` down the heap of the first m. Neither of this nor of the next two is it proved that the order comes out right: the
+// order is tested where it is used.
 fn sift<'a, 'b>(b: &'a [u8], t: usize, n: usize, order: &'b mut [u16], from: usize, m: usize)
     requires { ⌜ (t + 8 * n ≤ length (now b)) × Reach (now b) t n × (m ≤ length (now order)) × (m ≤ most-slots) × (from ≤ m) ⌝ }
     ensures { λ _. ⌜ length (now (order .exit)) ≡ length (now (order .entry)) ⌝ }
@@ -473,7 +473,8 @@ fn sorted_with<'a, 'b, 'c>(
     judge(e, b, t, n, &order[..], &rank[..], m)
 }
 
-// By sorting the names, however many have both cells in common.
+// By sorting the names, however many have both cells in common. The arrays have a cell for each slot that a block can have, and are made
+// only here.
 fn sorted(e: Edition, b: &[u8], t: usize, n: usize) -> Found
     requires { ⌜ (t + 8 * n ≤ length (now b)) × Reach (now b) t n × (n ≤ most-slots) ⌝ }
     ensures { λ r. ⌜ (r .known ≡ true → r .once ≡ once-in e (now (b .entry)) (slots-from (now (b .entry)) t n 0)) ⌝ }

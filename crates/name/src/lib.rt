@@ -3,7 +3,7 @@ ghost use mathlib.Core.Path.{_≡_};
 ghost use mathlib.Core.Bool.{cond};
 ghost use mathlib.Core.List.{[], _∷_};
 ghost use Prim.Native.Nat.{_≤_, _<_};
-ghost use lib.ListN.{length, take, drop};
+ghost use lib.ListN.{length, take};
 ghost use Rattle.be.specs.Lists.{every, same};
 ghost use Rattle.name.specs.Name.{clear-of, legal-name, legal-attr-name, legal-number, rol, hash-from, hash-of, same-name, fixed-name};
 use edition::Edition;
@@ -138,12 +138,12 @@ pub fn hash(e: Edition, s: &[u8]) -> usize
     wide(hash32(e, s))
 }
 
-// Whether two runs as long as each other are equal from a place on, byte by byte.
-fn equal_rest(s: &[u8], t: &[u8], from: usize) -> bool
-    requires { ⌜ (from ≤ length (now s)) × (length (now s) ≡ length (now t)) ⌝ }
-    ensures { λ r. ⌜ r ≡ same (drop from (now (s .entry))) (drop from (now (t .entry))) ⌝ }
+// Whether two runs as long as each other are equal, byte by byte.
+fn equal_bytes(s: &[u8], t: &[u8]) -> bool
+    requires { ⌜ length (now s) ≡ length (now t) ⌝ }
+    ensures { λ r. ⌜ r ≡ same (now (s .entry)) (now (t .entry)) ⌝ }
 {
-    let mut i = from;
+    let mut i = 0;
     while i < s.len() {
         if s[i] != t[i] {
             return false;
@@ -153,7 +153,7 @@ fn equal_rest(s: &[u8], t: &[u8], from: usize) -> bool
     true
 }
 
-// Whether two runs of bytes are equal: eight bytes a turn as long as eight are left.
+// Whether two runs of bytes are equal: eight bytes a turn, and the last eight at the end, which are in part compared before.
 pub fn equal(s: &[u8], t: &[u8]) -> bool
     ensures { λ r. ⌜ r ≡ same (now (s .entry)) (now (t .entry)) ⌝ }
 {
@@ -161,14 +161,17 @@ pub fn equal(s: &[u8], t: &[u8]) -> bool
     if n != t.len() {
         return false;
     }
+    if n < 8 {
+        return equal_bytes(s, t);
+    }
     let mut i = 0;
-    while 8 <= n - i {
+    while 8 < n - i {
         if be::le64(s, i) != be::le64(t, i) {
             return false;
         }
         i += 8;
     }
-    equal_rest(s, t, i)
+    be::le64(s, n - 8) == be::le64(t, n - 8)
 }
 
 // Whether the directory name s asked for is the stored name t.

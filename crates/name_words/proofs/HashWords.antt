@@ -6,14 +6,13 @@ use mathlib.Core.List.{List, [], _∷_}
 use native.Mathlib.Nat.{mod-lt, mod-eq-of-lt, add-zero}
 use native.Mathlib.Omega.{arith}
 use lib.Dec.{lit<, lit≤}
-use lib.Bits.{bitAnd, bitOr, bitXor, and-le-r, xor-lt, xor-block, xor-zero-l}
+use lib.Bits.{bitAnd, bitXor, and-le-r, xor-lt, xor-block, xor-zero-l}
 use lib.Pow.{pow-mono, pow-pos, shl-lt, shr-lt, high, low}
 use Rattle.be.specs.Words.{le, to-le}
 use Rattle.be.proofs.Bitwise.{xor-assoc}
 use Rattle.be.proofs.Words.{Below, none, more, le-to-le}
 use Rattle.name.specs.Name.{rol, hash-from}
 use Rattle.name.proofs.Hashing.{four-is}
-use Rattle.name.proofs.Rotation.{rol-or}
 use Rattle.name_words.proofs.Lanes.{lanes, lane-shift, lane-xor}
 use Rattle.name_words.proofs.Halves.{mask, low-halves, high-halves}
 
@@ -133,14 +132,10 @@ module _ (b₀ b₁ b₂ b₃ b₄ b₅ b₆ b₇ : ℕ)
       ∙ quad-is (quad b₀ b₁ b₂ b₃) b₄ b₅ b₆ b₇ (omega (arith, quad-lt b₀ b₁ b₂ b₃ h₀ h₁ h₂ h₃)) h₄ h₅ h₆
 
 -- what the code makes of the fours
-joined : (lo hi : ℕ) → lo < 2 ^ 29
-    → bitXor (bitOr ((hi * 2 ^ 32 + lo) % 2 ^ 32 * 2 ^ 28 % 2 ^ 32) ((hi * 2 ^ 32 + lo) % 2 ^ 32 / 2 ^ 4)) ((hi * 2 ^ 32 + lo) / 2 ^ 32)
-    ≡ bitXor (rol 28 lo) hi
+joined : (lo hi : ℕ) → lo < 2 ^ 29 → bitXor (rol 28 ((hi * 2 ^ 32 + lo) % 2 ^ 32)) ((hi * 2 ^ 32 + lo) / 2 ^ 32) ≡ bitXor (rol 28 lo) hi
 joined lo hi p =
     let q : lo < 2 ^ 32 = omega arith in
-    let a : (hi * 2 ^ 32 + lo) % 2 ^ 32 ≡ lo = low hi 32 q in
-    let b : (hi * 2 ^ 32 + lo) / 2 ^ 32 ≡ hi = high hi 32 q in
-    ap₂ (λ (m n : ℕ). bitXor (bitOr (m * 2 ^ 28 % 2 ^ 32) (m / 2 ^ 4)) n) a b ∙ ap (λ (m : ℕ). bitXor m hi) (rol-or 28 lo (lit≤ tt) q)
+    ap₂ (λ (m n : ℕ). bitXor (rol 28 m) n) (low hi 32 q) (high hi 32 q)
 
 byte : (n : ℕ) → n % 256 < 2 ^ 8
 byte n = mod-lt n (lit< tt)
@@ -148,9 +143,9 @@ byte n = mod-lt n (lit< tt)
 module _ (w v f : ℕ) (h : w < 2 ^ 64)
     (ev : v ≡ bitXor (bitAnd w 0x00ff00ff00ff00ff * 2 ^ 7 % 2 ^ 64) (bitAnd (w / 2 ^ 8) 0x00ff00ff00ff00ff))
     (ef : f ≡ bitXor (bitAnd v 0x0000ffff0000ffff * 2 ^ 14 % 2 ^ 64) (bitAnd (v / 2 ^ 16) 0x0000ffff0000ffff)) where
-  pub hash-word-law : bitXor (bitOr (f % 2 ^ 32 * 2 ^ 28 % 2 ^ 32) (f % 2 ^ 32 / 2 ^ 4)) (f / 2 ^ 32) ≡ hash-from 0 (to-le 8 w)
+  pub hash-word-law : (r : ℕ) → r ≡ rol 28 (f % 2 ^ 32) → bitXor r (f / 2 ^ 32) ≡ hash-from 0 (to-le 8 w)
   unfolding to-le
-  hash-word-law =
+  hash-word-law r er =
       let w₁ : ℕ = w / 256 in
       let w₂ : ℕ = w₁ / 256 in
       let w₃ : ℕ = w₂ / 256 in
@@ -161,7 +156,7 @@ module _ (w v f : ℕ) (h : w < 2 ^ 64)
       let e : f ≡ quad (w₄ % 256) (w₅ % 256) (w₆ % 256) (w₇ % 256) * 2 ^ 32 + quad (w % 256) (w₁ % 256) (w₂ % 256) (w₃ % 256) =
       ef ∙ fours-are (w % 256) (w₁ % 256) (w₂ % 256) (w₃ % 256) (w₄ % 256) (w₅ % 256) (w₆ % 256) (w₇ % 256)
       (byte w) (byte w₁) (byte w₂) (byte w₃) (byte w₄) (byte w₅) (byte w₆) (byte w₇) w (sym (le-to-le 8 w h)) v ev in
-      ap (λ (n : ℕ). bitXor (bitOr (n % 2 ^ 32 * 2 ^ 28 % 2 ^ 32) (n % 2 ^ 32 / 2 ^ 4)) (n / 2 ^ 32)) e
+      ap (λ (n : ℕ). bitXor n (f / 2 ^ 32)) er ∙ ap (λ (n : ℕ). bitXor (rol 28 (n % 2 ^ 32)) (n / 2 ^ 32)) e
       ∙ joined (quad (w % 256) (w₁ % 256) (w₂ % 256) (w₃ % 256)) (quad (w₄ % 256) (w₅ % 256) (w₆ % 256) (w₇ % 256))
       (quad-lt (w % 256) (w₁ % 256) (w₂ % 256) (w₃ % 256) (byte w) (byte w₁) (byte w₂) (byte w₃))
       ∙ sym (eight-is (w % 256) (w₁ % 256) (w₂ % 256) (w₃ % 256) (w₄ % 256) (w₅ % 256) (w₆ % 256) (w₇ % 256)

@@ -2,17 +2,17 @@
 -- Assumes nothing.
 use Prim.Native.Nat.{ℕ, _+_, _-_, _≤_, _<_}
 use mathlib.Core.Path.{_≡_, sym, ap, _∙_}
-use mathlib.Core.Bool.{Bool, true, false, false≢true}
+use mathlib.Core.Bool.{Bool, false}
 use mathlib.Core.List.{List, []}
 use native.Mathlib.Omega.{arith}
 use lib.ListN.{length}
-use Rattle.be.specs.Bytes.{part, put}
+use lib.Seq.{take-all}
+use Rattle.be.specs.Bytes.{part}
 use Rattle.be.specs.Lists.{every}
 use Rattle.be.proofs.Parts.{part-length}
-use Rattle.be.proofs.Writes.{part-inside}
 use Rattle.edition.specs.declared.Edition.{Edition}
 use Rattle.name.specs.Name.{hash-from, hash-of, legal-byte, legal-name}
-use Rattle.name.proofs.Legality.{legal-none, legal-long, legal-rest}
+use Rattle.name.proofs.Legality.{legal-none, legal-rest}
 
 module _ (e : Edition) (b : List ℕ) (i end : ℕ) where
   -- no byte
@@ -36,19 +36,13 @@ module _ (e : Edition) (b : List ℕ) (i end : ℕ) where
   unfolding hash-of
   hash-is h x = x
 
--- a name s asked for, copied to the start of c
-module _ (e : Edition) (s c d : List ℕ) (fits : length s ≤ length c) (copied : d ≡ put c 0 s) where
-  copy-is : part 0 (length s - 0) d ≡ s
-  copy-is =
-      let z : length s - 0 ≡ length s = omega arith in
-      ap (λ (n : ℕ). part 0 n d) z ∙ ap (part 0 (length s)) copied ∙ part-inside c 0 s (omega arith)
+-- a name asked for
+module _ (e : Edition) (s : List ℕ) where
+  whole : part 0 (length s - 0) s ≡ s
+  whole = let z : length s - 0 ≡ length s = omega arith in ap (λ (n : ℕ). part 0 n s) z ∙ take-all (length s) s (omega arith)
 
-  pub legal-copy : (v : Bool) → v ≡ legal-name e (part 0 (length s - 0) d) → v ≡ legal-name e s
-  legal-copy v h = h ∙ ap (legal-name e) copy-is
+  pub legal-asked : 0 < length s → length s < 256 → (v : Bool) → v ≡ every legal-byte (part 0 (length s - 0) s) → v ≡ legal-name e s
+  legal-asked p q v h = legal-is e s 0 (length s) p (omega arith) (omega arith) v h ∙ ap (legal-name e) whole
 
-  pub hash-copy : (h : ℕ) → h ≡ hash-of e (part 0 (length s - 0) d) → h ≡ hash-of e s
-  hash-copy h x = x ∙ ap (hash-of e) copy-is
-
--- a name that is too long
-pub legal-too-long : (e : Edition) (s : List ℕ) (h : ℕ) → 255 < length s → (false ≡ legal-name e s) × ((false ≡ true → h ≡ hash-of e s) × (0 < 4294967296))
-legal-too-long e s h l = (legal-long e s l, ((λ z. absurd (false≢true z)), omega arith))
+  pub hash-asked : (h : ℕ) → h ≡ hash-from 0 (part 0 (length s - 0) s) → h ≡ hash-of e s
+  hash-asked h x = hash-is e s 0 (length s) h x ∙ ap (hash-of e) whole

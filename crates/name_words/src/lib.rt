@@ -39,22 +39,22 @@ fn hash_word(w: u64) -> u32
     let fours = ((pairs & LOW_OF_32) << 14) ^ ((pairs >> 16) & LOW_OF_32);
     let hi = (fours >> 32) as u32;
     let lo = (fours % 4294967296) as u32;
-    ((lo << 28) | (lo >> 4)) ^ hi
+    name::rotated(lo, 28) ^ hi
 }
 
 // What the bytes of a name so far show: a mark in every lane if all of them may stand in it, and their hash.
-struct Seen {
+struct Read {
     marks: u64,
     hash: u32,
 }
 
 // With the eight bytes of the word w more.
-fn next_word(w: u64, h: u32, c: u64) -> Seen
+fn next_word(w: u64, h: u32, c: u64) -> Read
     ensures { λ r. ⌜ (r .hash ≡ hash-from h (to-le 8 w)) × (marked (r .marks) ≡ (marked c && every legal-byte (to-le 8 w))) ⌝ }
 {
     let hash = name::rotated(h, 24) ^ hash_word(w);
     let m = c & marks(w);
-    Seen { marks: m, hash }
+    Read { marks: m, hash }
 }
 
 // The first n bytes of the word w, moved to its end.
@@ -66,30 +66,38 @@ fn moved(w: u64, n: u32) -> u64
 }
 
 // The first n bytes of the word w alone. Zeros before them add nothing to the hash, and bytes of ones pass.
-fn one_word(w: u64, n: u32) -> Seen
+fn one_word(w: u64, n: u32) -> Read
     requires { ⌜ (1 ≤ n) × (n ≤ 8) ⌝ }
     ensures { λ r. ⌜ (r .hash ≡ hash-from 0 (to-le n w)) × (marked (r .marks) ≡ every legal-byte (to-le n w)) ⌝ }
 {
     let v = moved(w, n);
     let hash = hash_word(v);
     let m = marks(v | ((1u64 << (64 - 8 * n)) - 1));
-    Seen { marks: m, hash }
+    Read { marks: m, hash }
 }
 
 // With the first n bytes of the word w more.
-fn last_word(w: u64, n: u32, h: u32, c: u64) -> Seen
+fn last_word(w: u64, n: u32, h: u32, c: u64) -> Read
     requires { ⌜ (1 ≤ n) × (n ≤ 8) ⌝ }
     ensures { λ r. ⌜ (r .hash ≡ hash-from h (to-le n w)) × (marked (r .marks) ≡ (marked c && every legal-byte (to-le n w))) ⌝ }
 {
     let one = one_word(w, n);
     let hash = name::rotated(h, 7 * n % 32) ^ one.hash;
     let m = c & one.marks;
-    Seen { marks: m, hash }
+    Read { marks: m, hash }
 }
 
-// What the bytes from i0 up to end show after a hash h0, where eight more bytes follow them: eight bytes a turn.
-fn words(b: &[u8], i0: usize, end: usize, h0: u32, c0: u64) -> Seen
-    requires { ⌜ (i0 < end) × (end + 8 ≤ length (now b)) ⌝ }
+// The n bytes before end, as the first of a word; eight bytes at least stand before it.
+fn word_before(b: &[u8], end: usize, n: u32) -> u64
+    requires { ⌜ (1 ≤ n) × (n ≤ 8) × (8 ≤ end) × (end ≤ length (now b)) ⌝ }
+    ensures { λ r. ⌜ to-le n r ≡ part (end - n) n (now (b .entry)) ⌝ }
+{
+    be::le64(b, end - 8) >> (64 - 8 * n)
+}
+
+// What the bytes from i0 up to end show after a hash h0: eight bytes a turn, and the last word is read from before the end.
+fn words(b: &[u8], i0: usize, end: usize, h0: u32, c0: u64) -> Read
+    requires { ⌜ (i0 < end) × (8 ≤ end) × (end ≤ length (now b)) ⌝ }
     ensures { λ r. ⌜ (r .hash ≡ hash-from h0 (part i0 (end - i0) (now (b .entry))))
         × (marked (r .marks) ≡ (marked c0 && every legal-byte (part i0 (end - i0) (now (b .entry))))) ⌝ }
 {
@@ -102,7 +110,8 @@ fn words(b: &[u8], i0: usize, end: usize, h0: u32, c0: u64) -> Seen
         c = g.marks;
         i += 8;
     }
-    last_word(be::le64(b, i), (end - i) as u32, h, c)
+    let n = (end - i) as u32;
+    last_word(word_before(b, end, n), n, h, c)
 }
 
 // The hash of the 32 bytes of four words.
@@ -122,7 +131,7 @@ struct Begun {
 
 // As long as more than 32 bytes are left: runs of 32 are laid over each other, and hashed once.
 fn chunks(b: &[u8], i0: usize, end: usize) -> Begun
-    requires { ⌜ (i0 < end) × (end + 8 ≤ length (now b)) ⌝ }
+    requires { ⌜ (i0 < end) × (end ≤ length (now b)) ⌝ }
     ensures { λ r. ⌜ (r .at < end)
         × ((hash-from 0 (part i0 (end - i0) (now (b .entry))) ≡ hash-from (r .hash) (part (r .at) (end - r .at) (now (b .entry))))
         × (every legal-byte (part i0 (end - i0) (now (b .entry)))
@@ -154,31 +163,13 @@ fn chunks(b: &[u8], i0: usize, end: usize) -> Begun
     }
 }
 
-// The same, and nothing is hashed where there is no run of 32.
-fn begin(b: &[u8], i0: usize, end: usize) -> Begun
-    requires { ⌜ (i0 < end) × (end + 8 ≤ length (now b)) ⌝ }
-    ensures { λ r. ⌜ (r .at < end)
-        × ((hash-from 0 (part i0 (end - i0) (now (b .entry))) ≡ hash-from (r .hash) (part (r .at) (end - r .at) (now (b .entry))))
-        × (every legal-byte (part i0 (end - i0) (now (b .entry)))
-        ≡ (marked (r .marks) && every legal-byte (part (r .at) (end - r .at) (now (b .entry)))))) ⌝ }
-{
-    if end - i0 <= 32 {
-        return Begun {
-            at: i0,
-            marks: HIGH_BITS,
-            hash: 0,
-        };
-    }
-    chunks(b, i0, end)
-}
-
-// What the name from i0 up to end shows, where eight more bytes follow it.
-fn all_words(b: &[u8], i0: usize, end: usize) -> Seen
-    requires { ⌜ (i0 < end) × (end + 8 ≤ length (now b)) ⌝ }
+// What the bytes of a long name show.
+fn long_words(b: &[u8], i0: usize, end: usize) -> Read
+    requires { ⌜ (i0 < end) × (8 ≤ end) × (end ≤ length (now b)) ⌝ }
     ensures { λ r. ⌜ (r .hash ≡ hash-from 0 (part i0 (end - i0) (now (b .entry))))
         × (marked (r .marks) ≡ every legal-byte (part i0 (end - i0) (now (b .entry)))) ⌝ }
 {
-    let g = begin(b, i0, end);
+    let g = chunks(b, i0, end);
     words(b, g.at, end, g.hash, g.marks)
 }
 
@@ -195,13 +186,16 @@ pub struct Checked {
 }
 
 // Legal is what has every mark.
-fn judged(g: Seen) -> Checked
+fn judged(g: Read) -> Checked
     ensures { λ r. ⌜ (r .legal ≡ marked (g .marks)) × ((r .hash ≡ g .hash) × (r .hash < 4294967296)) ⌝ }
 {
     let hash = wide(g.hash);
     let legal = (g.marks & HIGH_BITS) == HIGH_BITS;
     Checked { legal, hash }
 }
+
+// From 33 bytes on a name is read by runs of 32.
+const LONG: usize = 32;
 
 // Legality and hash of the directory name from i up to end, where eight more bytes follow it. Up to eight bytes are one word, with no loop.
 pub fn check_in(e: Edition, b: &[u8], i: usize, end: usize) -> Checked
@@ -218,7 +212,23 @@ pub fn check_in(e: Edition, b: &[u8], i: usize, end: usize) -> Checked
     if end - i <= 8 {
         return judged(one_word(be::le64(b, i), (end - i) as u32));
     }
-    judged(all_words(b, i, end))
+    if end - i <= LONG {
+        return judged(words(b, i, end, 0, HIGH_BITS));
+    }
+    judged(long_words(b, i, end))
+}
+
+// Legality and hash of a directory name that is asked for, of which nothing is known. Longer ones are read as those in a block are.
+pub fn check(e: Edition, s: &[u8]) -> Checked
+    ensures { λ r. ⌜ (r .legal ≡ legal-name e (now (s .entry))) × ((r .hash ≡ hash-of e (now (s .entry))) × (r .hash < 4294967296)) ⌝ }
+{
+    let n = s.len();
+    if (n <= LONG) | (255 < n) {
+        let hash = name::hash(e, s);
+        let legal = name::legal(e, s);
+        return Checked { legal, hash };
+    }
+    judged(long_words(s, 0, n))
 }
 
 // Whether the big-endian number in the 8 bytes at o is a legal inode number: its first byte is 0, and not all are.

@@ -13,4 +13,10 @@ cast-hi c =
     record { fits = hi-lt (bitAnd v 0x0000ffff0000ffff * 2 ^ 14) (v / 2 ^ 16) }
 
 pub hash-word-spec : {M : Type 1} → statement M
-hash-word-spec = tie.close (tie.spec cast-hi (λ c. search needs) (λ c. hash-word-law (c .args .w) _ _ (c .fits .w .fits) refl refl))
+hash-word-spec =
+    tie.close
+    (tie.spec
+    cast-hi
+    (λ c. search needs)
+    (λ c κs. search needs)
+    (λ c. hash-word-law (c .before .args .w) _ _ (c .before .fits .w .fits) refl refl _ (c .rotated .ensures)))

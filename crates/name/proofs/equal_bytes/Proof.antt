@@ -1,20 +1,20 @@
 use Prim.Native.Nat.{_-_}
 use mathlib.Core.Path.{refl}
 use borrow.Author.Needs.{needs}
-use lib.ListN.{length, drop}
+use lib.ListN.{length}
 use Rattle.be.specs.Lists.{same}
 use Rattle.name.proofs.Scans.{Alike, alike-next, alike-not, alike-done}
-use Rattle.name.proofs.equal_rest.Statement.{statement}
-use Rattle.name.proofs.equal_rest.Tie as tie
+use Rattle.name.proofs.equal_bytes.Statement.{statement}
+use Rattle.name.proofs.equal_bytes.Tie as tie
 
 abbrev Inv-loop : tie.InvT-loop
-Inv-loop s t from i₀ i = Alike (same (drop from s) (drop from t)) s t i
+Inv-loop s t i₀ i = Alike (same s t) s t i
 
 abbrev μ-loop : tie.MeasureT-loop
-μ-loop s t from i₀ i = length s - i
+μ-loop s t i₀ i = length s - i
 
-pub equal-rest-spec : {M : Type 1} → statement M
-equal-rest-spec =
+pub equal-bytes-spec : {M : Type 1} → statement M
+equal-bytes-spec =
     tie.close
     (tie.spec
     Inv-loop
