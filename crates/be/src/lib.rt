@@ -60,15 +60,14 @@ fn le16(b: &[u8], o: usize) -> u64
     le8(b, o + 1) * 256 + le8(b, o)
 }
 
-// The number in 4 bytes from a place on, least significant first.
-pub fn le32(b: &[u8], o: usize) -> u64
+fn le32(b: &[u8], o: usize) -> u64
     requires { ⌜ o + 4 ≤ length (now b) ⌝ }
     ensures { λ r. ⌜ (r ≡ le (part o 4 (now (b .entry)))) × (r < 4294967296) ⌝ }
 {
     le16(b, o + 2) * 65536 + le16(b, o)
 }
 
-// In 8 bytes.
+// The number in 8 bytes from a place on, least significant first.
 pub fn le64(b: &[u8], o: usize) -> u64
     requires { ⌜ o + 8 ≤ length (now b) ⌝ }
     ensures { λ r. ⌜ r ≡ le (part o 8 (now (b .entry))) ⌝ }

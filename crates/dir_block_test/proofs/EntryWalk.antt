@@ -1,29 +1,26 @@
 -- The pass over the entries: names, numbers and slots.
 -- Assumes nothing.
-use Prim.Native.Nat.{ℕ, suc, _+_, _-_, _/_, _%_, _≤_, _<_, min}
+use Prim.Native.Nat.{ℕ, _+_, _-_, _/_, _≤_, _<_, min}
 use native.Mathlib.Nat.{add-zero}
 use native.Mathlib.Omega.{arith}
-use mathlib.Core.Bool.{Bool, true, false, cond}
-use mathlib.Core.Path.{_≡_, refl, sym, _∙_, ap, subst}
+use mathlib.Core.Bool.{Bool, true, false}
+use mathlib.Core.Path.{_≡_, refl, sym, _∙_, ap}
 use mathlib.Core.List.{List, [], _∷_}
 use lib.Dec.{eqb}
-use lib.ListN.{length, take, getD}
+use lib.ListN.{length, getD}
 use Rattle.refusal.specs.Refusal.{NAME, NUMBER, INDEX}
-use Rattle.be.specs.Lists.{every}
 use Rattle.be.specs.Bytes.{be, part, field}
 use Rattle.edition.specs.declared.Edition.{Edition}
 use Rattle.edition.specs.Edition.{entry-size}
 use Rattle.name.specs.Name.{hash-of, legal-number}
-use Rattle.dir_block_rules.specs.Record.{Rec, rec, cut, says, whole, is-gap, name, number}
+use Rattle.dir_block_rules.specs.Record.{Rec, rec, says, is-gap, name, number}
 use Rattle.dir_block_rules.specs.Verdict.{number-fits}
-use Rattle.be.proofs.Bools.{and-left, and-right, by-cases}
-use Rattle.dir_block_rules.proofs.CutJoin.{Whole, whole→, head-size}
 use Rattle.edition.proofs.Sizes.{entry-size-least}
 use Rattle.dir_block_twice.specs.Twice.{name-of}
-use Rattle.dir_block_test.specs.Passes.{no-fault, rest, whole-len, name-fits, fault-at, fault, worst}
-use Rattle.be.proofs.Parts.{part-part, getD-part, part-length}
+use Rattle.dir_block_test.specs.Passes.{no-fault, name-fits, fault-at, fault, worst}
+use Rattle.be.proofs.Parts.{part-part, getD-part}
 use Rattle.dir_block_test.proofs.WholeRecord.{says-entry, gap-is}
-use Rattle.dir_block_test.proofs.TileWalk.{Head, head, rest-head, rest-end, head-gap}
+use Rattle.dir_block_test.proofs.TileWalk.{Head, head-gap}
 
 -- one entry
 module _ (e : Edition) (own : ℕ) (ss : ℕ → ℕ → Bool) (b : List ℕ) (o len : ℕ) (is : len ≡ getD b (o + 8) 0) (x : Bool) (xs : x ≡ name-fits e o (part (o + 9) len b)) where

@@ -28,7 +28,7 @@ use Rattle.dir_block_rules.proofs.SearchFinds.{Reads, Owner, owner}
 use Rattle.name.proofs.Same.{same-eq}
 use Rattle.dir_block_rules.proofs.GoodParts.{laid-small}
 use Rattle.dir_block_twice.specs.Twice.{name-of, slots-from, Reach, addr-at, once-in}
-use Rattle.dir_block_test.specs.Passes.{cells-of, hint, rest, Data-tiled, best-left, in-order, own-at, worst, after-tile, after-index}
+use Rattle.dir_block_test.specs.Passes.{cells-of, hint, rest, Data-tiled, best-left, ordered-with, own-at, worst, after-tile, after-index}
 use Rattle.be.proofs.Parts.{part-length}
 use Rattle.dir_block_rules.proofs.StoredPairs.{pairs-read}
 use Rattle.dir_block_test.proofs.TileWalk.{Head, rest-head, head-gap}
@@ -37,7 +37,7 @@ use Rattle.dir_block_test.proofs.EntryWalk.{entry-fits, name-here, numb
 use Rattle.dir_block_twice.proofs.SlotList.{slot-at}
 use Rattle.dir_block_test.proofs.SlotTable.{slots-split, table-law, hinted}
 use Rattle.dir_block_test.proofs.FaultsAnswer.{tile-is, worst-7, worst-8, worst-9}
-use Rattle.dir_block_test.proofs.OneSlotEach.{in-order-is}
+use Rattle.dir_block_test.proofs.OneSlotEach.{ordered-with-is}
 use Rattle.dir_block_test.proofs.BestNamed.{at-most, best-law}
 use Rattle.dir_block_test.proofs.TwinSlots.{twice-law, once-free}
 use Rattle.dir_block_test.proofs.TiledParts.{sep-laid, small-most, placed, rest-placed, laid-rest, at-head, head-of}
@@ -225,7 +225,7 @@ module _ (e : Edition) (sane : Sane e) (b : List ℕ) (t n : ℕ) where
         (λ w. rw (h, at-dot, w))
 
     -- INDEX
-    module _ (m live : ℕ) (c : ℕ) (cs : t ≤ 8 * c) (ml : m ≤ n) (lv : live ≡ length (entries RS)) (fit : Bool) (fs : fit ≡ (in-order 0 0 m SS && eqb (n - m) live)) where
+    module _ (m live : ℕ) (c : ℕ) (cs : t ≤ 8 * c) (ml : m ≤ n) (lv : live ≡ length (entries RS)) (fit : Bool) (fs : fit ≡ (ordered-with 0 0 m SS && eqb (n - m) live)) where
       abbrev M : List ℕ
       M = replicate c 0
 
@@ -248,7 +248,7 @@ module _ (e : Edition) (sane : Sane e) (b : List ℕ) (t n : ℕ) where
       pub index-is : index-ok e RS SS m ≡ (fit && every (hinted b t n M e) (entries RS))
       index-is =
           index-counts e RS SS m addrs
-          ∙ rw (fs, in-order-is m SS, lv)
+          ∙ rw (fs, ordered-with-is m SS, lv)
           (by-cases (rising SS && eqb (tally is-stale SS) m)
           (λ q. let st : tally is-stale SS ≡ m = eqb-true (tally is-stale SS) m (and-right (rising SS) _ q) in
           let lvs : tally is-live SS ≡ n - m = omega (arith, count-is) in

@@ -18,7 +18,7 @@ use Rattle.dir_block_rules.specs.Verdict.{has-slot, rising}
 use Rattle.be.proofs.Bools.{by-cases, and-left, every-head, every-tail, every-cons, clash}
 use Rattle.dir_block_rules.proofs.SlotCounts.{Apart, pigeon, at-addr, tally-le}
 use Rattle.dir_block_rules.proofs.IndexedEntries.{addr-of, at-both, Slotted, slotted, →slotted}
-use Rattle.dir_block_test.specs.Passes.{rising-from, in-order, slot-is}
+use Rattle.dir_block_test.specs.Passes.{rising-from, ordered-with, slot-is}
 
 -- the order, as the pass tests it
 from-rising : (s : Slot) (ss : List Slot) → rising-from (s .hash) ss ≡ rising (s ∷ ss)
@@ -31,9 +31,9 @@ unfolding rising-from rising
 rising-from-is [] = refl
 rising-from-is (s ∷ ss) = rw (le-leb 0 (s .hash) (omega arith)) (from-rising s ss)
 
-pub in-order-is : (m : ℕ) (ss : List Slot) → in-order 0 0 m ss ≡ (rising ss && eqb (tally is-stale ss) m)
-unfolding in-order
-in-order-is m ss = ap₂ (λ (t : Bool) (k : ℕ). t && eqb k m) (rising-from-is ss) (zero-add (tally is-stale ss))
+pub ordered-with-is : (m : ℕ) (ss : List Slot) → ordered-with 0 0 m ss ≡ (rising ss && eqb (tally is-stale ss) m)
+unfolding ordered-with
+ordered-with-is m ss = ap₂ (λ (t : Bool) (k : ℕ). t && eqb k m) (rising-from-is ss) (zero-add (tally is-stale ss))
 
 -- some slot, or at least one
 some-tally : (p : Slot → Bool) (ss : List Slot) → some-of p ss ≡ true → 1 ≤ tally p ss

@@ -15,14 +15,14 @@ use Rattle.dir_block_rules.specs.Block.{Slot, is-stale}
 use Rattle.dir_block_twice.specs.Twice.{slots-from, hash-at, addr-at, runs-on, once-in}
 use Rattle.dir_block_twice.proofs.SlotList.{slots-next, slots-end}
 use Rattle.dir_block_twice.proofs.TwinWalk.{apart}
-use Rattle.dir_block_test.specs.Passes.{rising-from, in-order, level}
+use Rattle.dir_block_test.specs.Passes.{rising-from, ordered-with, level}
 
 module _ (b : List ℕ) (t n : ℕ) where
   -- the pass over the slots
   pub record Ordering (m i last stale : ℕ) (good equal : Bool) : Type 0 where
     pub within : i ≤ n
     pub few : stale ≤ i
-    pub so-far : in-order 0 0 m (slots-from b t n 0) ≡ (good && in-order last stale m (slots-from b t n i))
+    pub so-far : ordered-with 0 0 m (slots-from b t n 0) ≡ (good && ordered-with last stale m (slots-from b t n i))
     pub levels : level 0 (slots-from b t n 0) ≡ (equal || level last (slots-from b t n i))
 
   module _ (m : ℕ) where
@@ -30,8 +30,8 @@ module _ (b : List ℕ) (t n : ℕ) where
     ordering-start = record { within = omega arith; few = omega arith; so-far = refl; levels = refl }
 
     module _ (i last stale : ℕ) (good equal : Bool) (o : Ordering m i last stale good equal) where
-      pub ordering-end : n ≤ i → (good && eqb stale m) ≡ in-order 0 0 m (slots-from b t n 0)
-      unfolding in-order rising-from
+      pub ordering-end : n ≤ i → (good && eqb stale m) ≡ ordered-with 0 0 m (slots-from b t n 0)
+      unfolding ordered-with rising-from
       ordering-end h = sym (o .so-far ∙ rw (slots-end b t n i h) (ap (λ (k : ℕ). good && eqb k m) (add-zero stale)))
 
       pub level-end : n ≤ i → equal ≡ level 0 (slots-from b t n 0)
@@ -40,7 +40,7 @@ module _ (b : List ℕ) (t n : ℕ) where
 
       pub ordering-on : i < n → (h a c : ℕ) → h ≡ hash-at b t i → a ≡ addr-at b t i → c ≡ cond (eqb a 0) 1 0 → c ≤ 1
           → Ordering m (i + 1) h (stale + c) (good && leb last h) (equal || eqb last h)
-      unfolding in-order rising-from level
+      unfolding ordered-with rising-from level
       ordering-on lo h a c hi ai ci cl =
           let x : ℕ = tally is-stale (slots-from b t n (i + 1)) in
           let ci′ : cond (eqb (addr-at b t i) 0) 1 0 ≡ c = sym (ci ∙ ap (λ (k : ℕ). cond (eqb k 0) 1 0) ai) in

@@ -61,8 +61,8 @@ rising-from h [] = true
 rising-from h (s ∷ ss) = leb h (s .hash) && rising-from (s .hash) ss
 
 -- the slots never fall, and n and their stale ones make m
-unfoldable pub in-order : ℕ → ℕ → ℕ → List Slot → Bool
-in-order h n m ss = rising-from h ss && eqb (n + tally is-stale ss) m
+unfoldable pub ordered-with : ℕ → ℕ → ℕ → List Slot → Bool
+ordered-with h n m ss = rising-from h ss && eqb (n + tally is-stale ss) m
 
 -- a name that may stand at o
 unfoldable pub name-fits : Edition → ℕ → List ℕ → Bool

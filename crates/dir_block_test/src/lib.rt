@@ -11,7 +11,7 @@ ghost use Rattle.name.specs.Name.{legal-name};
 ghost use Rattle.dir_block_rules.specs.Record.{says, gaps, entries};
 ghost use Rattle.dir_block_rules.specs.Verdict.{pair, best-pairs, best-ok, index-ok, verdict};
 ghost use Rattle.dir_block_twice.specs.Twice.{slots-from};
-ghost use Rattle.dir_block_test.specs.Passes.{rest, whole-len, in-order, level, slot-word, cells-of, hint, name-fits, fault-at, own-at, best-left, which, Walks, Faulted, after-index, after-tile, after-span, Parts, Data-tiled};
+ghost use Rattle.dir_block_test.specs.Passes.{rest, whole-len, ordered-with, level, slot-word, cells-of, hint, name-fits, fault-at, own-at, best-left, which, Walks, Faulted, after-index, after-tile, after-span, Parts, Data-tiled};
 use edition::Edition;
 use edition::V4;
 
@@ -89,7 +89,7 @@ struct Run {
 // Goes over the n slots at t, of which m should be stale, and keeps each one's word in the cell of its address.
 fn slots<'a, 'b>(b: &'a [u8], t: usize, n: usize, m: usize, cells: &'b mut [u64]) -> Run
     requires { ⌜ t + 8 * n ≤ length (now b) ⌝ }
-    ensures { λ r. ⌜ (r .good ≡ in-order 0 0 m (slots-from (now (b .entry)) t n 0)) × (r .equal ≡ level 0 (slots-from (now (b .entry)) t n 0))
+    ensures { λ r. ⌜ (r .good ≡ ordered-with 0 0 m (slots-from (now (b .entry)) t n 0)) × (r .equal ≡ level 0 (slots-from (now (b .entry)) t n 0))
         × (now (cells .exit) ≡ cells-of (now (b .entry)) t (now (cells .entry)) n) ⌝ }
 {
     let mut i = 0;
@@ -215,16 +215,16 @@ fn which(o: usize, n: usize, p: Best, q: Best, s: Best) -> usize
 
 // What the pass over the records shows: n is 0 if the data is not tiled, else one more than it has entries; w is the lowest fault of
 // their names, numbers and slots; best says whether the pairs name the longest gaps.
-struct Walked {
+struct Survey {
     n: usize,
     w: usize,
     best: bool,
 }
 
-fn untiled() -> Walked
+fn untiled() -> Survey
     ensures { λ r. ⌜ r .n ≡ 0 ⌝ }
 {
-    Walked {
+    Survey {
         n: 0,
         w: 0,
         best: false,
@@ -243,7 +243,7 @@ fn walk(
     x0: bool,
     y0: bool,
     z0: bool,
-) -> Walked
+) -> Survey
     requires { ⌜ Sane e ⌝ }
     requires { ⌜ (t + 8 ≤ length (now b)) × (t < 65536) × (t % 8 ≡ 0) × (e .header ≤ t) × (t ≤ 8 * length (now cells)) ⌝ }
     ensures { λ r. ⌜ Walks e (own-at e (now (b .entry))) (hint (now (cells .entry))) (rest e (now (b .entry)) t (length (now (b .entry))) (e .header))
@@ -283,7 +283,7 @@ fn walk(
         after = true;
         o += len;
     }
-    Walked {
+    Survey {
         n,
         w,
         best: best & (x & (y & z)),
@@ -358,7 +358,7 @@ fn test_entries(
 ) -> usize
     requires { ⌜ Sane e ⌝ }
     requires { ⌜ Data-tiled e (now b) t n × (m ≤ n) × (live ≡ length (entries (rest e (now b) t (length (now b)) (e .header))))
-        × (run .good ≡ in-order 0 0 m (slots-from (now b) t n 0)) × (run .equal ≡ level 0 (slots-from (now b) t n 0))
+        × (run .good ≡ ordered-with 0 0 m (slots-from (now b) t n 0)) × (run .equal ≡ level 0 (slots-from (now b) t n 0))
         × Faulted e (now b) t n w
         × (best ≡ best-ok (best-pairs e (now b)) (gaps (rest e (now b) t (length (now b)) (e .header)))) ⌝ }
     ensures { λ r. ⌜ r ≡ after-tile e (now (b .entry)) (rest e (now (b .entry)) t (length (now (b .entry))) (e .header))

@@ -138,24 +138,24 @@ fn suspect<'a, 'b>(b: &'a [u8], t: usize, n: usize, i: usize, seen: &'b mut [u8]
 }
 
 // What a way to the answer shows: whether it came to one, and then whether no name is stored twice.
-struct Found {
+struct Finding {
     known: bool,
     once: bool,
 }
 
-fn unknown() -> Found
+fn unknown() -> Finding
     ensures { λ r. ⌜ r .known ≡ false ⌝ }
 {
-    Found {
+    Finding {
         known: false,
         once: false,
     }
 }
 
-fn known(once: bool) -> Found
+fn known(once: bool) -> Finding
     ensures { λ r. ⌜ (r .known ≡ true) × (r .once ≡ once) ⌝ }
 {
-    Found { known: true, once }
+    Finding { known: true, once }
 }
 
 // Whether no name is stored twice, from the last slot down; what the table holds at first doesn't matter. Names that have both cells in
@@ -167,7 +167,7 @@ fn once_with<'a, 'b>(
     n: usize,
     seen: &'b mut [u8],
     turns: usize,
-) -> Found
+) -> Finding
     requires { ⌜ (t + 8 * n ≤ length (now b)) × Reach (now b) t n × (0 < length (now seen)) ⌝ }
     ensures { λ r. ⌜ (r .known ≡ true → r .once ≡ once-in e (now (b .entry)) (slots-from (now (b .entry)) t n 0))
         × (n ≤ turns → r .known ≡ true) ⌝ }
@@ -195,7 +195,7 @@ const FEW: usize = 4096;
 const MANY: usize = 32768;
 
 // With a table of the names seen.
-fn by_tables(e: Edition, b: &[u8], t: usize, n: usize, turns: usize) -> Found
+fn by_tables(e: Edition, b: &[u8], t: usize, n: usize, turns: usize) -> Finding
     requires { ⌜ (t + 8 * n ≤ length (now b)) × Reach (now b) t n ⌝ }
     ensures { λ r. ⌜ (r .known ≡ true → r .once ≡ once-in e (now (b .entry)) (slots-from (now (b .entry)) t n 0))
         × (n ≤ turns → r .known ≡ true) ⌝ }
@@ -422,7 +422,7 @@ fn ranked(b: &[u8], t: usize, n: usize, order: &[u16], rank: &[u16], m: usize) -
 }
 
 // What slot i shows: that its name is stored twice, or nothing.
-fn twin_of(e: Edition, b: &[u8], t: usize, n: usize, i: usize) -> Found
+fn twin_of(e: Edition, b: &[u8], t: usize, n: usize, i: usize) -> Finding
     requires { ⌜ (t + 8 * n ≤ length (now b)) × Reach (now b) t n ⌝ }
     ensures { λ r. ⌜ (r .known ≡ true → r .once ≡ once-in e (now (b .entry)) (slots-from (now (b .entry)) t n 0)) ⌝ }
 {
@@ -437,7 +437,7 @@ fn twin_of(e: Edition, b: &[u8], t: usize, n: usize, i: usize) -> Found
 
 // The answer that an order of the live slots shows. Where all ascend, and each live slot is among them, no two have one name; where two
 // don't ascend, they have one name if the order is right, and the first of them has a twin.
-fn judge(e: Edition, b: &[u8], t: usize, n: usize, order: &[u16], rank: &[u16], m: usize) -> Found
+fn judge(e: Edition, b: &[u8], t: usize, n: usize, order: &[u16], rank: &[u16], m: usize) -> Finding
     requires { ⌜ (t + 8 * n ≤ length (now b)) × Reach (now b) t n × (m ≤ length (now order)) × (n ≤ length (now rank)) ⌝ }
     ensures { λ r. ⌜ (r .known ≡ true → r .once ≡ once-in e (now (b .entry)) (slots-from (now (b .entry)) t n 0)) ⌝ }
 {
@@ -463,7 +463,7 @@ fn sorted_with<'a, 'b, 'c>(
     n: usize,
     order: &'b mut [u16],
     rank: &'c mut [u16],
-) -> Found
+) -> Finding
     requires { ⌜ (t + 8 * n ≤ length (now b)) × Reach (now b) t n × (n ≤ most-slots) × (n ≤ length (now order)) × (n ≤ length (now rank)) ⌝ }
     ensures { λ r. ⌜ (r .known ≡ true → r .once ≡ once-in e (now (b .entry)) (slots-from (now (b .entry)) t n 0)) ⌝ }
 {
@@ -475,7 +475,7 @@ fn sorted_with<'a, 'b, 'c>(
 
 // By sorting the names, however many have both cells in common. The arrays have a cell for each slot that a block can have, and are made
 // only here.
-fn sorted(e: Edition, b: &[u8], t: usize, n: usize) -> Found
+fn sorted(e: Edition, b: &[u8], t: usize, n: usize) -> Finding
     requires { ⌜ (t + 8 * n ≤ length (now b)) × Reach (now b) t n × (n ≤ most-slots) ⌝ }
     ensures { λ r. ⌜ (r .known ≡ true → r .once ≡ once-in e (now (b .entry)) (slots-from (now (b .entry)) t n 0)) ⌝ }
 {

@@ -65,7 +65,8 @@ pub fn number_legal(i: u64) -> bool
     (1 <= i) & (i < 72057594037927936)
 }
 
-fn wide(h: u32) -> usize
+// 32 bits as a number.
+pub fn wide(h: u32) -> usize
     ensures { λ r. ⌜ (r ≡ h) × (r < 4294967296) ⌝ }
 {
     h as usize

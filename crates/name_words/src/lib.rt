@@ -1,6 +1,6 @@
 // Directory names by words of eight bytes: their legality and hash in one pass, and a second hash; and inode numbers by one word.
 ghost use mathlib.Core.Path.{_≡_};
-ghost use mathlib.Core.Bool.{true, _&&_};
+ghost use mathlib.Core.Bool.{_&&_};
 ghost use Prim.Native.Nat.{_+_, _-_, _*_, _/_, _%_, _^_, _≤_, _<_};
 ghost use lib.ListN.{length};
 ghost use Rattle.be.specs.Lists.{every};
@@ -173,12 +173,6 @@ fn long_words(b: &[u8], i0: usize, end: usize) -> Read
     words(b, g.at, end, g.hash, g.marks)
 }
 
-fn wide(h: u32) -> usize
-    ensures { λ r. ⌜ (r ≡ h) × (r < 4294967296) ⌝ }
-{
-    h as usize
-}
-
 // What a directory name shows.
 pub struct Checked {
     pub legal: bool,
@@ -189,7 +183,7 @@ pub struct Checked {
 fn judged(g: Read) -> Checked
     ensures { λ r. ⌜ (r .legal ≡ marked (g .marks)) × ((r .hash ≡ g .hash) × (r .hash < 4294967296)) ⌝ }
 {
-    let hash = wide(g.hash);
+    let hash = name::wide(g.hash);
     let legal = (g.marks & HIGH_BITS) == HIGH_BITS;
     Checked { legal, hash }
 }

@@ -1,11 +1,5 @@
-use Prim.Native.Nat.{ℕ, _*_, _≤_}
 use native.Mathlib.Omega.{arith}
-use mathlib.Core.List.{List}
-use mathlib.Core.Path.{_≡_, sym, _∙_, ap, subst}
-use denote.Ref.{now}
-use lib.ListN.{length, replicate}
 use borrow.Author.Needs.{needs}
-use Rattle.dir_block_test.specs.Passes.{rest, hint, worst, own-at, cells-of, Faulted}
 use Rattle.dir_block_test.proofs.EarlyTests.{end-5, tiled-parts, tiled-count, end-tile, faulted}
 use Rattle.dir_block_test.proofs.LaterTests.{best-fits-is}
 use Rattle.dir_block_test.proofs.SlotTable.{cells-long}
