@@ -5,13 +5,17 @@ use native.Mathlib.Omega.{arith}
 use native.Mathlib.Numerals.{add-one}
 use mathlib.Core.Bool.{Bool, true, false, not, _&&_, _||_, false≢true}
 use mathlib.Core.Path.{_≡_, refl, sym, _∙_, ap, ap₂}
-use mathlib.Core.List.{List, [], _∷_}
+use mathlib.Core.List.{List, [], _∷_, _++_}
 use lib.Dec.{eqb, ltb}
 use lib.ListN.{length, getD, drop}
 use lib.Seq.{drop-cons, drop-length}
 use borrow.Author.Tests.{ltb-true, ltb-false, lt-ltb, le-ltb, eqb-true, eq-eqb, ne-eqb}
 use Rattle.be.proofs.Bools.{by-cases, or-cases, or-left, or-right, and-left, and-right, and-both, and-false, clash}
-use Rattle.dir_block_twice.specs.Twice.{lex, name-of, addr-at, live-at, sorts-before}
+use Rattle.be.specs.Bytes.{byte, part}
+use Rattle.be.specs.Words.{le}
+use Rattle.be.proofs.Parts.{piece}
+use Rattle.be.proofs.Words.{word-bytes}
+use Rattle.dir_block_twice.specs.Twice.{lex, Alike, name-of, addr-at, live-at, sorts-before}
 
 pub lex-strict : (x : List ℕ) → lex x x ≡ false
 unfolding lex
@@ -34,11 +38,23 @@ lex-trans (a ∷ x) (b ∷ y) (c ∷ z) h k =
     (eq-eqb a c (eqb-true a b (and-left (eqb a b) (lex x y) p) ∙ eqb-true b c (and-left (eqb b c) (lex y z) q)))
     (lex-trans x y z (and-right (eqb a b) (lex x y) p) (and-right (eqb b c) (lex y z) q)))))
 
--- a walk over two names: the first k bytes are the same
-pub record Alike (x y : List ℕ) (k : ℕ) : Type 0 where
-  pub left : k ≤ length x
-  pub right : k ≤ length y
-  pub so-far : lex x y ≡ lex (drop k x) (drop k y)
+-- the same bytes before both
+lex-behind : (p x y : List ℕ) → lex (p ++ x) (p ++ y) ≡ lex x y
+unfolding lex
+lex-behind [] x y = refl
+lex-behind (a ∷ p) x y = rw (le-ltb a a (omega arith), eq-eqb a a refl) (lex-behind p x y)
+
+-- a walk over two names
+pub alike-word : (x y : List ℕ) → ((k : ℕ) → byte k x < 256) → ((k : ℕ) → byte k y < 256) → (k w u : ℕ) → Alike x y k
+    → k + 8 ≤ length x → k + 8 ≤ length y → w ≡ le (part k 8 x) → u ≡ le (part k 8 y) → w ≡ u → Alike x y (k + 8)
+alike-word x y kx ky k w u a l r p q e =
+    let m : part k 8 x ≡ part k 8 y = sym (word-bytes x kx k l 8 w (omega arith) p) ∙ word-bytes y ky k r 8 w (omega arith) (e ∙ q) in
+    let f : drop k x ≡ part k 8 y ++ drop (k + 8) x = sym (piece k 8 (k + 8) x refl) ∙ ap (λ (z : List ℕ). z ++ drop (k + 8) x) m in
+    record {
+      left = l;
+      right = r;
+      so-far = a .so-far ∙ ap₂ lex f (sym (piece k 8 (k + 8) y refl)) ∙ lex-behind (part k 8 y) (drop (k + 8) x) (drop (k + 8) y);
+    }
 
 module _ (x y : List ℕ) where
   pub alike-start : Alike x y 0

@@ -89,6 +89,12 @@ lex xs [] = false
 lex [] (y ∷ ys) = true
 lex (x ∷ xs) (y ∷ ys) = ltb x y || (eqb x y && lex xs ys)
 
+-- the first k bytes of both say nothing of their order
+pub record Alike (x y : List ℕ) (k : ℕ) : Type 0 where
+  pub left : k ≤ length x
+  pub right : k ≤ length y
+  pub so-far : lex x y ≡ lex (drop k x) (drop k y)
+
 -- slot i is one of the n, and live
 unfoldable pub live-at : List ℕ → ℕ → ℕ → ℕ → Bool
 live-at b t n i = ltb i n && not (eqb (addr-at b t i) 0)

@@ -8,7 +8,7 @@ ghost use lib.ListN.{length, getD, set};
 ghost use Rattle.be.specs.Bytes.{byte};
 ghost use Rattle.name.specs.Name.{same-name};
 ghost use Rattle.name_words.specs.Words.{key-of};
-ghost use Rattle.dir_block_twice.specs.Twice.{slots-from, hash-at, addr-at, name-of, clash-from, runs-on, follows, Marked, Noted, once-in, Reach, lex, live-at, sorts-before, Ascends, Placed, Ranked, most-slots};
+ghost use Rattle.dir_block_twice.specs.Twice.{slots-from, hash-at, addr-at, name-of, clash-from, runs-on, follows, Marked, Noted, once-in, Reach, lex, Alike, live-at, sorts-before, Ascends, Placed, Ranked, most-slots};
 use edition::Edition;
 
 // The hash of slot i, of those at t.
@@ -219,11 +219,35 @@ fn live(b: &[u8], t: usize, n: usize, i: usize) -> bool
     false
 }
 
-// Whether x comes before y, byte by byte.
+fn least(x: usize, y: usize) -> usize
+    ensures { λ r. ⌜ (r ≤ x) × (r ≤ y) ⌝ }
+{
+    if x < y {
+        return x;
+    }
+    y
+}
+
+// How many bytes at the start of both say nothing of their order, by eights: they are the same.
+fn same_start(x: &[u8], y: &[u8]) -> usize
+    ensures { λ r. ⌜ Alike (now (x .entry)) (now (y .entry)) r ⌝ }
+{
+    let n = least(x.len(), y.len());
+    let mut k = 0;
+    while 8 <= n - k {
+        if be::le64(x, k) != be::le64(y, k) {
+            return k;
+        }
+        k += 8;
+    }
+    k
+}
+
+// Whether x comes before y: eight bytes a turn as long as they are the same, then byte by byte.
 fn sooner(x: &[u8], y: &[u8]) -> bool
     ensures { λ r. ⌜ r ≡ lex (now (x .entry)) (now (y .entry)) ⌝ }
 {
-    let mut k = 0;
+    let mut k = same_start(x, y);
     while (k < x.len()) & (k < y.len()) {
         if x[k] != y[k] {
             return x[k] < y[k];
