@@ -426,13 +426,13 @@ fn insert_in(e: Edition, b: &mut [u8], name: &[u8], to: Target) -> usize
     if t != 0 {
         return t;
     }
-    let asked = name_words::check(e, name);
+    let asked = name::legal(e, name);
     let legal = dir::target_legal(e, to);
-    let refused = request(name, asked.legal & legal);
+    let refused = request(name, asked & legal);
     if refused != 0 {
         return refused;
     }
-    insert_ready(e, b, to, name, asked.hash)
+    insert_ready(e, b, to, name, name::hash(e, name))
 }
 
 // Removal in a block of an edition.
@@ -445,12 +445,11 @@ fn remove_in(e: Edition, b: &mut [u8], name: &[u8]) -> usize
     if k != 0 {
         return k;
     }
-    let asked = name_words::check(e, name);
-    let refused = request(name, asked.legal);
+    let refused = request(name, name::legal(e, name));
     if refused != 0 {
         return refused;
     }
-    remove_ready(e, b, name, asked.hash)
+    remove_ready(e, b, name, name::hash(e, name))
 }
 
 // Insert in a block of the V4 edition: 0, or the number of the refusal.

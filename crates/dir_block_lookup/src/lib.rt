@@ -153,11 +153,10 @@ fn lookup_in(e: Edition, b: &[u8], name: &[u8]) -> Looked
     if n != 0 {
         return Looked::Refused(n);
     }
-    let asked = name_words::check(e, name);
-    if !asked.legal {
+    if !name::legal(e, name) {
         return Looked::Refused(refusal::ASKED);
     }
-    lookup_ready(e, b, name, asked.hash)
+    lookup_ready(e, b, name, name::hash(e, name))
 }
 
 // The lookup of a name in a block of the V4 edition.

@@ -35,7 +35,7 @@ module _ (b : List ℕ) (known : (k : ℕ) → byte k b < 256) (i end : ℕ) (fi
   key-end k v r p q ev er =
       let f : (end - i - 1) / 8 ≡ 0 = omega arith in
       let l : length (left i) ≡ end - i = part-length i (end - i) b (omega arith) in
-      er ∙ ap (mix k) (ev ∙ ap₂ (λ (x : List ℕ) (y : ℕ). le x * 2 ^ (64 - 8 * y)) (end-word b i end known w ew fits (omega arith) q) (sym l))
+      er ∙ ap (mix k) (ev ∙ ap₂ (λ (x : List ℕ) (y : ℕ). le x * 2 ^ (64 - 8 * y)) (end-word b i end known fits w ew (omega arith) q) (sym l))
       ∙ ap (λ (x : ℕ). key-from x k (left i)) (sym f)
 
 -- the whole key

@@ -124,7 +124,7 @@ module _ (a b c d : ℕ) where
       (word-first b 16 bc length-16 B S _ eb es (word-first c 8 bd (length-to-le 8 d) C U D ec eu ed))
 
 -- a turn of 32 bytes
-module _ (b : List ℕ) (known : (k : ℕ) → byte k b < 256) (i end : ℕ) (fits : end ≤ length b) (more-left : 32 < end - i) (p q r s : ℕ)
+module _ (b : List ℕ) (known : (k : ℕ) → byte k b < 256) (i end : ℕ) (fits : end + 8 ≤ length b) (more-left : 32 < end - i) (p q r s : ℕ)
     (ep : p ≡ le (part i 8 b)) (eq : q ≡ le (part (i + 8) 8 b)) (er : r ≡ le (part (i + 16) 8 b)) (es : s ≡ le (part (i + 24) 8 b)) where
   -- a word, and what stands behind it
   word : (o m w : ℕ) (l : List ℕ) → o + 8 ≤ end → w ≡ le (part o 8 b) → part (o + 8) m b ≡ l → part o (8 + m) b ≡ to-le 8 w ++ l

@@ -6,7 +6,6 @@ use mathlib.Core.Bool.{Bool, false}
 use mathlib.Core.List.{List, []}
 use native.Mathlib.Omega.{arith}
 use lib.ListN.{length}
-use lib.Seq.{take-all}
 use Rattle.be.specs.Bytes.{part}
 use Rattle.be.specs.Lists.{every}
 use Rattle.be.proofs.Parts.{part-length}
@@ -35,14 +34,3 @@ module _ (e : Edition) (b : List ℕ) (i end : ℕ) where
   pub hash-is : (h : ℕ) → h ≡ hash-from 0 (part i (end - i) b) → h ≡ hash-of e (part i (end - i) b)
   unfolding hash-of
   hash-is h x = x
-
--- a name asked for
-module _ (e : Edition) (s : List ℕ) where
-  whole : part 0 (length s - 0) s ≡ s
-  whole = let z : length s - 0 ≡ length s = omega arith in ap (λ (n : ℕ). part 0 n s) z ∙ take-all (length s) s (omega arith)
-
-  pub legal-asked : 0 < length s → length s < 256 → (v : Bool) → v ≡ every legal-byte (part 0 (length s - 0) s) → v ≡ legal-name e s
-  legal-asked p q v h = legal-is e s 0 (length s) p (omega arith) (omega arith) v h ∙ ap (legal-name e) whole
-
-  pub hash-asked : (h : ℕ) → h ≡ hash-from 0 (part 0 (length s - 0) s) → h ≡ hash-of e s
-  hash-asked h x = hash-is e s 0 (length s) h x ∙ ap (hash-of e) whole

@@ -7,7 +7,7 @@ ghost use Rattle.be.specs.Lists.{every};
 ghost use Rattle.be.specs.Bytes.{part, field};
 ghost use Rattle.be.specs.Words.{le, to-le};
 ghost use Rattle.name.specs.Name.{hash-from, hash-of, legal-byte, legal-name, legal-number};
-ghost use Rattle.name_words.specs.Words.{marked, bytes-32, mix, key-from, key-of};
+ghost use Rattle.name_words.specs.Words.{marked, bytes-32, Reads, mix, key-from, key-of};
 use edition::Edition;
 
 // A word has eight lanes of eight bits, one for each byte. Of every lane: the bits below the highest, the highest, and "/".
@@ -87,17 +87,9 @@ fn last_word(w: u64, n: u32, h: u32, c: u64) -> Read
     Read { marks: m, hash }
 }
 
-// The n bytes before end, as the first of a word; eight bytes at least stand before it.
-fn word_before(b: &[u8], end: usize, n: u32) -> u64
-    requires { ⌜ (1 ≤ n) × (n ≤ 8) × (8 ≤ end) × (end ≤ length (now b)) ⌝ }
-    ensures { λ r. ⌜ to-le n r ≡ part (end - n) n (now (b .entry)) ⌝ }
-{
-    be::le64(b, end - 8) >> (64 - 8 * n)
-}
-
-// What the bytes from i0 up to end show after a hash h0: eight bytes a turn, and the last word is read from before the end.
+// What the bytes from i0 up to end show after a hash h0, where eight more bytes follow them: eight bytes a turn.
 fn words(b: &[u8], i0: usize, end: usize, h0: u32, c0: u64) -> Read
-    requires { ⌜ (i0 < end) × (8 ≤ end) × (end ≤ length (now b)) ⌝ }
+    requires { ⌜ (i0 < end) × (end + 8 ≤ length (now b)) ⌝ }
     ensures { λ r. ⌜ (r .hash ≡ hash-from h0 (part i0 (end - i0) (now (b .entry))))
         × (marked (r .marks) ≡ (marked c0 && every legal-byte (part i0 (end - i0) (now (b .entry))))) ⌝ }
 {
@@ -110,8 +102,7 @@ fn words(b: &[u8], i0: usize, end: usize, h0: u32, c0: u64) -> Read
         c = g.marks;
         i += 8;
     }
-    let n = (end - i) as u32;
-    last_word(word_before(b, end, n), n, h, c)
+    last_word(be::le64(b, i), (end - i) as u32, h, c)
 }
 
 // The hash of the 32 bytes of four words.
@@ -131,11 +122,8 @@ struct Begun {
 
 // As long as more than 32 bytes are left: runs of 32 are laid over each other, and hashed once.
 fn chunks(b: &[u8], i0: usize, end: usize) -> Begun
-    requires { ⌜ (i0 < end) × (end ≤ length (now b)) ⌝ }
-    ensures { λ r. ⌜ (r .at < end)
-        × ((hash-from 0 (part i0 (end - i0) (now (b .entry))) ≡ hash-from (r .hash) (part (r .at) (end - r .at) (now (b .entry))))
-        × (every legal-byte (part i0 (end - i0) (now (b .entry)))
-        ≡ (marked (r .marks) && every legal-byte (part (r .at) (end - r .at) (now (b .entry)))))) ⌝ }
+    requires { ⌜ (i0 < end) × (end + 8 ≤ length (now b)) ⌝ }
+    ensures { λ r. ⌜ Reads (now (b .entry)) i0 end (r .at) (r .marks) (r .hash) ⌝ }
 {
     let mut i = i0;
     let mut m = HIGH_BITS;
@@ -163,13 +151,28 @@ fn chunks(b: &[u8], i0: usize, end: usize) -> Begun
     }
 }
 
-// What the bytes of a long name show.
-fn long_words(b: &[u8], i0: usize, end: usize) -> Read
-    requires { ⌜ (i0 < end) × (8 ≤ end) × (end ≤ length (now b)) ⌝ }
+// The same, and nothing is hashed where there is no run of 32.
+fn begin(b: &[u8], i0: usize, end: usize) -> Begun
+    requires { ⌜ (i0 < end) × (end + 8 ≤ length (now b)) ⌝ }
+    ensures { λ r. ⌜ Reads (now (b .entry)) i0 end (r .at) (r .marks) (r .hash) ⌝ }
+{
+    if end - i0 <= 32 {
+        return Begun {
+            at: i0,
+            marks: HIGH_BITS,
+            hash: 0,
+        };
+    }
+    chunks(b, i0, end)
+}
+
+// What the name from i0 up to end shows, where eight more bytes follow it.
+fn all_words(b: &[u8], i0: usize, end: usize) -> Read
+    requires { ⌜ (i0 < end) × (end + 8 ≤ length (now b)) ⌝ }
     ensures { λ r. ⌜ (r .hash ≡ hash-from 0 (part i0 (end - i0) (now (b .entry))))
         × (marked (r .marks) ≡ every legal-byte (part i0 (end - i0) (now (b .entry)))) ⌝ }
 {
-    let g = chunks(b, i0, end);
+    let g = begin(b, i0, end);
     words(b, g.at, end, g.hash, g.marks)
 }
 
@@ -188,9 +191,6 @@ fn judged(g: Read) -> Checked
     Checked { legal, hash }
 }
 
-// From 33 bytes on a name is read by runs of 32.
-const LONG: usize = 32;
-
 // Legality and hash of the directory name from i up to end, where eight more bytes follow it. Up to eight bytes are one word, with no loop.
 pub fn check_in(e: Edition, b: &[u8], i: usize, end: usize) -> Checked
     requires { ⌜ (i ≤ end) × (end + 8 ≤ length (now b)) × (end ≤ i + 255) ⌝ }
@@ -206,23 +206,7 @@ pub fn check_in(e: Edition, b: &[u8], i: usize, end: usize) -> Checked
     if end - i <= 8 {
         return judged(one_word(be::le64(b, i), (end - i) as u32));
     }
-    if end - i <= LONG {
-        return judged(words(b, i, end, 0, HIGH_BITS));
-    }
-    judged(long_words(b, i, end))
-}
-
-// Legality and hash of a directory name that is asked for, of which nothing is known. Longer ones are read as those in a block are.
-pub fn check(e: Edition, s: &[u8]) -> Checked
-    ensures { λ r. ⌜ (r .legal ≡ legal-name e (now (s .entry))) × ((r .hash ≡ hash-of e (now (s .entry))) × (r .hash < 4294967296)) ⌝ }
-{
-    let n = s.len();
-    if (n <= LONG) | (255 < n) {
-        let hash = name::hash(e, s);
-        let legal = name::legal(e, s);
-        return Checked { legal, hash };
-    }
-    judged(long_words(s, 0, n))
+    judged(all_words(b, i, end))
 }
 
 // Whether the big-endian number in the 8 bytes at o is a legal inode number: its first byte is 0, and not all are.

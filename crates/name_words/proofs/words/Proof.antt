@@ -1,4 +1,4 @@
-use Prim.Native.Nat.{ℕ, _-_, _≤_, _<_}
+use Prim.Native.Nat.{ℕ, _+_, _-_, _≤_, _<_}
 use mathlib.Core.Path.{_≡_, refl, sym, ap, _∙_}
 use mathlib.Core.Bool.{_&&_}
 use mathlib.Core.List.{List}
@@ -10,7 +10,7 @@ use Rattle.be.specs.Lists.{every}
 use Rattle.be.specs.Words.{to-le}
 use Rattle.name.specs.Name.{hash-from, legal-byte}
 use Rattle.name_words.specs.Words.{marked}
-use Rattle.name_words.proofs.WordWalk.{turn}
+use Rattle.name_words.proofs.WordWalk.{turn, end-word}
 use Rattle.name_words.proofs.words.Statement.{statement}
 use Rattle.name_words.proofs.words.Tie as tie
 
@@ -29,20 +29,21 @@ loop-again c =
     let l = c .before .before .before .loop in
     let k : (n : ℕ) → byte n (a .b .now) < 256 = λ n. c .before .before .before .before .shared-slice-known .given n .fits in
     let t = c .before .before .loop-test .taken in
-    let f : a .end ≤ length (a .b .now) = omega arith in
+    let f : a .end + 8 ≤ length (a .b .now) = omega arith in
     let w = c .before .le64 in
     let n = c .next-word .ensures in
-    let z = turn (a .b .now) (l .i) (a .end) k (w .result) (w .ensures) f t (l .h) _ (marked (l .c)) _ (n .0) (n .1) in
+    let z = turn (a .b .now) (l .i) (a .end) k f (w .result) (w .ensures) t (l .h) _ (marked (l .c)) _ (n .0) (n .1) in
     (omega arith, (l .inv .1 .0 ∙ z .0, l .inv .1 .1 ∙ z .1))
 
 returns : tie.Need-returns Inv-loop μ-loop
 returns c =
     let a = c .before .before .before .before .before .args in
     let l = c .before .before .before .loop in
-    let w = c .before .word-before in
-    let o : a .end - (a .end - l .i) ≡ l .i = omega arith in
+    let k : (n : ℕ) → byte n (a .b .now) < 256 = λ n. c .before .before .before .before .shared-slice-known .given n .fits in
+    let f : a .end + 8 ≤ length (a .b .now) = omega arith in
+    let w = c .before .le642 in
     let e : to-le (a .end - l .i) (w .result) ≡ part (l .i) (a .end - l .i) (a .b .now) =
-    w .ensures ∙ ap (λ (x : ℕ). part x (a .end - l .i) (a .b .now)) o in (
+    end-word (a .b .now) (l .i) (a .end) k f (w .result) (w .ensures) (omega arith) (omega arith) in (
       c .last-word .ensures .0 ∙ ap (hash-from (l .h)) e ∙ sym (l .inv .1 .0),
       c .last-word .ensures .1 ∙ ap (λ (x : List ℕ). marked (l .c) && every legal-byte x) e ∙ sym (l .inv .1 .1),
     )
@@ -60,8 +61,8 @@ words-spec =
     (λ c. omega arith)
     (λ c. omega arith)
     loop-again
+    (λ c κs. omega arith)
     (λ c. omega arith)
     (λ c. omega arith)
-    (λ c κs. (omega arith, omega arith, omega arith, omega arith))
     (λ c κs. (omega arith, omega arith))
     returns)
