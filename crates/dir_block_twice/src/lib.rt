@@ -508,15 +508,13 @@ fn sorted(e: Edition, b: &[u8], t: usize, n: usize) -> Finding
     sorted_with(e, b, t, n, &mut order, &mut rank)
 }
 
-// How many slots are compared with later ones before the names are sorted.
-const TURNS: usize = 16;
-
 // Whether no name is stored twice. The order of the sort is not proved, so a last way stands behind it; it is not met.
 pub fn once(e: Edition, b: &[u8], t: usize, n: usize) -> bool
     requires { ⌜ (t + 8 * n ≤ length (now b)) × Reach (now b) t n × (n ≤ most-slots) ⌝ }
     ensures { λ r. ⌜ r ≡ once-in e (now (b .entry)) (slots-from (now (b .entry)) t n 0) ⌝ }
 {
-    let few = by_tables(e, b, t, n, TURNS);
+    // By chance some three of a thousand names of one hash share their cells in the largest block, fewer in smaller ones.
+    let few = by_tables(e, b, t, n, 2 + n / 64);
     if few.known {
         return few.once;
     }
