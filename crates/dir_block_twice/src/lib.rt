@@ -513,7 +513,7 @@ pub fn once(e: Edition, b: &[u8], t: usize, n: usize) -> bool
     requires { ⌜ (t + 8 * n ≤ length (now b)) × Reach (now b) t n × (n ≤ most-slots) ⌝ }
     ensures { λ r. ⌜ r ≡ once-in e (now (b .entry)) (slots-from (now (b .entry)) t n 0) ⌝ }
 {
-    // By chance some three of a thousand names of one hash share their cells in the largest block, fewer in smaller ones.
+    // By chance some five of a thousand names of one hash share their cells in the largest block, fewer in smaller ones.
     let few = by_tables(e, b, t, n, 2 + n / 64);
     if few.known {
         return few.once;
