@@ -491,10 +491,11 @@ fn with_gaps(size: usize, kind: &Names, seed: u64) -> Full {
     full
 }
 
-/// A name that fits no gap, but in the place of stale slots: the insert is by (b).
+/// A name that fits no gap, by 8 bytes, but in the place of stale slots: the insert is by (b).
 fn by_b(size: usize, kind: &Names, seed: u64) -> Asked {
     let b = with_gaps(size, kind, seed).bytes;
-    let name = vec![b'b'; 32];
+    let longest = u16::from_be_bytes([b[6], b[7]]);
+    let name = vec![b'b'; usize::from(longest) + 8 - 11];
     let mut after = b.clone();
     assert!(block::insert(&mut after, &name, 5).is_ok());
     assert_eq!(slots(&after), [slots(&b)[0] - slots(&b)[1] + 1, 0]);
