@@ -2,7 +2,7 @@
  * Pelunziwa: XFS V4 metadata, read and changed by proved code: inode cores, short-form and block directories, short-form
  * attributes. No call keeps state, allocates memory or reads beyond the bytes that it is lent, and each takes any bytes: what is
  * damaged is refused. Bytes are lent as a pointer, which must not be null even where the length is 0, and a length. Bytes that
- * may change must not overlap others lent to the same call. A call on a block takes up to 120 KiB of stack.
+ * may change must not overlap others lent to the same call. A call on a block takes up to 140 KiB of stack.
  *
  * `refusal`, or a plain uint32_t that a call gives, is 0 for done or the number of the first test that fails:
  *
