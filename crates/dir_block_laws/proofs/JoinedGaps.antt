@@ -128,7 +128,7 @@ replaced o u xs ms ys g i j a b c d =
     ∙ behind-all u ys (ins (named-by g) (into xs empty-table)) d
     ∙ sym (into-append xs (g ∷ ys) empty-table)
 
-laid-before : (e : Edition) (o p : ℕ) (rs : List Rec) → Laid e o rs → o + length (join rs) ≤ p → every (before p) (gaps rs) ≡ true
+pub laid-before : (e : Edition) (o p : ℕ) (rs : List Rec) → Laid e o rs → o + length (join rs) ≤ p → every (before p) (gaps rs) ≡ true
 laid-before e o p [] l h = refl
 laid-before e o p (r ∷ rs) l h =
     let s : length (r .raw ++ join rs) ≡ size r + length (join rs) = length-append (r .raw) (join rs) in

@@ -8,6 +8,8 @@ pub mod LastGap
 pub mod StoresTiled
 pub mod FewGaps
 pub mod JoinedGaps
+pub mod TablesJoined
+pub mod BothEnds
 pub mod TwoPairs
 pub mod UsedGap
 pub mod EditAnswers

@@ -16,18 +16,27 @@ use Rattle.dir_block_rules.specs.Walk.{is-place, walk-step}
 use Rattle.dir_block_rules.specs.Room.{touching}
 use Rattle.dir_block_rules.specs.Change.{best-of}
 
--- at offset o: the table of the gaps passed is ps, and the gap that ends at o starts at u and is k long (none: u is o, and k is 0)
-pub record Passing (e : Edition) (b : List ℕ) (o : ℕ) (ps : List Pair) (u k : ℕ) : Type 0 where
+-- a record starts at p, or the data ends there
+pub record Place (e : Edition) (b : List ℕ) (p : ℕ) : Type 0 where
   pub before : List Rec
   pub behind : List Rec
   pub all : records e b ≡ before ++ behind
-  pub place : e .header + length (join before) ≡ o
-  pub best : best-of 3 (gaps before) ≡ ps
-  pub touch-off : touching o before .off ≡ u
-  pub touch-size : size (touching o before) ≡ k
-  pub touch-end : u + k ≡ o
-  pub touch-from : e .header ≤ u
-  pub touch-mod : k % 8 ≡ 0
+  pub place : e .header + length (join before) ≡ p
+
+-- at place o: the table of the gaps before it is ps
+pub record Gaps-before (e : Edition) (b : List ℕ) (o : ℕ) (ps : List Pair) : Type 0 where
+  pub spot : Place e b o
+  pub best : best-of 3 (gaps (spot .before)) ≡ ps
+
+-- at place u: the table of the gaps behind it is qs
+pub record Gaps-behind (e : Edition) (b : List ℕ) (u : ℕ) (qs : List Pair) : Type 0 where
+  pub spot : Place e b u
+  pub best : best-of 3 (gaps (spot .behind)) ≡ qs
+
+-- the first place behind o is p
+pub record Next-place (e : Edition) (b : List ℕ) (o p : ℕ) : Type 0 where
+  pub on : o < p
+  pub first : (u : ℕ) → Place e b u → o < u → p ≤ u
 
 -- what a pass shows: the longest gaps, as many as there are pairs, and T
 pub record Scanned (e : Edition) (b : List ℕ) (ps : List Pair) (u k : ℕ) : Type 0 where
@@ -52,13 +61,6 @@ pub record Inside (e : Edition) (b : List ℕ) (o l : ℕ) : Type 0 where
   pub from : e .header ≤ o
   pub upto : o + l ≤ data-end b
   pub eights : l % 8 ≡ 0
-
--- a record starts at p, or the data ends there
-pub record Place (e : Edition) (b : List ℕ) (p : ℕ) : Type 0 where
-  pub before : List Rec
-  pub behind : List Rec
-  pub all : records e b ≡ before ++ behind
-  pub place : e .header + length (join before) ≡ p
 
 -- the step r from place p: what it says, and where it leads; no place lies between
 pub record Steps (e : Edition) (b : List ℕ) (p : ℕ) (r : Step) : Type 0 where
