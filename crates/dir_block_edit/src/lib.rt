@@ -432,7 +432,7 @@ fn insert_in(e: Edition, b: &mut [u8], name: &[u8], to: Target) -> usize
     if refused != 0 {
         return refused;
     }
-    insert_ready(e, b, to, name, name::hash(e, name))
+    insert_ready(e, b, to, name, name_words::hash(e, name))
 }
 
 // Removal in a block of an edition.
@@ -449,7 +449,7 @@ fn remove_in(e: Edition, b: &mut [u8], name: &[u8]) -> usize
     if refused != 0 {
         return refused;
     }
-    remove_ready(e, b, name, name::hash(e, name))
+    remove_ready(e, b, name, name_words::hash(e, name))
 }
 
 // Insert in a block of the V4 edition: 0, or the number of the refusal.

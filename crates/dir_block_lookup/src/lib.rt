@@ -156,7 +156,7 @@ fn lookup_in(e: Edition, b: &[u8], name: &[u8]) -> Looked
     if !name::legal(e, name) {
         return Looked::Refused(refusal::ASKED);
     }
-    lookup_ready(e, b, name, name::hash(e, name))
+    lookup_ready(e, b, name, name_words::hash(e, name))
 }
 
 // The lookup of a name in a block of the V4 edition.

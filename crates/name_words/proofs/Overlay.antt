@@ -124,7 +124,7 @@ module _ (a b c d : ℕ) where
       (word-first b 16 bc length-16 B S _ eb es (word-first c 8 bd (length-to-le 8 d) C U D ec eu ed))
 
 -- a turn of 32 bytes
-module _ (b : List ℕ) (known : (k : ℕ) → byte k b < 256) (i end : ℕ) (fits : end + 8 ≤ length b) (more-left : 32 < end - i) (p q r s : ℕ)
+module _ (b : List ℕ) (known : (k : ℕ) → byte k b < 256) (i end : ℕ) (fits : end ≤ length b) (more-left : 32 < end - i) (p q r s : ℕ)
     (ep : p ≡ le (part i 8 b)) (eq : q ≡ le (part (i + 8) 8 b)) (er : r ≡ le (part (i + 16) 8 b)) (es : s ≡ le (part (i + 24) 8 b)) where
   -- a word, and what stands behind it
   word : (o m w : ℕ) (l : List ℕ) → o + 8 ≤ end → w ≡ le (part o 8 b) → part (o + 8) m b ≡ l → part o (8 + m) b ≡ to-le 8 w ++ l
@@ -144,6 +144,11 @@ module _ (b : List ℕ) (known : (k : ℕ) → byte k b < 256) (i end : ℕ) (fi
   over-hash : (u v x y : ℕ) → hash-from 0 (bytes-32 (bitXor u p) (bitXor v q) (bitXor x r) (bitXor y s)) ≡ hash-from (hash-from 0 (bytes-32 u v x y)) (part i 32 b)
   over-hash u v x y = sym (ap (hash-from (hash-from 0 (bytes-32 u v x y))) at-32 ∙ hash-over u v x y p q r s)
 
+  pub chunk-hash : (u v x y : ℕ)
+      → hash-from (hash-from 0 (bytes-32 u v x y)) (part i (end - i) b)
+      ≡ hash-from (hash-from 0 (bytes-32 (bitXor u p) (bitXor v q) (bitXor x r) (bitXor y s))) (part (i + 32) (end - (i + 32)) b)
+  chunk-hash u v x y = hash-on b i end 32 (omega arith) (hash-from 0 (bytes-32 u v x y)) _ (over-hash u v x y)
+
   pub chunk-turn : (u v x y c P Q R S : ℕ)
       → marked P ≡ every legal-byte (to-le 8 p) → marked Q ≡ every legal-byte (to-le 8 q)
       → marked R ≡ every legal-byte (to-le 8 r) → marked S ≡ every legal-byte (to-le 8 s)
@@ -156,7 +161,7 @@ module _ (b : List ℕ) (known : (k : ℕ) → byte k b < 256) (i end : ℕ) (fi
       let e : marked (bitAnd P (bitAnd Q (bitAnd R S))) ≡ every legal-byte (bytes-32 p q r s) =
       marked-append legal-byte P _ (to-le 8 p) _ eP
       (marked-append legal-byte Q _ (to-le 8 q) _ eQ (marked-append legal-byte R S (to-le 8 r) (to-le 8 s) eR eS)) in (
-        hash-on b i end 32 (omega arith) (hash-from 0 (bytes-32 u v x y)) _ (over-hash u v x y),
+        chunk-hash u v x y,
         legal-on b i end 32 (omega arith) (marked c) _ (marked-more c _ _ (e ∙ ap (every legal-byte) (sym at-32))),
       )
 

@@ -6,6 +6,7 @@ use mathlib.Core.Bool.{Bool, false}
 use mathlib.Core.List.{List, []}
 use native.Mathlib.Omega.{arith}
 use lib.ListN.{length}
+use lib.Seq.{take-all}
 use Rattle.be.specs.Bytes.{part}
 use Rattle.be.specs.Lists.{every}
 use Rattle.be.proofs.Parts.{part-length}
@@ -34,3 +35,9 @@ module _ (e : Edition) (b : List ℕ) (i end : ℕ) where
   pub hash-is : (h : ℕ) → h ≡ hash-from 0 (part i (end - i) b) → h ≡ hash-of e (part i (end - i) b)
   unfolding hash-of
   hash-is h x = x
+
+-- a name by itself
+pub hash-whole : (e : Edition) (s : List ℕ) (h : ℕ) → h ≡ hash-from 0 (part 0 (length s - 0) s) → h ≡ hash-of e s
+hash-whole e s h x =
+    let z : length s - 0 ≡ length s = omega arith in
+    hash-is e s 0 (length s) h x ∙ ap (λ (n : ℕ). hash-of e (part 0 n s)) z ∙ ap (hash-of e) (take-all (length s) s (omega arith))

@@ -1,17 +1,19 @@
 -- The walk over a run of bytes by words: a turn, and the end.
 -- Assumes nothing.
-use Prim.Native.Nat.{ℕ, _+_, _-_, _≤_, _<_}
-use mathlib.Core.Path.{_≡_, sym, ap, _∙_}
+use Prim.Native.Nat.{ℕ, zero, suc, _+_, _-_, _*_, _/_, _^_, _≤_, _<_}
+use mathlib.Core.Path.{_≡_, sym, ap, ap₂, _∙_}
 use mathlib.Core.Bool.{Bool, _&&_, and-assoc}
 use mathlib.Core.List.{List, _++_}
+use native.Mathlib.Nat.{div-one}
 use native.Mathlib.Omega.{arith}
 use lib.Dec.{lit≤}
-use lib.ListN.{length}
+use lib.ListN.{length, drop}
+use lib.Pow.{shr-shr}
 use Rattle.be.specs.Bytes.{byte, part}
 use Rattle.be.specs.Lists.{every}
 use Rattle.be.specs.Words.{le, to-le}
 use Rattle.be.proofs.Bools.{every-append}
-use Rattle.be.proofs.Parts.{part-add}
+use Rattle.be.proofs.Parts.{part-add, drop-part}
 use Rattle.be.proofs.Words.{word-bytes}
 use Rattle.name.specs.Name.{hash-from, legal-byte}
 use Rattle.name.proofs.Hashing.{hash-append}
@@ -50,3 +52,23 @@ module _ (b : List ℕ) (i end : ℕ) where
 
     pub end-word : i ≤ end → end - i ≤ 8 → to-le (end - i) w ≡ left i
     end-word p q = word-bytes b known i (omega arith) (end - i) w q ew
+
+-- the last n bytes of the word before the end
+to-le-drop : (m n k w : ℕ) → k ≡ m + n → drop m (to-le k w) ≡ to-le n (w / 2 ^ (8 * m))
+unfolding to-le
+to-le-drop zero n k w h = let e : k ≡ n = omega arith in ap (λ (j : ℕ). to-le j w) e ∙ ap (to-le n) (sym (div-one w))
+to-le-drop (suc m) n zero w h = absurd (omega arith)
+to-le-drop (suc m) n (suc k) w h =
+    let e : 8 + 8 * m ≡ 8 * suc m = omega arith in
+    to-le-drop m n k (w / 256) (omega arith) ∙ ap (to-le n) (shr-shr w 8 (8 * m) ∙ ap (λ (j : ℕ). w / 2 ^ j) e)
+
+pub before-end : (b : List ℕ) → ((k : ℕ) → byte k b < 256) → (n w : ℕ) → n ≤ 8 → 8 ≤ length b → w ≡ le (part (length b - 8) 8 b)
+    → to-le n (w / 2 ^ (64 - 8 * n)) ≡ part (length b - n) n b
+before-end b known n w p q ew =
+    let k : 8 * (8 - n) ≡ 64 - 8 * n = omega arith in
+    let o : length b - 8 + (8 - n) ≡ length b - n = omega arith in
+    let r : 8 - (8 - n) ≡ n = omega arith in
+    sym (to-le-drop (8 - n) n 8 w (omega arith) ∙ ap (λ (j : ℕ). to-le n (w / 2 ^ j)) k)
+    ∙ ap (drop (8 - n)) (word-bytes b known (length b - 8) (omega arith) 8 w (lit≤ tt) ew)
+    ∙ drop-part b (length b - 8) 8 (8 - n) (omega arith)
+    ∙ ap₂ (λ (x y : ℕ). part x y b) o r

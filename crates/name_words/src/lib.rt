@@ -48,11 +48,18 @@ struct Read {
     hash: u32,
 }
 
+// The hash h with the eight bytes of the word w more.
+fn with_word(h: u32, w: u64) -> u32
+    ensures { λ r. ⌜ r ≡ hash-from h (to-le 8 w) ⌝ }
+{
+    name::rotated(h, 24) ^ hash_word(w)
+}
+
 // With the eight bytes of the word w more.
 fn next_word(w: u64, h: u32, c: u64) -> Read
     ensures { λ r. ⌜ (r .hash ≡ hash-from h (to-le 8 w)) × (marked (r .marks) ≡ (marked c && every legal-byte (to-le 8 w))) ⌝ }
 {
-    let hash = name::rotated(h, 24) ^ hash_word(w);
+    let hash = with_word(h, w);
     let m = c & marks(w);
     Read { marks: m, hash }
 }
@@ -216,6 +223,80 @@ pub fn number_legal_at(b: &[u8], o: usize) -> bool
 {
     let w = be::le64(b, o);
     (w != 0) & (w % 256 == 0)
+}
+
+// ---- the hash alone, of bytes that nothing need follow
+
+// The bytes up to a place, and their hash.
+struct Hashed {
+    at: usize,
+    hash: u32,
+}
+
+// Runs of 32, as long as more bytes are left.
+fn runs(s: &[u8]) -> Hashed
+    requires { ⌜ 0 < length (now s) ⌝ }
+    ensures { λ r. ⌜ (r .at < length (now (s .entry)))
+        × (hash-from 0 (part 0 (length (now (s .entry)) - 0) (now (s .entry)))
+        ≡ hash-from (r .hash) (part (r .at) (length (now (s .entry)) - r .at) (now (s .entry)))) ⌝ }
+{
+    let n = s.len();
+    let mut i = 0;
+    let mut u: u64 = 0;
+    let mut v: u64 = 0;
+    let mut x: u64 = 0;
+    let mut y: u64 = 0;
+    while 32 < n - i {
+        u = u ^ be::le64(s, i);
+        v = v ^ be::le64(s, i + 8);
+        x = x ^ be::le64(s, i + 16);
+        y = y ^ be::le64(s, i + 24);
+        i += 32;
+    }
+    let hash = folded(u, v, x, y);
+    Hashed { at: i, hash }
+}
+
+// The last n bytes, as the first of a word.
+fn end_word(s: &[u8], n: u32) -> u64
+    requires { ⌜ (1 ≤ n) × (n ≤ 8) × (8 ≤ length (now s)) ⌝ }
+    ensures { λ r. ⌜ to-le n r ≡ part (length (now (s .entry)) - n) n (now (s .entry)) ⌝ }
+{
+    be::le64(s, s.len() - 8) >> (64 - 8 * n)
+}
+
+// The hash h with the first n bytes of the word w more.
+fn with_first(h: u32, w: u64, n: u32) -> u32
+    requires { ⌜ (1 ≤ n) × (n ≤ 8) ⌝ }
+    ensures { λ r. ⌜ r ≡ hash-from h (to-le n w) ⌝ }
+{
+    name::rotated(h, 7 * n % 32) ^ hash_word(moved(w, n))
+}
+
+// The hash h0 with the bytes from i0 on, eight a turn.
+fn hash_rest(s: &[u8], i0: usize, h0: u32) -> u32
+    requires { ⌜ (i0 < length (now s)) × (8 ≤ length (now s)) ⌝ }
+    ensures { λ r. ⌜ r ≡ hash-from h0 (part i0 (length (now (s .entry)) - i0) (now (s .entry))) ⌝ }
+{
+    let mut i = i0;
+    let mut h = h0;
+    while 8 < s.len() - i {
+        h = with_word(h, be::le64(s, i));
+        i += 8;
+    }
+    let n = (s.len() - i) as u32;
+    with_first(h, end_word(s, n), n)
+}
+
+// The hash of a name: from 33 bytes on by runs of 32.
+pub fn hash(e: Edition, s: &[u8]) -> usize
+    ensures { λ r. ⌜ (r ≡ hash-of e (now (s .entry))) × (r < 4294967296) ⌝ }
+{
+    if s.len() <= 32 {
+        return name::hash(e, s);
+    }
+    let g = runs(s);
+    name::wide(hash_rest(s, g.at, g.hash))
 }
 
 // ---- a second hash of a name

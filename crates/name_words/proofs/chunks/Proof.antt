@@ -1,4 +1,4 @@
-use Prim.Native.Nat.{ℕ, _+_, _-_, _≤_, _<_}
+use Prim.Native.Nat.{ℕ, _-_, _≤_, _<_}
 use mathlib.Core.Path.{_≡_, sym, ap, _∙_}
 use mathlib.Core.Bool.{_&&_}
 use native.Mathlib.Omega.{arith}
@@ -29,7 +29,7 @@ loop-again c =
     let a = o .before .before .args in
     let l = o .loop in
     let k : (n : ℕ) → byte n (a .b .now) < 256 = λ n. o .before .shared-slice-known .given n .fits in
-    let f : a .end + 8 ≤ length (a .b .now) = omega arith in
+    let f : a .end ≤ length (a .b .now) = omega arith in
     let p = d .before .before .before .le64 in
     let q = d .before .before .le642 in
     let r = d .before .le643 in
