@@ -15,7 +15,7 @@ use Rattle.be.specs.Bytes.{byte, part}
 use Rattle.be.specs.Words.{le}
 use Rattle.be.proofs.Parts.{piece}
 use Rattle.be.proofs.Words.{word-bytes}
-use Rattle.dir_block_twice.specs.Twice.{lex, Alike, name-of, addr-at, live-at, sorts-before}
+use Rattle.dir_block_twice.specs.Twice.{lex, Undecided, name-of, addr-at, live-at, sorts-before}
 
 pub lex-strict : (x : List ℕ) → lex x x ≡ false
 unfolding lex
@@ -45,8 +45,8 @@ lex-behind [] x y = refl
 lex-behind (a ∷ p) x y = rw (le-ltb a a (omega arith), eq-eqb a a refl) (lex-behind p x y)
 
 -- a walk over two names
-pub alike-word : (x y : List ℕ) → ((k : ℕ) → byte k x < 256) → ((k : ℕ) → byte k y < 256) → (k w u : ℕ) → Alike x y k
-    → k + 8 ≤ length x → k + 8 ≤ length y → w ≡ le (part k 8 x) → u ≡ le (part k 8 y) → w ≡ u → Alike x y (k + 8)
+pub alike-word : (x y : List ℕ) → ((k : ℕ) → byte k x < 256) → ((k : ℕ) → byte k y < 256) → (k w u : ℕ) → Undecided x y k
+    → k + 8 ≤ length x → k + 8 ≤ length y → w ≡ le (part k 8 x) → u ≡ le (part k 8 y) → w ≡ u → Undecided x y (k + 8)
 alike-word x y kx ky k w u a l r p q e =
     let m : part k 8 x ≡ part k 8 y = sym (word-bytes x kx k l 8 w (omega arith) p) ∙ word-bytes y ky k r 8 w (omega arith) (e ∙ q) in
     let f : drop k x ≡ part k 8 y ++ drop (k + 8) x = sym (piece k 8 (k + 8) x refl) ∙ ap (λ (z : List ℕ). z ++ drop (k + 8) x) m in
@@ -57,7 +57,7 @@ alike-word x y kx ky k w u a l r p q e =
     }
 
 module _ (x y : List ℕ) where
-  pub alike-start : Alike x y 0
+  pub alike-start : Undecided x y 0
   alike-start = record { left = omega arith; right = omega arith; so-far = refl }
 
   abbrev both : ℕ → Bool
@@ -69,7 +69,7 @@ module _ (x y : List ℕ) where
   pub both-right : (k : ℕ) → both k ≡ true → k < length y
   both-right k h = ltb-true k (length y) (and-right (ltb k (length x)) (ltb k (length y)) h)
 
-  module _ (k : ℕ) (w : Alike x y k) where
+  module _ (k : ℕ) (w : Undecided x y k) where
     ended : (z : List ℕ) → k ≤ length z → length z ≤ k → drop k z ≡ []
     ended z l u = let q : k ≡ length z = omega arith in ap (λ (m : ℕ). drop m z) q ∙ drop-length z
 
@@ -96,7 +96,7 @@ module _ (x y : List ℕ) where
       pub alike-differ : (getD x k 0 ≡ getD y k 0 → ⊥) → ltb (getD x k 0) (getD y k 0) ≡ lex x y
       alike-differ d = sym (heads ∙ by-cases (ltb (getD x k 0) (getD y k 0)) (λ q. rw q) (λ q. rw (q, ne-eqb (getD x k 0) (getD y k 0) d)))
 
-      pub alike-on : getD x k 0 ≡ getD y k 0 → Alike x y (k + 1)
+      pub alike-on : getD x k 0 ≡ getD y k 0 → Undecided x y (k + 1)
       alike-on d = record {
         left = omega (arith, u);
         right = omega (arith, l);

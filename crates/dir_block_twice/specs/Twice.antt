@@ -90,7 +90,7 @@ lex [] (y ∷ ys) = true
 lex (x ∷ xs) (y ∷ ys) = ltb x y || (eqb x y && lex xs ys)
 
 -- the first k bytes of both say nothing of their order
-pub record Alike (x y : List ℕ) (k : ℕ) : Type 0 where
+pub record Undecided (x y : List ℕ) (k : ℕ) : Type 0 where
   pub left : k ≤ length x
   pub right : k ≤ length y
   pub so-far : lex x y ≡ lex (drop k x) (drop k y)

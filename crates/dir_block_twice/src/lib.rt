@@ -8,7 +8,7 @@ ghost use lib.ListN.{length, getD, set};
 ghost use Rattle.be.specs.Bytes.{byte};
 ghost use Rattle.name.specs.Name.{same-name};
 ghost use Rattle.name_words.specs.Words.{key-of};
-ghost use Rattle.dir_block_twice.specs.Twice.{slots-from, hash-at, addr-at, name-of, clash-from, runs-on, follows, Marked, Noted, once-in, Reach, lex, Alike, live-at, sorts-before, Ascends, Placed, Ranked, most-slots};
+ghost use Rattle.dir_block_twice.specs.Twice.{slots-from, hash-at, addr-at, name-of, clash-from, runs-on, follows, Marked, Noted, once-in, Reach, lex, Undecided, live-at, sorts-before, Ascends, Placed, Ranked, most-slots};
 use edition::Edition;
 
 // The hash of slot i, of those at t.
@@ -230,7 +230,7 @@ fn least(x: usize, y: usize) -> usize
 
 // How many bytes at the start of both say nothing of their order, by eights: they are the same.
 fn same_start(x: &[u8], y: &[u8]) -> usize
-    ensures { λ r. ⌜ Alike (now (x .entry)) (now (y .entry)) r ⌝ }
+    ensures { λ r. ⌜ Undecided (now (x .entry)) (now (y .entry)) r ⌝ }
 {
     let n = least(x.len(), y.len());
     let mut k = 0;

@@ -21,7 +21,7 @@ unfoldable pub bytes-32 : ℕ → ℕ → ℕ → ℕ → List ℕ
 bytes-32 a b c d = to-le 8 a ++ (to-le 8 b ++ (to-le 8 c ++ to-le 8 d))
 
 -- of the bytes from i up to end, those up to a place have been read, and shown these marks and this hash
-pub record Reads (b : List ℕ) (i end at marks hash : ℕ) : Type 0 where
+pub record Half-read (b : List ℕ) (i end at marks hash : ℕ) : Type 0 where
   pub short : at < end
   pub hashed : hash-from 0 (part i (end - i) b) ≡ hash-from hash (part at (end - at) b)
   pub judged : every legal-byte (part i (end - i) b) ≡ (marked marks && every legal-byte (part at (end - at) b))

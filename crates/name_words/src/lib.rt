@@ -7,7 +7,7 @@ ghost use Rattle.be.specs.Lists.{every};
 ghost use Rattle.be.specs.Bytes.{part, field};
 ghost use Rattle.be.specs.Words.{le, to-le};
 ghost use Rattle.name.specs.Name.{hash-from, hash-of, legal-byte, legal-name, legal-number};
-ghost use Rattle.name_words.specs.Words.{marked, bytes-32, Reads, mix, key-from, key-of};
+ghost use Rattle.name_words.specs.Words.{marked, bytes-32, Half-read, mix, key-from, key-of};
 use edition::Edition;
 
 // A word has eight lanes of eight bits, one for each byte. Of every lane: the bits below the highest, the highest, and "/".
@@ -130,7 +130,7 @@ struct Begun {
 // As long as more than 32 bytes are left: runs of 32 are laid over each other, and hashed once.
 fn chunks(b: &[u8], i0: usize, end: usize) -> Begun
     requires { ⌜ (i0 < end) × (end + 8 ≤ length (now b)) ⌝ }
-    ensures { λ r. ⌜ Reads (now (b .entry)) i0 end (r .at) (r .marks) (r .hash) ⌝ }
+    ensures { λ r. ⌜ Half-read (now (b .entry)) i0 end (r .at) (r .marks) (r .hash) ⌝ }
 {
     let mut i = i0;
     let mut m = HIGH_BITS;
@@ -161,7 +161,7 @@ fn chunks(b: &[u8], i0: usize, end: usize) -> Begun
 // The same, and nothing is hashed where there is no run of 32.
 fn begin(b: &[u8], i0: usize, end: usize) -> Begun
     requires { ⌜ (i0 < end) × (end + 8 ≤ length (now b)) ⌝ }
-    ensures { λ r. ⌜ Reads (now (b .entry)) i0 end (r .at) (r .marks) (r .hash) ⌝ }
+    ensures { λ r. ⌜ Half-read (now (b .entry)) i0 end (r .at) (r .marks) (r .hash) ⌝ }
 {
     if end - i0 <= 32 {
         return Begun {

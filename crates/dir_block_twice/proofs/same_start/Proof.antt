@@ -2,13 +2,13 @@ use Prim.Native.Nat.{_-_, _≤_}
 use native.Mathlib.Omega.{arith}
 use borrow.Author.Needs.{needs}
 use lib.ListN.{length}
-use Rattle.dir_block_twice.specs.Twice.{Alike}
+use Rattle.dir_block_twice.specs.Twice.{Undecided}
 use Rattle.dir_block_twice.proofs.NameOrder.{alike-start, alike-word}
 use Rattle.dir_block_twice.proofs.same_start.Statement.{statement}
 use Rattle.dir_block_twice.proofs.same_start.Tie as tie
 
 abbrev Inv-loop : tie.InvT-loop
-Inv-loop x y n k₀ k = Alike x y k × (k ≤ n)
+Inv-loop x y n k₀ k = Undecided x y k × (k ≤ n)
 
 abbrev μ-loop : tie.MeasureT-loop
 μ-loop x y n k₀ k = length x - k

@@ -3,14 +3,14 @@ use borrow.Author.Needs.{needs}
 use Prim.Native.Nat.{_-_}
 use denote.Ref.{now}
 use lib.ListN.{length}
-use Rattle.dir_block_twice.specs.Twice.{Alike}
+use Rattle.dir_block_twice.specs.Twice.{Undecided}
 use Rattle.dir_block_twice.proofs.NameOrder.{both-left, both-right, alike-differ, alike-on, alike-end}
 use Rattle.dir_block_twice.proofs.sooner.Statement.{statement}
 use Rattle.dir_block_twice.proofs.sooner.Tie as tie
 
 abbrev Inv-loop : tie.InvT-loop
 Inv-loop x y k₀ k =
-    Alike x y k
+    Undecided x y k
 
 abbrev μ-loop : tie.MeasureT-loop
 μ-loop x y k₀ k =
