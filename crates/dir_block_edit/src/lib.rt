@@ -17,7 +17,7 @@ ghost use Rattle.dir_block_rules.specs.Change.{longest, gap-start-before, gap-e
 ghost use Rattle.dir_block_laws.specs.Tiled.{Ready, Tiled};
 ghost use Rattle.dir_block_laws.specs.SlotIndex.{Spot};
 ghost use Rattle.dir_block_laws.specs.Pass.{Entry-at, Inside, Scanned};
-ghost use Rattle.dir_block_scan.specs.Table.{top};
+ghost use Rattle.dir_block_scan.specs.Table.{top, first};
 ghost use Rattle.dir_block_edit.specs.Chosen.{chosen};
 ghost use Rattle.dir_block_edit.specs.Refusal.{asked-of};
 use dir::Target;
@@ -329,7 +329,7 @@ fn choose_ab(
     requires { ⌜ Sane e × Ready e (now b) ⌝ }
     requires { ⌜ (end ≡ data-end (now b)) × ((count ≡ count-of (now b)) × ((stale ≡ stale-of (now b)) × (0 < stale))) ⌝ }
     requires { ⌜ Spot (now b) h p ⌝ }
-    requires { ⌜ Scanned e (now b) (top g) (g .tat) (g .tlen) ⌝ }
+    requires { ⌜ Scanned e (now b) (first g) (g .tat) (g .tlen) ⌝ }
     requires { ⌜ (h ≡ hash-of e (now name)) × ((need ≡ entry-size e (length (now name))) × (length (now name) < 256)) ⌝ }
     ensures { λ r. ⌜ (r ≡ has-room e (now (b .entry)) (now (name .entry))) × (now (b .exit) ≡ chosen e r (now (b .entry)) (now (name .entry)) to) ⌝ }
 {
@@ -364,12 +364,13 @@ fn choose(
     requires { ⌜ (h ≡ hash-of e (now name)) × (length (now name) < 256) ⌝ }
     ensures { λ r. ⌜ (r ≡ has-room e (now (b .entry)) (now (name .entry))) × (now (b .exit) ≡ chosen e r (now (b .entry)) (now (name .entry)) to) ⌝ }
 {
-    let g = dir_block_scan::known(e, &b[..], end);
     let need = edition::entry_size(e, name.len());
     let p = dir_block_index::spot(e, &b[..], end, count, h);
     if 0 < stale {
+        let g = dir_block_scan::longest(e, &b[..], end);
         return choose_ab(e, b, end, count, stale, p, g, h, need, to, name);
     }
+    let g = dir_block_scan::known(e, &b[..], end);
     if g.o1 == g.tat {
         return choose_cd(e, b, end, count, p, g, g.o2, g.l2, h, need, to, name);
     }

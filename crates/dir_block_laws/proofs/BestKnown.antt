@@ -37,7 +37,7 @@ laid-solid e p o (r ∷ rs) l =
     by-cases (p r) (λ q. rw q (every-cons solid r (keep p rs) (lt-ltb 0 (size r) (omega (arith, l .1 .least))) s)) (λ q. rw q s)
 
 -- a bound on all gaps is one on the gap that a pair names
-named-most : (p : Pair) (n : ℕ) (gs : List Rec) → some-of (is-gap-of p) gs ≡ true → every (λ r. leb (size r) n) gs ≡ true → p .long ≤ n
+pub named-most : (p : Pair) (n : ℕ) (gs : List Rec) → some-of (is-gap-of p) gs ≡ true → every (λ r. leb (size r) n) gs ≡ true → p .long ≤ n
 named-most p n [] h m = absurd (false≢true h)
 named-most p n (g ∷ gs) h m =
     or-cases (is-gap-of p g) (some-of (is-gap-of p) gs) h
@@ -66,7 +66,7 @@ module _ (p : Pair) (ps : List Pair) (g : Rec) (gs : List Rec) (h : best-ok (p �
   ok-rest = and-right (named && most) (best-ok ps (besides (p .from) (g ∷ gs))) h
 
 -- no gap is longer than the first pair
-ok-bound : (p : Pair) (ps : List Pair) (gs : List Rec) → best-ok (p ∷ ps) gs ≡ true → every (λ r. leb (size r) (p .long)) gs ≡ true
+pub ok-bound : (p : Pair) (ps : List Pair) (gs : List Rec) → best-ok (p ∷ ps) gs ≡ true → every (λ r. leb (size r) (p .long)) gs ≡ true
 ok-bound p ps [] h = refl
 ok-bound p ps (g ∷ gs) h = ok-most p ps g gs h
 

@@ -155,7 +155,7 @@ three a b c x y l m p q r =
     (λ j. omega (arith, eqb-true a y i, eqb-true b y j)))
 
 -- what BEST says of the other pairs
-rest-of : (p : Pair) (ps : List Pair) (gs : List Rec) → best-ok (p ∷ ps) gs ≡ true → best-ok ps (besides (p .from) gs) ≡ true
+pub rest-of : (p : Pair) (ps : List Pair) (gs : List Rec) → best-ok (p ∷ ps) gs ≡ true → best-ok ps (besides (p .from) gs) ≡ true
 rest-of p ps [] h = no-others p ps h
 rest-of p ps (g ∷ gs) h = ok-rest p ps g gs h
 

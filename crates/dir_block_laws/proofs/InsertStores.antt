@@ -157,16 +157,14 @@ second-best k gs p o l ps q = first-best k (besides (longest gs .off) gs) o l ps
         step : (hs : List Rec) → best-of (suc (suc k)) hs ≡ pair (longest hs .off) (size (longest hs)) ∷ best-of (suc k) (besides (longest hs .off) hs)
         step hs = best-tail (suc k) hs
 
-module _ (e : Edition) (b n : List ℕ) (i : Target) (o₁ l₁ o₂ l₂ u k s E : ℕ) (sc : Scanned e b (pair o₁ l₁ ∷ pair o₂ l₂ ∷ []) u k)
+-- from the longest gap o₁, l₁ and those of ps
+module _ (e : Edition) (b n : List ℕ) (i : Target) (o₁ l₁ : ℕ) (ps : List Pair) (u k s E : ℕ) (sc : Scanned e b (pair o₁ l₁ ∷ ps) u k)
     (se : s ≡ stale-of b) (ee : E ≡ entry-size e (length n)) where
   gs : List Rec
   gs = gaps (records e b)
 
   one : (longest (gaps (records e b)) .off ≡ o₁) × (size (longest (gaps (records e b))) ≡ l₁)
-  one = first-best 1 (gaps (records e b)) o₁ l₁ (pair o₂ l₂ ∷ []) (sc .best)
-
-  two : (longest (besides (longest (gaps (records e b)) .off) (gaps (records e b))) .off ≡ o₂) × (size (longest (besides (longest (gaps (records e b)) .off) (gaps (records e b)))) ≡ l₂)
-  two = second-best 0 (gaps (records e b)) (pair o₁ l₁) o₂ l₂ [] (sc .best)
+  one = first-best (length ps) (gaps (records e b)) o₁ l₁ ps (sc .best)
 
   -- the longest gap other than T
   pub other-same : (o₁ ≡ u → ⊥) → (longest (other-gaps (room-of e b n)) .off ≡ o₁) × (size (longest (other-gaps (room-of e b n))) ≡ l₁)
@@ -175,12 +173,6 @@ module _ (e : Edition) (b n : List ℕ) (i : Target) (o₁ l₁ o₂ l₂ u k s 
       let z : longest (besides (touching (data-end b) (records e b) .off) (gaps (records e b))) ≡ longest (gaps (records e b)) =
       longest-besides (touching (data-end b) (records e b) .off) (gaps (records e b)) (λ w. h (sym (one .0) ∙ w ∙ sc .touch-off)) in
       (ap (λ (r : Rec). r .off) z ∙ one .0, ap (λ (r : Rec). size r) z ∙ one .1)
-
-  pub other-next : o₁ ≡ u → (longest (other-gaps (room-of e b n)) .off ≡ o₂) × (size (longest (other-gaps (room-of e b n))) ≡ l₂)
-  unfolding room-of
-  other-next h =
-      let z : touching (data-end b) (records e b) .off ≡ longest (gaps (records e b)) .off = sc .touch-off ∙ sym h ∙ sym (one .0) in
-      (ap (λ (x : ℕ). longest (besides x (gaps (records e b))) .off) z ∙ two .0, ap (λ (x : ℕ). size (longest (besides x (gaps (records e b))))) z ∙ two .1)
 
   holds-longest : (hs : List Rec) → some-of (λ g. leb (entry-size e (length n)) (size g)) hs ≡ leb (entry-size e (length n)) (size (longest hs))
   holds-longest hs = longest-holds (entry-size e (length n)) hs (omega (arith, entry-size-least e (length n)))
@@ -288,6 +280,16 @@ module _ (e : Edition) (b n : List ℕ) (i : Target) (o₁ l₁ o₂ l₂ u k s 
         let v : case-c (room-of e b n) ≡ false = need-c l ol ∙ by-cases (leb 8 k) (λ q. rw (eq-eqb s 0 z, q, lt-leb E l h)) (λ q. rw (eq-eqb s 0 z, q)) in
         let w : case-d (room-of e b n) ≡ false = need-d ∙ rw (eq-eqb s 0 z, lt-leb (E + 8) k m) in
         ap₂ (λ (p q : Bool). p || q || case-c (room-of e b n) || case-d (room-of e b n)) not-a not-b ∙ ap₂ (λ (p q : Bool). p || q) v w
+
+-- T is the longest gap, and the second pair the longest other than it
+pub other-next : (e : Edition) (b n : List ℕ) (o₁ l₁ o₂ l₂ u k : ℕ) → Scanned e b (pair o₁ l₁ ∷ pair o₂ l₂ ∷ []) u k → o₁ ≡ u
+    → (longest (other-gaps (room-of e b n)) .off ≡ o₂) × (size (longest (other-gaps (room-of e b n))) ≡ l₂)
+unfolding room-of
+other-next e b n o₁ l₁ o₂ l₂ u k sc h =
+    let one = first-best 1 (gaps (records e b)) o₁ l₁ (pair o₂ l₂ ∷ []) (sc .best) in
+    let two = second-best 0 (gaps (records e b)) (pair o₁ l₁) o₂ l₂ [] (sc .best) in
+    let z : touching (data-end b) (records e b) .off ≡ longest (gaps (records e b)) .off = sc .touch-off ∙ sym h ∙ sym (one .0) in
+    (ap (λ (x : ℕ). longest (besides x (gaps (records e b))) .off) z ∙ two .0, ap (λ (x : ℕ). size (longest (besides x (gaps (records e b))))) z ∙ two .1)
 
 -- ---- where a gap lies
 

@@ -5,6 +5,7 @@ pub mod RecordPass
 pub mod SlotSearch
 pub mod GapsBeside
 pub mod LastGap
+pub mod LongestGap
 pub mod StoresTiled
 pub mod FewGaps
 pub mod JoinedGaps

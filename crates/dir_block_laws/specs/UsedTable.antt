@@ -34,7 +34,7 @@ left-c n a c = less n a ∷ shorter c ∷ []
 abbrev pub left-d : ℕ → Pair → Pair → List Pair
 left-d n a c = a ∷ less n (shorter c) ∷ []
 
--- the gaps that are left, in offset order, where there is room: without stale slots T is then at least 8 long, and so is c. A pair of no
+-- the gaps that are left, in offset order, where there is room: without stale slots T is then at least 8 long, and c is T. A pair of no
 -- bytes changes no table
 unfoldable pub left-pairs : ℕ → ℕ → ℕ → List Pair → List Pair
 left-pairs n s end [] = []
@@ -44,5 +44,6 @@ left-pairs n s end (a ∷ c ∷ ps) =
     (cond (leb n (a .long) || leb n (c .long)) (left-a n a c) (left-b n (8 * (s - 1)) end a c))
     (cond (leb n (a .long)) (left-c n a c) (left-d n a c))
 
+-- the table of what is left
 unfoldable pub used-table : ℕ → ℕ → ℕ → List Pair → List Pair
 used-table n s end ps = ins-all (left-pairs n s end ps) empty-table

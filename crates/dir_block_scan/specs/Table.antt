@@ -8,10 +8,14 @@ use Rattle.dir_block_scan.specs.declared.Scan.{Scan}
 abbrev pub table : Scan → List Pair
 table s = pair (s .o1) (s .l1) ∷ pair (s .o2) (s .l2) ∷ pair (s .o3) (s .l3) ∷ []
 
--- the two longest gaps: all that the room rule asks
+-- the longest gap: all that the room rule asks with stale slots
+abbrev pub first : Scan → List Pair
+first s = pair (s .o1) (s .l1) ∷ []
+
+-- the first two pairs: the two longest gaps, all that it asks without
 abbrev pub top : Scan → List Pair
 top s = pair (s .o1) (s .l1) ∷ pair (s .o2) (s .l2) ∷ []
 
 -- the numbers of these two are of 2 bytes, as those that a block stores
-abbrev pub Two-bytes : Scan → Type 0
-Two-bytes s = (s .o1 < 65536) × (s .l1 < 65536) × (s .o2 < 65536) × (s .l2 < 65536)
+abbrev pub Pairs-small : Scan → Type 0
+Pairs-small s = (s .o1 < 65536) × (s .l1 < 65536) × (s .o2 < 65536) × (s .l2 < 65536)

@@ -4,20 +4,20 @@ ghost use mathlib.Core.Path.{_≡_};
 ghost use Prim.Native.Nat.{_+_, _-_, _≤_, _<_};
 ghost use mathlib.Core.Bool.{cond};
 ghost use mathlib.Core.List.{List, [], _∷_};
-ghost use lib.ListN.{length};
+ghost use lib.ListN.{length, drop};
 ghost use Rattle.be.specs.Bytes.{put};
 ghost use Rattle.edition.specs.Edition.{entry-size, Sane};
-ghost use Rattle.dir_block_rules.specs.Record.{gaps};
+ghost use Rattle.dir_block_rules.specs.Record.{gaps, says, size};
 ghost use Rattle.dir_block_rules.specs.Block.{records, data-end};
 ghost use Rattle.dir_block_rules.specs.Verdict.{Pair, pair, best-pairs};
-ghost use Rattle.dir_block_rules.specs.Change.{best-of, with-best, pair-bytes};
+ghost use Rattle.dir_block_rules.specs.Change.{longest, best-of, with-best, pair-bytes};
 ghost use Rattle.dir_block_laws.specs.Tiled.{Tiled, Ready};
 ghost use Rattle.dir_block_laws.specs.Falls.{falls};
 ghost use Rattle.dir_block_laws.specs.BestSoFar.{ins, ins-all};
 ghost use Rattle.dir_block_laws.specs.JoinedTable.{empty-table, joined-table, in-order};
 ghost use Rattle.dir_block_laws.specs.UsedTable.{left-a, left-b, left-c, left-d, used-table};
 ghost use Rattle.dir_block_laws.specs.Pass.{Place, Gaps-before, Gaps-behind, Next-place, Scanned};
-ghost use Rattle.dir_block_scan.specs.Table.{table, top, Two-bytes};
+ghost use Rattle.dir_block_scan.specs.Table.{table, top, first, Pairs-small};
 use edition::Edition;
 
 // Where a walk stands; the three longest gaps so far, as offset and length; the gap at the slots (none: the data's end, and 0).
@@ -132,24 +132,41 @@ fn backward(e: Edition, b: &[u8], g: Scan, o: usize) -> Scan
     r
 }
 
-// The pairs of s, with the gap at the slots: the last record starts where its tag says.
+// A gap, or none: where it starts, and how long it is.
+struct Gap {
+    at: usize,
+    len: usize,
+}
+
+// The gap at the slots: the last record starts where its tag says.
+fn last_gap(e: Edition, b: &[u8], end: usize) -> Gap
+    requires { ⌜ Sane e × Tiled e (now b) ⌝ }
+    requires { ⌜ end ≡ data-end (now b) ⌝ }
+    ensures { λ r. ⌜ Scanned e (now (b .entry)) [] (r .at) (r .len) ⌝ }
+{
+    let mut r = Gap { at: end, len: 0 };
+    if end == e.header {
+        return r;
+    }
+    let p = be::be16(b, end - 2);
+    if be::be16(b, p) == 65535 {
+        r.at = p;
+        r.len = end - p;
+    }
+    r
+}
+
+// The pairs of s, with the gap at the slots.
 fn with_last(e: Edition, b: &[u8], end: usize, s: Scan) -> Scan
     requires { ⌜ Sane e × Tiled e (now b) ⌝ }
     requires { ⌜ end ≡ data-end (now b) ⌝ }
     ensures { λ r. ⌜ (table r ≡ table s)
         × ((ps : List Pair) → best-of (length ps) (gaps (records e (now (b .entry)))) ≡ ps → Scanned e (now (b .entry)) ps (r .tat) (r .tlen)) ⌝ }
 {
+    let t = last_gap(e, b, end);
     let mut r = s;
-    r.tat = end;
-    r.tlen = 0;
-    if end == e.header {
-        return r;
-    }
-    let p = be::be16(b, end - 2);
-    if be::be16(b, p) == 65535 {
-        r.tat = p;
-        r.tlen = end - p;
-    }
+    r.tat = t.at;
+    r.tlen = t.len;
     r
 }
 
@@ -173,7 +190,7 @@ pub fn pass(e: Edition, b: &[u8], end: usize) -> Scan
 // The pairs that the block stores.
 pub fn stored(e: Edition, b: &[u8]) -> Scan
     requires { ⌜ Sane e × (e .header ≤ length (now b)) ⌝ }
-    ensures { λ r. ⌜ (table r ≡ best-pairs e (now (b .entry))) × Two-bytes r ⌝ }
+    ensures { λ r. ⌜ (table r ≡ best-pairs e (now (b .entry))) × Pairs-small r ⌝ }
 {
     let o1 = be::be16(b, e.best);
     let l1 = be::be16(b, e.best + 2);
@@ -248,6 +265,73 @@ pub fn known(e: Edition, b: &[u8], end: usize) -> Scan
         return with_last(e, b, end, s);
     }
     pass(e, b, end)
+}
+
+// How long the record at o is.
+fn record_len(e: Edition, b: &[u8], o: usize) -> usize
+    requires { ⌜ Sane e × (o + 8 < length (now b)) ⌝ }
+    ensures { λ r. ⌜ r ≡ says e (drop o (now (b .entry))) ⌝ }
+{
+    if be::be16(b, o) == 65535 {
+        return be::be16(b, o + 2);
+    }
+    let c = be::be8(b, o + 8);
+    edition::entry_size(e, c)
+}
+
+// Where the first gap of l bytes starts, which is as long as the longest: a walk that ends there.
+fn first_of(e: Edition, b: &[u8], end: usize, l: usize) -> usize
+    requires { ⌜ Sane e × Tiled e (now b) ⌝ }
+    requires { ⌜ end ≡ data-end (now b) ⌝ }
+    requires { ⌜ (size (longest (gaps (records e (now b)))) ≡ l) × (0 < l) ⌝ }
+    ensures { λ r. ⌜ r ≡ longest (gaps (records e (now (b .entry)))) .off ⌝ }
+{
+    let mut o = e.header;
+    while o < end {
+        let n = record_len(e, b, o);
+        if (n == l) & (be::be16(b, o) == 65535) {
+            return o;
+        }
+        o = o + n;
+    }
+    o
+}
+
+// Where the longest gap starts, the first of those that are as long, by the stored pairs s. These may be in any order among equals, so
+// the lower offset counts where two are as long, and a walk is made where all three are: a gap that is not stored may be as long.
+fn longest_start(e: Edition, b: &[u8], end: usize, s: Scan) -> usize
+    requires { ⌜ Sane e × Ready e (now b) ⌝ }
+    requires { ⌜ (end ≡ data-end (now b)) × (table s ≡ best-pairs e (now b)) ⌝ }
+    ensures { λ r. ⌜ r ≡ longest (gaps (records e (now (b .entry)))) .off ⌝ }
+{
+    if s.l1 == 0 {
+        return s.o1;
+    }
+    if s.l2 < s.l1 {
+        return s.o1;
+    }
+    if s.l2 <= s.l3 {
+        return first_of(e, b, end, s.l1);
+    }
+    if s.o1 < s.o2 {
+        return s.o1;
+    }
+    s.o2
+}
+
+// The longest gap of an accepted block, and the gap at the slots.
+pub fn longest(e: Edition, b: &[u8], end: usize) -> Scan
+    requires { ⌜ Sane e × Ready e (now b) ⌝ }
+    requires { ⌜ end ≡ data-end (now b) ⌝ }
+    ensures { λ r. ⌜ Scanned e (now (b .entry)) (first r) (r .tat) (r .tlen) ⌝ }
+{
+    let s = stored(e, b);
+    let t = last_gap(e, b, end);
+    let mut r = s;
+    r.o1 = longest_start(e, b, end, s);
+    r.tat = t.at;
+    r.tlen = t.len;
+    r
 }
 
 // Writes the table at o.
@@ -365,9 +449,9 @@ fn left_d(d: Scan, n: usize) -> Scan
     two(d.o1, d.l1, d.o2 + n, minus(l, n))
 }
 
-// By the room rule, where there is room: without stale slots T is then at least 8 long, and so is the second pair.
+// By the room rule, where there is room: without stale slots T is then at least 8 long, and is the second pair.
 fn used(s: Scan, n: usize, stale: usize, end: usize) -> Scan
-    requires { ⌜ Two-bytes s × ((n < 280) × ((stale < 8192) × (end ≤ 65536))) ⌝ }
+    requires { ⌜ Pairs-small s × ((n < 280) × ((stale < 8192) × (end ≤ 65536))) ⌝ }
     ensures { λ r. ⌜ table r ≡ used-table n stale end (in-order (pair (s .o1) (s .l1)) (pair (s .o2) (s .l2))) ⌝ }
 {
     let d = ordered(s);
@@ -387,7 +471,7 @@ fn used(s: Scan, n: usize, stale: usize, end: usize) -> Scan
 // and some of them were stale. Without a third pair the first two named all gaps, and no pass is made.
 pub fn used_table(e: Edition, b: &mut [u8], s: Scan, end: usize, stale: usize, n: usize)
     requires { ⌜ Sane e × Tiled e (now b) ⌝ }
-    requires { ⌜ Two-bytes s × ((n < 256) × ((stale < 8192) × (end ≤ 65536))) ⌝ }
+    requires { ⌜ Pairs-small s × ((n < 256) × ((stale < 8192) × (end ≤ 65536))) ⌝ }
     requires { ⌜ (s .l3 ≡ 0 → best-of 3 (gaps (records e (now b)))
         ≡ used-table (entry-size e n) stale end (in-order (pair (s .o1) (s .l1)) (pair (s .o2) (s .l2)))) ⌝ }
     ensures { λ _. ⌜ now (b .exit) ≡ with-best e (now (b .entry)) ⌝ }

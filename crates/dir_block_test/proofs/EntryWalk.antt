@@ -16,7 +16,7 @@ use Rattle.name.specs.Name.{hash-of, legal-number}
 use Rattle.dir_block_rules.specs.Record.{Rec, rec, says, is-gap, name, number}
 use Rattle.dir_block_rules.specs.Verdict.{number-fits}
 use Rattle.edition.proofs.Sizes.{entry-size-least}
-use Rattle.dir_block_twice.specs.Twice.{name-of}
+use Rattle.dir_block_rules.specs.Lookup.{name-at}
 use Rattle.dir_block_test.specs.Passes.{no-fault, name-fits, fault-at, fault, worst}
 use Rattle.be.proofs.Parts.{part-part, getD-part}
 use Rattle.dir_block_test.proofs.WholeRecord.{says-entry, gap-is}
@@ -24,7 +24,7 @@ use Rattle.dir_block_test.proofs.TileWalk.{Head, head-gap}
 
 -- one entry
 module _ (e : Edition) (own : ℕ) (ss : ℕ → ℕ → Bool) (b : List ℕ) (o len : ℕ) (is : len ≡ getD b (o + 8) 0) (x : Bool) (xs : x ≡ name-fits e o (part (o + 9) len b)) where
-  named : name-fits e o (name-of b o) ≡ x
+  named : name-fits e o (name-at b o) ≡ x
   named = sym (xs ∙ ap (λ (k : ℕ). name-fits e o (part (o + 9) k b)) is)
 
   pub fault-name : x ≡ false → NAME ≡ fault-at e own ss b o
@@ -41,7 +41,7 @@ module _ (e : Edition) (own : ℕ) (ss : ℕ → ℕ → Bool) (b : List ℕ) (o
     fault-number q = sym (rw (named, p, numbered, q))
 
     module _ (q : y ≡ true) (h : ℕ) (hs : h ≡ hash-of e (part (o + 9) len b)) (z : Bool) (zs : z ≡ ss (o / 8) h) where
-      slotted : ss (o / 8) (hash-of e (name-of b o)) ≡ z
+      slotted : ss (o / 8) (hash-of e (name-at b o)) ≡ z
       slotted = sym (zs ∙ ap (λ (k : ℕ). ss (o / 8) k) (hs ∙ ap (λ (k : ℕ). hash-of e (part (o + 9) k b)) is))
 
       pub fault-none : z ≡ true → no-fault ≡ fault-at e own ss b o
@@ -72,7 +72,7 @@ module _ (e : Edition) (b : List ℕ) (t o n : ℕ) (lo : o < t) (hi : t ≤ len
     pub entry-fits : o + 9 + len ≤ t
     entry-fits = omega (arith, entry-long, hd .fits)
 
-    pub name-here : name (rec o (part o n b)) ≡ name-of b o
+    pub name-here : name (rec o (part o n b)) ≡ name-at b o
     name-here =
         ap (λ (k : ℕ). part 9 k (part o n b)) (getD-part b o n 8 (omega (arith, entry-long)))
         ∙ part-part b o n 9 len (omega (arith, entry-long))

@@ -27,7 +27,8 @@ use Rattle.dir_block_rules.proofs.RecordPlaces.{apart-keep, laid-eights}
 use Rattle.dir_block_rules.proofs.SearchFinds.{Reads, Owner, owner}
 use Rattle.name.proofs.Same.{same-eq}
 use Rattle.dir_block_rules.proofs.GoodParts.{laid-small}
-use Rattle.dir_block_twice.specs.Twice.{name-of, slots-from, Reach, addr-at, once-in}
+use Rattle.dir_block_rules.specs.Lookup.{name-at}
+use Rattle.dir_block_twice.specs.Twice.{slots-from, Reach, addr-at, once-in}
 use Rattle.dir_block_test.specs.Passes.{cells-of, hint, rest, Data-tiled, best-left, ordered-with, own-at, worst, after-tile, after-index}
 use Rattle.be.proofs.Parts.{part-length}
 use Rattle.dir_block_rules.proofs.StoredPairs.{pairs-read}
@@ -84,7 +85,7 @@ module _ (e : Edition) (sane : Sane e) (b : List ℕ) (t n : ℕ) where
     reads : Reads e b (entries RS)
     reads = record {
       eights = laid-eights e is-entry (e .header) RS (sane .header-eights) laid;
-      named = λ s. same-eq (name-of b (s .here .off)) (name (s .here))
+      named = λ s. same-eq (name-at b (s .here .off)) (name (s .here))
           (and-right (leb (s .here .off + 9 + getD b (s .here .off + 8) 0) t) _
           (every-at (placed e b t hi (T .parts .eights)) (s .before) (s .here) (s .behind) (rw (s .is) at all-placed)));
     }

@@ -15,7 +15,7 @@ use Rattle.be.proofs.Parts.{part-length}
 use Rattle.edition.specs.declared.Edition.{Edition}
 use Rattle.dir_block_rules.specs.Record.{Rec, rec, gaps, is-gap}
 use Rattle.dir_block_rules.specs.Verdict.{Pair}
-use Rattle.dir_block_test.specs.Passes.{no-fault, rest, whole-len, tile-count, tile-from, worst, fault-at, which, best-left, Walks}
+use Rattle.dir_block_test.specs.Passes.{no-fault, rest, whole-len, tile-count, tile-from, worst, fault-at, which, best-left, Surveys}
 use Rattle.dir_block_test.proofs.TileWalk.{Head, head, rest-head, rest-end, head-gap, tile-broken, tile-entry, tile-gap, tile-touch}
 use Rattle.dir_block_test.proofs.EntryWalk.{worst-start, worst-end, worst-on, fault-entry, fault-gap, entry-fits}
 use Rattle.dir_block_test.proofs.BestPass.{best-met, best-end}
@@ -54,11 +54,11 @@ module _ (e : Edition) (b : List ℕ) (t a own : ℕ) (f : ℕ → ℕ → Bool)
     }
 
     -- data that is not tiled
-    pub walking-not : (k w : ℕ) (best : Bool) → k ≡ 0 → 0 ≡ tile-count e false 1 all → Walks e own f all bests-all k w best
+    pub walking-not : (k w : ℕ) (best : Bool) → k ≡ 0 → 0 ≡ tile-count e false 1 all → Surveys e own f all bests-all k w best
     walking-not k w best z h = record { tiles = z ∙ h; faults = λ u. absurd (u z); bests = λ u. absurd (u z) }
 
     module _ (o : ℕ) (g : Bool) (n w : ℕ) (x y z good : Bool) (k : Walking o g n w x y z good) where
-      pub walking-end : t ≤ o → Walks e own f all bests-all n w (good && (x && (y && z)))
+      pub walking-end : t ≤ o → Surveys e own f all bests-all n w (good && (x && (y && z)))
       unfolding tile-count tile-from
       walking-end h =
           let r : rest e b t (k .fuel) o ≡ [] = rest-end e b t (k .fuel) o h in

@@ -18,7 +18,7 @@ use Rattle.dir_block_rules.proofs.CutJoin.{Laid, laid-cut}
 use Rattle.name.proofs.Same.{same-refl}
 use Rattle.dir_block_rules.proofs.RecordPlaces.{off-above, none-at}
 use Rattle.dir_block_rules.proofs.GoodParts.{small}
-use Rattle.dir_block_twice.specs.Twice.{name-of}
+use Rattle.dir_block_rules.specs.Lookup.{name-at}
 use Rattle.dir_block_test.specs.Passes.{rest}
 use Rattle.dir_block_test.proofs.TileWalk.{Head, rest-head, rest-end, head-whole, head-gap}
 use Rattle.dir_block_test.proofs.EntryWalk.{entry-fits, name-here}
@@ -42,7 +42,7 @@ small-most (g ∷ gs) h =
 module _ (e : Edition) (b : List ℕ) (t : ℕ) (hi : t ≤ length b) (te : t % 8 ≡ 0) where
   -- an entry's name is where the block has it
   abbrev pub placed : Rec → Bool
-  placed r = leb (r .off + 9 + getD b (r .off + 8) 0) t && same (name-of b (r .off)) (name r)
+  placed r = leb (r .off + 9 + getD b (r .off + 8) 0) t && same (name-at b (r .off)) (name r)
 
   pub head-of : (k o : ℕ) → o < t → o % 8 ≡ 0 → t - o ≤ k → every (whole e) (rest e b t k o) ≡ true → (n : ℕ) × Head e b t o n
   head-of zero o lo oe en w = absurd (omega arith)
@@ -66,7 +66,7 @@ module _ (e : Edition) (b : List ℕ) (t : ℕ) (hi : t ≤ length b) (te : t % 
       (λ g. let f : eqb (field o 2 b) 0xffff ≡ false = sym (head-gap e b t o lo hi (x .0) (x .1)) ∙ g in
       rw g (every-cons placed (rec o (part o (x .0) b)) (entries (rest e b t k (o + x .0)))
       (and-both (leb (o + 9 + getD b (o + 8) 0) t) _ (le-leb (o + 9 + getD b (o + 8) 0) t (entry-fits e b t o (x .0) lo hi (x .1) f))
-      (ap (same (name-of b o)) (name-here e b t o (x .0) lo hi (x .1) f) ∙ same-refl (name-of b o))) ih))))
+      (ap (same (name-at b o)) (name-here e b t o (x .0) lo hi (x .1) f) ∙ same-refl (name-at b o))) ih))))
       (λ q. rw (rest-end e b t (suc k) o (ltb-false o t q)))
 
   pub laid-rest : (k o : ℕ) → every (whole e) (rest e b t k o) ≡ true → Laid e o (rest e b t k o)

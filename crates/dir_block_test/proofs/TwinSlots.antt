@@ -23,7 +23,7 @@ use Rattle.dir_block_rules.proofs.SlotCounts.{Apart, at-addr}
 use Rattle.dir_block_rules.proofs.IndexedEntries.{Indexed, addr-of, at-both, Slotted, slotted}
 use Rattle.dir_block_rules.proofs.RecordPlaces.{apart-pos, apart-front}
 use Rattle.dir_block_rules.proofs.SearchFinds.{Owner, owner, Reads, read-at as reads}
-use Rattle.dir_block_twice.specs.Twice.{clash-from, once-in, name-of}
+use Rattle.dir_block_twice.specs.Twice.{clash-from, once-in}
 
 pub eqb-swap : (x y : ℕ) → eqb x y ≡ eqb y x
 eqb-swap x y = by-cases (eqb x y) (λ q. q ∙ sym (eq-eqb y x (sym (eqb-true x y q)))) (λ q. q ∙ sym (ne-eqb y x (λ (z : y ≡ x). eqb-false x y q (sym z))))
@@ -56,16 +56,16 @@ module _ {A : Type 0} (c : A → A → Bool) where
 -- a run that ends at the first other hash, and all slots of that hash
 module _ (e : Edition) (b : List ℕ) where
   abbrev pub twin : Slot → Slot → Bool
-  twin s u = is-live s && (eqb (u .hash) (s .hash) && (is-live u && same-name e (name-of b (8 * s .addr)) (name-of b (8 * u .addr))))
+  twin s u = is-live s && (eqb (u .hash) (s .hash) && (is-live u && same-name e (name-at b (8 * s .addr)) (name-at b (8 * u .addr))))
 
   none-past : (h c g : ℕ) → h < g → (ss : List Slot) → From g ss
-      → some-of (λ u. eqb (u .hash) h && (is-live u && same-name e (name-of b (8 * c)) (name-of b (8 * u .addr)))) ss ≡ false
+      → some-of (λ u. eqb (u .hash) h && (is-live u && same-name e (name-at b (8 * c)) (name-at b (8 * u .addr)))) ss ≡ false
   none-past h c g l [] f = refl
   none-past h c g l (u ∷ ss) f =
       rw (ne-eqb (u .hash) h (λ (z : u .hash ≡ h). omega (arith, f .0))) (none-past h c (u .hash) (omega (arith, f .0)) ss (f .1))
 
   run-is : (h c g : ℕ) → h ≤ g → (ss : List Slot) → From g ss
-      → clash-from e b h c ss ≡ some-of (λ u. eqb (u .hash) h && (is-live u && same-name e (name-of b (8 * c)) (name-of b (8 * u .addr)))) ss
+      → clash-from e b h c ss ≡ some-of (λ u. eqb (u .hash) h && (is-live u && same-name e (name-at b (8 * c)) (name-at b (8 * u .addr)))) ss
   unfolding clash-from
   run-is h c g l [] f = refl
   run-is h c g l (u ∷ ss) f =
@@ -88,12 +88,12 @@ module _ (e : Edition) (b : List ℕ) where
       rw (
         run-is (s .hash) (s .addr) (s .hash) (omega arith) ss (f .1),
         once-free (s .hash) ss (f .1),
-        some-and (is-live s) (λ u. eqb (u .hash) (s .hash) && (is-live u && same-name e (name-of b (8 * s .addr)) (name-of b (8 * u .addr)))) ss,
+        some-and (is-live s) (λ u. eqb (u .hash) (s .hash) && (is-live u && same-name e (name-at b (8 * s .addr)) (name-at b (8 * u .addr)))) ss,
       )
 
   pub twin-swap : (s u : Slot) → twin s u ≡ twin u s
-  twin-swap s u = rw (eqb-swap (u .hash) (s .hash), same-name-swap e (name-of b (8 * s .addr)) (name-of b (8 * u .addr)))
-      (exchange (is-live s) (eqb (s .hash) (u .hash)) (is-live u) (same-name e (name-of b (8 * u .addr)) (name-of b (8 * s .addr))))
+  twin-swap s u = rw (eqb-swap (u .hash) (s .hash), same-name-swap e (name-at b (8 * s .addr)) (name-at b (8 * u .addr)))
+      (exchange (is-live s) (eqb (s .hash) (u .hash)) (is-live u) (same-name e (name-at b (8 * u .addr)) (name-at b (8 * s .addr))))
     where
       exchange : (x y z w : Bool) → (x && (y && (z && w))) ≡ (z && (y && (x && w)))
       exchange true true true w = refl
@@ -152,8 +152,8 @@ module _ (e : Edition) (b : List ℕ) (es : List Rec) (ss : List Slot) (m : ℕ)
       let sh : s .hash ≡ hash-of e (name (t .here)) = eqb-true (s .hash) (hash-of e (name (t .here))) (and-right (eqb (s .addr) (addr-of (t .here))) (eqb (s .hash) (hash-of e (name (t .here)))) p) in
       let uh : u .hash ≡ hash-of e (name (v .here)) = eqb-true (u .hash) (hash-of e (name (v .here))) (and-right (eqb (u .addr) (addr-of (v .here))) (eqb (u .hash) (hash-of e (name (v .here)))) q) in
       let hh : hash-of e (name (t .here)) ≡ hash-of e (name (v .here)) = same-name-hash e (name (t .here)) (name (v .here)) l in
-      let nm : same-name e (name-of b (8 * s .addr)) (name-of b (8 * u .addr)) ≡ true =
-      ap₂ (λ (x y : List ℕ). same-name e x y) (ap (λ (k : ℕ). name-of b (8 * k)) sa ∙ read-at t) (ap (λ (k : ℕ). name-of b (8 * k)) ua ∙ read-at v) ∙ l in
+      let nm : same-name e (name-at b (8 * s .addr)) (name-at b (8 * u .addr)) ≡ true =
+      ap₂ (λ (x y : List ℕ). same-name e x y) (ap (λ (k : ℕ). name-at b (8 * k)) sa ∙ read-at t) (ap (λ (k : ℕ). name-at b (8 * k)) ua ∙ read-at v) ∙ l in
       and-both (is-live s) _ (ap (λ (k : ℕ). not (eqb k 0)) sa ∙ live-of t)
       (and-both (eqb (u .hash) (s .hash)) _ (eq-eqb (u .hash) (s .hash) (uh ∙ sym hh ∙ sym sh))
       (and-both (is-live u) _ (ap (λ (k : ℕ). not (eqb k 0)) ua ∙ live-of v) nm))
@@ -195,7 +195,7 @@ module _ (e : Edition) (b : List ℕ) (es : List Rec) (ss : List Slot) (m : ℕ)
       let s : Slot = t .here in
       let u : Slot = v .here in
       let ls : is-live s ≡ true = and-left (is-live s) _ (y .1) in
-      let past : (is-live u && same-name e (name-of b (8 * s .addr)) (name-of b (8 * u .addr))) ≡ true =
+      let past : (is-live u && same-name e (name-at b (8 * s .addr)) (name-at b (8 * u .addr))) ≡ true =
       and-right (eqb (u .hash) (s .hash)) _ (and-right (is-live s) _ (y .1)) in
       let lu : is-live u ≡ true = and-left (is-live u) _ past in
       let os : Owner e es s = owner e es (t .before) s (t .behind) m (rw (t .is) at i) a ls in
@@ -203,7 +203,7 @@ module _ (e : Edition) (b : List ℕ) (es : List Rec) (ss : List Slot) (m : ℕ)
       let r : Rec = os .split .here in
       let q : Rec = ou .split .here in
       let alike : like r q ≡ true =
-      sym (ap₂ (λ (k l : List ℕ). same-name e k l) (ap (λ (k : ℕ). name-of b (8 * k)) (sym (os .addr-is)) ∙ read-at (os .split)) (ap (λ (k : ℕ). name-of b (8 * k)) (sym (ou .addr-is)) ∙ read-at (ou .split)))
+      sym (ap₂ (λ (k l : List ℕ). same-name e k l) (ap (λ (k : ℕ). name-at b (8 * k)) (sym (os .addr-is)) ∙ read-at (os .split)) (ap (λ (k : ℕ). name-at b (8 * k)) (sym (ou .addr-is)) ∙ read-at (ou .split)))
       ∙ and-right (is-live u) _ past in
       let count : cond (at-addr (addr-of r) s) 1 0 + tally (at-addr (addr-of r)) (t .before ++ t .behind) ≡ 1 =
       sym (tally-mid (at-addr (addr-of r)) (t .before) s (t .behind)) ∙ ap (tally (at-addr (addr-of r))) (sym (t .is)) ∙ slot-of (os .split) .by-addr in

@@ -16,7 +16,8 @@ use Rattle.name.specs.Name.{legal-name, hash-of, dot, dotdot}
 use Rattle.dir_block_rules.specs.Record.{Rec, rec, cut, says, whole, is-gap, entries, gaps, name, size}
 use Rattle.dir_block_rules.specs.Block.{Slot, is-stale}
 use Rattle.dir_block_rules.specs.Verdict.{name-ok, number-fits, number-ok, Pair, is-gap-of, best-ok, best-pairs, once-ok, names-ok, numbers-ok, index-ok}
-use Rattle.dir_block_twice.specs.Twice.{hash-at, addr-at, name-of}
+use Rattle.dir_block_rules.specs.Lookup.{name-at}
+use Rattle.dir_block_twice.specs.Twice.{hash-at, addr-at}
 
 -- the records from o to the data's end t, with fuel k
 unfoldable pub rest : Edition → List ℕ → ℕ → ℕ → ℕ → List Rec
@@ -78,9 +79,9 @@ own-at e b = field (e .header) 8 b
 -- the first test that the entry at o fails, where f says whether an address and a hash have a slot
 unfoldable pub fault-at : Edition → ℕ → (ℕ → ℕ → Bool) → List ℕ → ℕ → ℕ
 fault-at e own f b o =
-    NAME unless name-fits e o (name-of b o) then
+    NAME unless name-fits e o (name-at b o) then
     NUMBER unless number-fits e own o (field o 8 b) then
-    INDEX unless f (o / 8) (hash-of e (name-of b o)) then no-fault
+    INDEX unless f (o / 8) (hash-of e (name-at b o)) then no-fault
 
 -- the gaps that a pair does not name
 abbrev pub unnamed : Pair → List Rec → List Rec
@@ -147,7 +148,7 @@ level h [] = false
 level h (s ∷ ss) = eqb h (s .hash) || level (s .hash) ss
 
 -- what the pass over the records rs answers: n as `tile-count` does, and if the data is tiled, w the lowest fault and best the answer B
-pub record Walks (e : Edition) (own : ℕ) (f : ℕ → ℕ → Bool) (rs : List Rec) (B : Bool) (n w : ℕ) (best : Bool) : Type 0 where
+pub record Surveys (e : Edition) (own : ℕ) (f : ℕ → ℕ → Bool) (rs : List Rec) (B : Bool) (n w : ℕ) (best : Bool) : Type 0 where
   pub tiles : n ≡ tile-count e false 1 rs
   pub faults : (n ≡ 0 → ⊥) → w ≡ worst e own f rs
   pub bests : (n ≡ 0 → ⊥) → best ≡ B

@@ -11,7 +11,7 @@ ghost use Rattle.name.specs.Name.{legal-name};
 ghost use Rattle.dir_block_rules.specs.Record.{says, gaps, entries};
 ghost use Rattle.dir_block_rules.specs.Verdict.{pair, best-pairs, best-ok, index-ok, verdict};
 ghost use Rattle.dir_block_twice.specs.Twice.{slots-from};
-ghost use Rattle.dir_block_test.specs.Passes.{rest, whole-len, ordered-with, level, slot-word, cells-of, hint, name-fits, fault-at, own-at, best-left, which, Walks, Faulted, after-index, after-tile, after-span, Parts, Data-tiled};
+ghost use Rattle.dir_block_test.specs.Passes.{rest, whole-len, ordered-with, level, slot-word, cells-of, hint, name-fits, fault-at, own-at, best-left, which, Surveys, Faulted, after-index, after-tile, after-span, Parts, Data-tiled};
 use edition::Edition;
 use edition::V4;
 
@@ -246,7 +246,7 @@ fn walk(
 ) -> Survey
     requires { ⌜ Sane e ⌝ }
     requires { ⌜ (t + 8 ≤ length (now b)) × (t < 65536) × (t % 8 ≡ 0) × (e .header ≤ t) × (t ≤ 8 * length (now cells)) ⌝ }
-    ensures { λ r. ⌜ Walks e (own-at e (now (b .entry))) (hint (now (cells .entry))) (rest e (now (b .entry)) t (length (now (b .entry))) (e .header))
+    ensures { λ r. ⌜ Surveys e (own-at e (now (b .entry))) (hint (now (cells .entry))) (rest e (now (b .entry)) t (length (now (b .entry))) (e .header))
         (best-left x0 y0 z0 (pair (p .from) (p .long)) (pair (q .from) (q .long)) (pair (s .from) (s .long))
         (gaps (rest e (now (b .entry)) t (length (now (b .entry))) (e .header))))
         (r .n) (r .w) (r .best) ⌝ }

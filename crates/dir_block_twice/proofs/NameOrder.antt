@@ -15,7 +15,8 @@ use Rattle.be.specs.Bytes.{byte, part}
 use Rattle.be.specs.Words.{le}
 use Rattle.be.proofs.Parts.{piece}
 use Rattle.be.proofs.Words.{word-bytes}
-use Rattle.dir_block_twice.specs.Twice.{lex, Undecided, name-of, addr-at, live-at, sorts-before}
+use Rattle.dir_block_rules.specs.Lookup.{name-at}
+use Rattle.dir_block_twice.specs.Twice.{lex, Undecided, addr-at, live-at, sorts-before}
 
 pub lex-strict : (x : List ℕ) → lex x x ≡ false
 unfolding lex
@@ -134,7 +135,7 @@ module _ (b : List ℕ) (t n : ℕ) where
   before-right i j x y xs z ys w = sym (rw (sym xs ∙ z, sym ys ∙ w))
 
   pub before-names : (i j a c : ℕ) (x y r : Bool) → x ≡ live-at b t n i → x ≡ true → y ≡ live-at b t n j → y ≡ true
-      → a ≡ addr-at b t i → c ≡ addr-at b t j → r ≡ lex (name-of b (8 * a)) (name-of b (8 * c)) → r ≡ sorts-before b t n i j
+      → a ≡ addr-at b t i → c ≡ addr-at b t j → r ≡ lex (name-at b (8 * a)) (name-at b (8 * c)) → r ≡ sorts-before b t n i j
   unfolding sorts-before
   before-names i j a c x y r xs z ys w ea ec h = h ∙ sym (rw (sym xs ∙ z, sym ys ∙ w, sym ea, sym ec))
 

@@ -13,7 +13,8 @@ use Rattle.be.proofs.Bools.{by-cases, and-right, and-both, and-false, clash}
 use Rattle.edition.specs.declared.Edition.{Edition}
 use Rattle.name.specs.Name.{same-name}
 use Rattle.name.proofs.Same.{same-eq}
-use Rattle.dir_block_twice.specs.Twice.{name-of, clash-from, once-in, slots-from, hash-at, addr-at, lex, live-at, sorts-before, Ascends, Placed, Ranked}
+use Rattle.dir_block_rules.specs.Lookup.{name-at}
+use Rattle.dir_block_twice.specs.Twice.{clash-from, once-in, slots-from, hash-at, addr-at, lex, live-at, sorts-before, Ascends, Placed, Ranked}
 use Rattle.dir_block_twice.proofs.SlotList.{slots-next, slots-end}
 use Rattle.dir_block_twice.proofs.NameOrder.{lex-strict, lex-trans, live-is, live-below}
 
@@ -53,7 +54,7 @@ ascends-less b t n O k m h l j u = h j (omega arith)
 module _ (b : List ℕ) (t n : ℕ) where
   -- the name that slot i addresses
   abbrev name-at : ℕ → List ℕ
-  name-at i = name-of b (8 * addr-at b t i)
+  name-at i = name-at b (8 * addr-at b t i)
 
   names-ordered : (i j : ℕ) → sorts-before b t n i j ≡ true → lex (name-at i) (name-at j) ≡ true
   unfolding sorts-before

@@ -16,7 +16,8 @@ use Rattle.edition.specs.declared.Edition.{Edition}
 use Rattle.name.specs.Name.{same-name}
 use Rattle.name.proofs.Same.{same-eq}
 use Rattle.name_words.specs.Words.{key-of}
-use Rattle.dir_block_twice.specs.Twice.{name-of, second-key, clash-from, runs-on, follows, Each-marked, Marked, Noted, twin-at, once-in, slots-from, hash-at, addr-at}
+use Rattle.dir_block_rules.specs.Lookup.{name-at}
+use Rattle.dir_block_twice.specs.Twice.{second-key, clash-from, runs-on, follows, Each-marked, Marked, Noted, twin-at, once-in, slots-from, hash-at, addr-at}
 use Rattle.dir_block_twice.proofs.SlotList.{slots-next, slots-end}
 use Rattle.dir_block_twice.proofs.TwinWalk.{apart, twin-stale}
 
@@ -49,7 +50,7 @@ either-second x y f g h z k = k ∙ sym (rw (sym h ∙ z))
 module _ (b : List ℕ) (t n : ℕ) (f : List ℕ → ℕ) where
   -- the cell of slot j's name, in a table of so many
   abbrev cell-at : ℕ → ℕ → ℕ
-  cell-at k j = bitAnd (f (name-of b (8 * addr-at b t j))) (k - 1)
+  cell-at k j = bitAnd (f (name-at b (8 * addr-at b t j))) (k - 1)
 
   -- a 1 more
   each-kept : (i : ℕ) (S R : List ℕ) (x : ℕ) → x < length S → R ≡ set S x 1 → Each-marked b t n f i S → Each-marked b t n f i R
@@ -78,11 +79,11 @@ module _ (b : List ℕ) (t n : ℕ) (f : List ℕ → ℕ) where
         (λ q. each-kept (i + 1) S R x lx rs k j (lt-of j l (eqb-false i j q)) u g a)
 
     -- a name whose cell has no 1 is not among the later ones
-    module _ (e : Edition) (h : ℕ) (hs : h ≡ hash-at b t i) (c : ℕ) (new : getD S (bitAnd (f (name-of b (8 * c))) (length S - 1)) 0 ≡ 0) where
-      unlike : (j : ℕ) → i < j → j < n → follows b t j ≡ true → (addr-at b t j ≡ 0 → ⊥) → same-name e (name-of b (8 * c)) (name-of b (8 * addr-at b t j)) ≡ false
+    module _ (e : Edition) (h : ℕ) (hs : h ≡ hash-at b t i) (c : ℕ) (new : getD S (bitAnd (f (name-at b (8 * c))) (length S - 1)) 0 ≡ 0) where
+      unlike : (j : ℕ) → i < j → j < n → follows b t j ≡ true → (addr-at b t j ≡ 0 → ⊥) → same-name e (name-at b (8 * c)) (name-at b (8 * addr-at b t j)) ≡ false
       unfolding same-name
       unlike j l u g a =
-          by-cases (same-name e (name-of b (8 * c)) (name-of b (8 * addr-at b t j)))
+          by-cases (same-name e (name-at b (8 * c)) (name-at b (8 * addr-at b t j)))
           (λ q. absurd (let z : 0 ≡ 1 = sym new ∙ ap (λ (m : List ℕ). getD S (bitAnd (f m) (length S - 1)) 0) (same-eq _ _ q) ∙ k j (omega arith) u g a in omega arith))
           (λ q. q)
 
@@ -139,18 +140,18 @@ module _ (b : List ℕ) (t n : ℕ) where
     }
 
     -- two cells noted one after the other, for slot i at address a
-    module _ (a v x y : ℕ) (R Q : List ℕ) (ea : a ≡ addr-at b t i) (ev : v ≡ key-of (name-of b (8 * a)))
+    module _ (a v x y : ℕ) (R Q : List ℕ) (ea : a ≡ addr-at b t i) (ev : v ≡ key-of (name-at b (8 * a)))
         (ex : x ≡ bitAnd v (length S - 1)) (ey : y ≡ bitAnd (v / 65536) (length S - 1)) (rs : R ≡ set S x 1) (qs : Q ≡ set R y 1) where
       long : length R ≡ length S
       long = noted-long S R x 1 rs
 
-      key-is : v ≡ key-of (name-of b (8 * addr-at b t i))
-      key-is = ev ∙ ap (λ (w : ℕ). key-of (name-of b (8 * w))) ea
+      key-is : v ≡ key-of (name-at b (8 * addr-at b t i))
+      key-is = ev ∙ ap (λ (w : ℕ). key-of (name-at b (8 * w))) ea
 
-      one : x ≡ bitAnd (key-of (name-of b (8 * addr-at b t i))) (length S - 1)
+      one : x ≡ bitAnd (key-of (name-at b (8 * addr-at b t i))) (length S - 1)
       one = ex ∙ ap (λ (w : ℕ). bitAnd w (length S - 1)) key-is
 
-      two : y ≡ bitAnd (second-key (name-of b (8 * addr-at b t i))) (length R - 1)
+      two : y ≡ bitAnd (second-key (name-at b (8 * addr-at b t i))) (length R - 1)
       two = ey ∙ ap₂ (λ (w m : ℕ). bitAnd (w / 65536) (m - 1)) key-is (sym long)
 
       low : x < length S

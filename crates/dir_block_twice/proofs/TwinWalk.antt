@@ -11,7 +11,8 @@ use borrow.Author.Tests.{eq-eqb, ne-eqb}
 use Rattle.edition.specs.declared.Edition.{Edition}
 use Rattle.name.specs.Name.{same-name}
 use Rattle.dir_block_rules.specs.Block.{Slot}
-use Rattle.dir_block_twice.specs.Twice.{name-of, clash-from, runs-on, slots-from, hash-at, addr-at, twin-at, Reach}
+use Rattle.dir_block_rules.specs.Lookup.{name-at}
+use Rattle.dir_block_twice.specs.Twice.{clash-from, runs-on, slots-from, hash-at, addr-at, twin-at, Reach}
 use Rattle.dir_block_twice.proofs.SlotList.{slots-next, slots-end}
 
 -- a run so far
@@ -49,12 +50,12 @@ module _ (e : Edition) (b : List ℕ) (t n i h c : ℕ) where
           so-far = k .so-far ∙ rw (slots-next b t n j l, eq, eq-eqb (addr-at b t j) 0 (sym ea ∙ z));
         }
 
-        module _ (u : a ≡ 0 → ⊥) (s : Bool) (ss : s ≡ same-name e (name-of b (8 * c)) (name-of b (8 * a))) where
+        module _ (u : a ≡ 0 → ⊥) (s : Bool) (ss : s ≡ same-name e (name-at b (8 * c)) (name-at b (8 * a))) where
           live : eqb (addr-at b t j) 0 ≡ false
           live = ne-eqb (addr-at b t j) 0 (λ (z : addr-at b t j ≡ 0). u (ea ∙ z))
 
-          names : same-name e (name-of b (8 * c)) (name-of b (8 * addr-at b t j)) ≡ s
-          names = sym (ss ∙ ap (λ (v : ℕ). same-name e (name-of b (8 * c)) (name-of b (8 * v))) ea)
+          names : same-name e (name-at b (8 * c)) (name-at b (8 * addr-at b t j)) ≡ s
+          names = sym (ss ∙ ap (λ (v : ℕ). same-name e (name-at b (8 * c)) (name-at b (8 * v))) ea)
 
           pub clash-hit : s ≡ true → true ≡ answer
           unfolding clash-from
@@ -101,5 +102,5 @@ reach-past b t n r i a l e u =
 pub reach-at : (b : List ℕ) (t n : ℕ) → Reach b t n → (i a : ℕ) → i < n → a ≡ addr-at b t i → (a ≡ 0 → ⊥) → 8 * a + 9 + getD b (8 * a + 8) 0 ≤ length b
 reach-at b t n r i a l e u = omega (arith, reach-past b t n r i a l e u)
 
-pub same-at : (e : Edition) (b : List ℕ) (a c d : ℕ) (s : Bool) → a ≡ c → s ≡ same-name e (name-of b (8 * a)) (name-of b (8 * d)) → s ≡ same-name e (name-of b (8 * c)) (name-of b (8 * d))
-same-at e b a c d s q h = h ∙ ap (λ (v : ℕ). same-name e (name-of b (8 * v)) (name-of b (8 * d))) q
+pub same-at : (e : Edition) (b : List ℕ) (a c d : ℕ) (s : Bool) → a ≡ c → s ≡ same-name e (name-at b (8 * a)) (name-at b (8 * d)) → s ≡ same-name e (name-at b (8 * c)) (name-at b (8 * d))
+same-at e b a c d s q h = h ∙ ap (λ (v : ℕ). same-name e (name-at b (8 * v)) (name-at b (8 * d))) q

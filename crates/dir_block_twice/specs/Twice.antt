@@ -25,11 +25,7 @@ hash-at b t i = field (t + 8 * i) 4 b
 abbrev pub addr-at : List ℕ → ℕ → ℕ → ℕ
 addr-at b t i = field (t + 8 * i + 4) 4 b
 
--- the name of the entry at o
-abbrev pub name-of : List ℕ → ℕ → List ℕ
-name-of b o = part (o + 9) (byte (o + 8) b) b
-
--- a live slot at address a has the hash h, at the head of the slots ss, and the name of the entry at address c
+-- among the slots of hash h that the list begins with, a live one's entry has the name of the entry at address c
 unfoldable pub clash-from : Edition → List ℕ → ℕ → ℕ → List Slot → Bool
 clash-from e b h c [] = false
 clash-from e b h c (s ∷ ss) =
@@ -64,7 +60,7 @@ pub record Marked (b : List ℕ) (t n i : ℕ) (S : List ℕ) : Type 0 where
 abbrev pub twin-at : Edition → List ℕ → ℕ → ℕ → ℕ → Bool
 twin-at e b t n i = not (eqb (addr-at b t i) 0) && clash-from e b (hash-at b t i) (addr-at b t i) (slots-from b t n (i + 1))
 
--- the table marks slot i too; and where r is false, slot i has no twin
+-- the table marks slot i too; where r is true, slot i is live, and where it is false, it has no twin
 pub record Noted (b : List ℕ) (t n i : ℕ) (S : List ℕ) (r : Bool) : Type 0 where
   pub marks : Marked b t n i S
   pub live : r ≡ true → addr-at b t i ≡ 0 → ⊥
@@ -79,11 +75,11 @@ once-in e b (s ∷ ss) = not (not (eqb (s .addr) 0) && clash-from e b (s .hash) 
 unfoldable pub Reach : List ℕ → ℕ → ℕ → Type 0
 Reach b t n = (i : ℕ) → i < n → (addr-at b t i ≡ 0 → ⊥) → 8 * addr-at b t i + 9 + byte (8 * addr-at b t i + 8) b + 8 ≤ length b
 
--- as many slots as the largest block has room for
+-- no block has more slots
 abbrev pub most-slots : ℕ
 most-slots = largest-block / 8
 
--- the bytes of one name come before those of another; under a case option it has to take the folded names, as `key-of` does
+-- the bytes of one name come before those of another; under a case option it will have to take the folded names, as `key-of` will
 unfoldable pub lex : List ℕ → List ℕ → Bool
 lex xs [] = false
 lex [] (y ∷ ys) = true

@@ -1,4 +1,4 @@
-// TWICE, a block directory's tenth test: no name is stored twice. Names are compared only within runs of one hash, and there only where a
+// TWICE, test 10 of a block directory: no name is stored twice. Names are compared only within runs of one hash, and there only where a
 // second hash agrees too; where that still happens often, the names are sorted, and their order is tested.
 ghost use mathlib.Core.Path.{_≡_};
 ghost use mathlib.Core.Bool.{true, false, not, _||_};
@@ -8,7 +8,8 @@ ghost use lib.ListN.{length, getD, set};
 ghost use Rattle.be.specs.Bytes.{byte};
 ghost use Rattle.name.specs.Name.{same-name};
 ghost use Rattle.name_words.specs.Words.{key-of};
-ghost use Rattle.dir_block_twice.specs.Twice.{slots-from, hash-at, addr-at, name-of, clash-from, runs-on, follows, Marked, Noted, once-in, Reach, lex, Undecided, live-at, sorts-before, Ascends, Placed, Ranked, most-slots};
+ghost use Rattle.dir_block_rules.specs.Lookup.{name-at};
+ghost use Rattle.dir_block_twice.specs.Twice.{slots-from, hash-at, addr-at, clash-from, runs-on, follows, Marked, Noted, once-in, Reach, lex, Undecided, live-at, sorts-before, Ascends, Placed, Ranked, most-slots};
 use edition::Edition;
 
 // The hash of slot i, of those at t.
@@ -30,7 +31,7 @@ pub fn slot_addr(b: &[u8], t: usize, i: usize) -> usize
 // Whether the entries at p and at q have the same name.
 fn same_names(e: Edition, b: &[u8], p: usize, q: usize) -> bool
     requires { ⌜ (p + 9 + byte (p + 8) (now b) ≤ length (now b)) × (q + 9 + byte (q + 8) (now b) ≤ length (now b)) ⌝ }
-    ensures { λ r. ⌜ r ≡ same-name e (name-of (now (b .entry)) p) (name-of (now (b .entry)) q) ⌝ }
+    ensures { λ r. ⌜ r ≡ same-name e (name-at (now (b .entry)) p) (name-at (now (b .entry)) q) ⌝ }
 {
     let i = p + 9;
     let j = q + 9;
@@ -100,7 +101,7 @@ fn in_run(b: &[u8], t: usize, n: usize, i: usize) -> bool
 // A number for the name of the entry at p, the same for equal names.
 fn name_key(b: &[u8], p: usize) -> usize
     requires { ⌜ p + 9 + byte (p + 8) (now b) + 8 ≤ length (now b) ⌝ }
-    ensures { λ r. ⌜ r ≡ key-of (name-of (now (b .entry)) p) ⌝ }
+    ensures { λ r. ⌜ r ≡ key-of (name-at (now (b .entry)) p) ⌝ }
 {
     let i = p + 9;
     let end = i + be::be8(b, p + 8);
@@ -189,7 +190,7 @@ fn once_with<'a, 'b>(
     known(true)
 }
 
-// How much is cleared for the names seen follows the block's size.
+// How much is cleared for the names seen follows where the data ends.
 const FEW: usize = 4096;
 
 const MANY: usize = 32768;
@@ -260,7 +261,7 @@ fn sooner(x: &[u8], y: &[u8]) -> bool
 // Whether the name of the entry at p comes before that of the one at q.
 fn sooner_at(b: &[u8], p: usize, q: usize) -> bool
     requires { ⌜ (p + 9 + byte (p + 8) (now b) ≤ length (now b)) × (q + 9 + byte (q + 8) (now b) ≤ length (now b)) ⌝ }
-    ensures { λ r. ⌜ r ≡ lex (name-of (now (b .entry)) p) (name-of (now (b .entry)) q) ⌝ }
+    ensures { λ r. ⌜ r ≡ lex (name-at (now (b .entry)) p) (name-at (now (b .entry)) q) ⌝ }
 {
     let i = p + 9;
     let j = q + 9;
@@ -331,8 +332,8 @@ fn later(b: &[u8], t: usize, n: usize, order: &[u16], k: usize, m: usize) -> usi
     k
 }
 
-// Sifts the cell `from` down the heap of the first m. Neither of this nor of the next two is it proved that the order comes out right: the
-// order is tested where it is used.
+// Sifts the cell `from` down the heap of the first m. Of this and what else makes the order and the ranks it is not proved that they come out
+// right: both are tested where they are used.
 fn sift<'a, 'b>(b: &'a [u8], t: usize, n: usize, order: &'b mut [u16], from: usize, m: usize)
     requires { ⌜ (t + 8 * n ≤ length (now b)) × Reach (now b) t n × (m ≤ length (now order)) × (m ≤ most-slots) × (from ≤ m) ⌝ }
     ensures { λ _. ⌜ length (now (order .exit)) ≡ length (now (order .entry)) ⌝ }
@@ -403,7 +404,7 @@ fn rank_all<'a, 'b>(order: &'a [u16], m: usize, rank: &'b mut [u16])
     }
 }
 
-// The first of the m cells that doesn't ascend to the next one; m if all do.
+// The first of the m cells that doesn't ascend to the next one; m if all do. It is promised only that those before it ascend.
 fn ascending(b: &[u8], t: usize, n: usize, order: &[u16], m: usize) -> usize
     requires { ⌜ (t + 8 * n ≤ length (now b)) × Reach (now b) t n × (m ≤ length (now order)) ⌝ }
     ensures { λ r. ⌜ Ascends (now (b .entry)) t n (now (order .entry)) r × (r < m → r + 1 < m) ⌝ }
@@ -508,13 +509,24 @@ fn sorted(e: Edition, b: &[u8], t: usize, n: usize) -> Finding
     sorted_with(e, b, t, n, &mut order, &mut rank)
 }
 
-// Whether no name is stored twice. The order of the sort is not proved, so a last way stands behind it; it is not met.
+// How many slots are compared with later ones before the names are sorted: a number, so that all of them pass a few times the slots at most.
+// By chance some ten of 2,000 names of one hash share their cells in the largest block, and hardly one in a small one.
+fn turns(t: usize) -> usize
+    ensures { λ r. ⌜ r < 25 ⌝ }
+{
+    if t <= FEW {
+        return 2;
+    }
+    24
+}
+
+// Whether no name is stored twice. The order of the sort is not proved, so a last way stands behind it; in a block that has passed INDEX it
+// is not met.
 pub fn once(e: Edition, b: &[u8], t: usize, n: usize) -> bool
     requires { ⌜ (t + 8 * n ≤ length (now b)) × Reach (now b) t n × (n ≤ most-slots) ⌝ }
     ensures { λ r. ⌜ r ≡ once-in e (now (b .entry)) (slots-from (now (b .entry)) t n 0) ⌝ }
 {
-    // By chance some five of a thousand names of one hash share their cells in the largest block, fewer in smaller ones.
-    let few = by_tables(e, b, t, n, 2 + n / 64);
+    let few = by_tables(e, b, t, n, turns(t));
     if few.known {
         return few.once;
     }

@@ -1,4 +1,4 @@
-// Directory names by words of eight bytes: their legality and hash in one pass, and a second hash; and inode numbers by one word.
+// Directory names by words of eight bytes: their legality and hash in one pass, the hash alone, and a second hash; and inode numbers by one word.
 ghost use mathlib.Core.Path.{_≡_};
 ghost use mathlib.Core.Bool.{_&&_};
 ghost use Prim.Native.Nat.{_+_, _-_, _*_, _/_, _%_, _^_, _≤_, _<_};
@@ -323,7 +323,7 @@ fn key_words(b: &[u8], i0: usize, end: usize, k0: u64) -> u64
     mixed(k, moved(be::le64(b, i), (end - i) as u32))
 }
 
-// The key of which k is made: its high half once more over its low half.
+// The key made of k: its high half once more over its low half.
 fn finished(k: u64) -> usize
     ensures { λ r. ⌜ (r ≡ mix k (k / 4294967296) / 131072 % 4294967296) × (r < 4294967296) ⌝ }
 {

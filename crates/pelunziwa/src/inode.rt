@@ -13,7 +13,7 @@ use edition::V4;
 pub extern "C" fn pzw_hash(name: &[u8]) -> u32
     ensures { λ r. ⌜ r ≡ hash-of v4 (now (name .entry)) ⌝ }
 {
-    name_words::hash(V4::edition(), name) as u32
+    name::hash(V4::edition(), name) as u32
 }
 
 // The fields of a sound inode.

@@ -1,55 +1,22 @@
-use native.Mathlib.Omega.{arith}
-use mathlib.Core.Path.{refl, sym, _∙_}
-use denote.Ref.{now}
-use Rattle.dir_block_laws.proofs.RecordSteps.{head-end, end-fits}
-use Rattle.dir_block_laws.proofs.LastGap.{last-at, last-fits, last-none, last-gap, last-entry}
+use mathlib.Core.Path.{refl}
+use borrow.Author.Needs.{needs}
 use Rattle.dir_block_scan.proofs.with_last.Statement.{statement}
 use Rattle.dir_block_scan.proofs.with_last.Tie as tie
 
 returns : tie.Need-returns
 returns c =
-    let p = c .before .before .before in
-    (refl, λ ps q. last-none _ (now (p .args .b)) (p .pre .0 .1) (p .args .end) (p .pre .1) ps q (c .if1 .taken))
-
-sub-be16 : tie.Need-sub-be16
-sub-be16 c =
-    let p = c .before .before .before in
-    omega (arith, p .pre .1, head-end _ (now (p .args .b)) (p .pre .0 .1), p .pre .0 .0 .magic-before, p .pre .0 .0 .best-inside)
-
-be16-requires : tie.Need-be16-requires
-be16-requires c κs =
-    let p = c .before .before .before in
-    omega (arith, p .pre .1, end-fits _ (now (p .args .b)) (p .pre .0 .1))
-
-be16-requires-2 : tie.Need-be16-requires-2
-be16-requires-2 c κs =
-    let p = c .before .before .before .before in
-    let r = last-at _ (now (p .args .b)) (p .pre .0 .1) (p .args .end) (p .pre .1) (c .be16 .result) (c .before .if1 .left) (sym (c .be16 .ensures .0)) in
-    omega (arith, last-fits _ (now (p .args .b)) (p .pre .0 .1) (p .args .end) (p .pre .1) (c .be16 .result) r)
-
-sub-r : tie.Need-sub-r
-sub-r c =
-    let p = c .before .before .before .before .before .before in
-    let f = c .before .before in
-    let r = last-at _ (now (p .args .b)) (p .pre .0 .1) (p .args .end) (p .pre .1) (f .be16 .result) (f .before .if1 .left) (sym (f .be16 .ensures .0)) in
-    omega (arith, last-fits _ (now (p .args .b)) (p .pre .0 .1) (p .args .end) (p .pre .1) (f .be16 .result) r)
-
-returns-2 : tie.Need-returns-2
-returns-2 c =
-    let p = c .before .before .before .before .before .before in
-    let f = c .before .before in
-    let r = last-at _ (now (p .args .b)) (p .pre .0 .1) (p .args .end) (p .pre .1) (f .be16 .result) (f .before .if1 .left) (sym (f .be16 .ensures .0)) in
-    (refl, λ ps q. last-gap _ (now (p .args .b)) (p .pre .0 .1) (p .args .end) (p .pre .1) ps q (f .be16 .result) r
-    (sym (c .before .be162 .ensures .0) ∙ c .if2 .taken))
-
-returns-3 : tie.Need-returns-3
-returns-3 c =
-    let p = c .before .before .before .before .before .before in
-    let f = c .before .before in
-    let r = last-at _ (now (p .args .b)) (p .pre .0 .1) (p .args .end) (p .pre .1) (f .be16 .result) (f .before .if1 .left) (sym (f .be16 .ensures .0)) in
-    (refl, λ ps q. last-entry _ (now (p .args .b)) (p .pre .0 .1) (p .args .end) (p .pre .1) ps q (f .be16 .result) r
-    (λ z. c .if2 .left (c .before .be162 .ensures .0 ∙ z)))
+    let t = c .last-gap .ensures in (
+      refl,
+      λ ps q.
+      record {
+        best = q;
+        touch-off = t .touch-off;
+        touch-size = t .touch-size;
+        touch-end = t .touch-end;
+        touch-from = t .touch-from;
+        touch-mod = t .touch-mod;
+      },
+    )
 
 pub with-last-spec : {M : Type 1} → statement M
-with-last-spec =
-    tie.close (tie.spec returns sub-be16 be16-requires be16-requires-2 sub-r returns-2 returns-3)
+with-last-spec = tie.close (tie.spec (λ c κs. search needs) returns)
