@@ -7,12 +7,13 @@ use mathlib.Core.List.{List, [], _∷_}
 use lib.Bits.{bitAnd}
 use lib.Dec.{eqb, ltb}
 use lib.ListN.{length, drop, getD}
-use Rattle.be.specs.Bytes.{byte, field, part}
+use Rattle.be.specs.Bytes.{byte, field}
 use Rattle.edition.specs.declared.Edition.{Edition}
 use Rattle.edition.specs.Edition.{largest-block}
 use Rattle.name.specs.Name.{same-name}
 use Rattle.name_words.specs.Words.{key-of}
 use Rattle.dir_block_rules.specs.Block.{Slot, slots-in}
+use Rattle.dir_block_rules.specs.Lookup.{name-at}
 
 -- the slots from index i on, of the n that stand at t
 unfoldable pub slots-from : List ℕ → ℕ → ℕ → ℕ → List Slot
@@ -30,7 +31,7 @@ unfoldable pub clash-from : Edition → List ℕ → ℕ → ℕ → List Slot �
 clash-from e b h c [] = false
 clash-from e b h c (s ∷ ss) =
     let r = clash-from e b h c ss in
-    eqb (s .hash) h && ((not (eqb (s .addr) 0) && same-name e (name-of b (8 * c)) (name-of b (8 * s .addr))) || r)
+    eqb (s .hash) h && ((not (eqb (s .addr) 0) && same-name e (name-at b (8 * c)) (name-at b (8 * s .addr))) || r)
 
 -- the first of the slots has this hash
 unfoldable pub runs-on : ℕ → List Slot → Bool
@@ -48,7 +49,7 @@ second-key n = key-of n / 65536
 -- the name of each live slot from i on that follows one of its hash has a 1 in its cell, by the number f
 abbrev pub Each-marked : List ℕ → ℕ → ℕ → (List ℕ → ℕ) → ℕ → List ℕ → Type 0
 Each-marked b t n f i S =
-    (j : ℕ) → i ≤ j → j < n → follows b t j ≡ true → (addr-at b t j ≡ 0 → ⊥) → getD S (bitAnd (f (name-of b (8 * addr-at b t j))) (length S - 1)) 0 ≡ 1
+    (j : ℕ) → i ≤ j → j < n → follows b t j ≡ true → (addr-at b t j ≡ 0 → ⊥) → getD S (bitAnd (f (name-at b (8 * addr-at b t j))) (length S - 1)) 0 ≡ 1
 
 -- and by both numbers
 pub record Marked (b : List ℕ) (t n i : ℕ) (S : List ℕ) : Type 0 where
@@ -98,7 +99,7 @@ live-at b t n i = ltb i n && not (eqb (addr-at b t i) 0)
 -- slots i and j are live, and i's name comes before j's
 unfoldable pub sorts-before : List ℕ → ℕ → ℕ → ℕ → ℕ → Bool
 sorts-before b t n i j =
-    live-at b t n i && (live-at b t n j && lex (name-of b (8 * addr-at b t i)) (name-of b (8 * addr-at b t j)))
+    live-at b t n i && (live-at b t n j && lex (name-at b (8 * addr-at b t i)) (name-at b (8 * addr-at b t j)))
 
 -- the slots in the first m cells of O ascend
 unfoldable pub Ascends : List ℕ → ℕ → ℕ → List ℕ → ℕ → Type 0

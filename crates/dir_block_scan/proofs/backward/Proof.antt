@@ -2,11 +2,8 @@
 -- Assumes nothing.
 use native.Mathlib.Omega.{arith}
 use borrow.Author.Needs.{needs}
-use mathlib.Core.Path.{sym, _∙_, ap}
-use mathlib.Core.List.{List}
+use mathlib.Core.Path.{sym, _∙_}
 use denote.Ref.{now}
-use Rattle.dir_block_rules.specs.Verdict.{Pair, pair}
-use Rattle.dir_block_laws.specs.BestSoFar.{ins, ins-all}
 use Rattle.dir_block_laws.proofs.RecordSteps.{end-fits}
 use Rattle.dir_block_laws.proofs.BothEnds.{place-fits, back-fits, back-gap, back-entry}
 use Rattle.dir_block_scan.specs.Table.{table}

@@ -1,7 +1,6 @@
 -- `dir_block_scan::first_of` meets its contract.
 -- Assumes nothing.
 use native.Mathlib.Omega.{arith}
-use borrow.Author.Needs.{needs}
 use Prim.Native.Nat.{_-_, _≤_}
 use denote.Ref.{now}
 use Rattle.dir_block_rules.specs.Block.{data-end}

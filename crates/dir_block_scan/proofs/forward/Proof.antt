@@ -11,7 +11,6 @@ use Rattle.edition.specs.Edition.{entry-size}
 use Rattle.edition.specs.declared.Edition.{Edition}
 use Rattle.dir_block_rules.specs.Block.{data-end}
 use Rattle.dir_block_laws.specs.Tiled.{Tiled}
-use Rattle.dir_block_laws.specs.Pass.{Gaps-before}
 use Rattle.dir_block_laws.proofs.RecordSteps.{end-fits}
 use Rattle.dir_block_laws.proofs.BothEnds.{front-gap, front-entry}
 use Rattle.dir_block_scan.specs.Table.{table}

@@ -1,7 +1,6 @@
 -- `dir_block_scan::longest` meets its contract.
 -- Assumes nothing.
 use native.Mathlib.Omega.{arith}
-use borrow.Author.Needs.{needs}
 use denote.Ref.{now}
 use Rattle.dir_block_laws.proofs.RecordSteps.{head-end, end-fits}
 use Rattle.dir_block_laws.proofs.SlotSearch.{tiled}

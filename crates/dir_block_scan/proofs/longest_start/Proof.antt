@@ -2,7 +2,6 @@
 -- Assumes nothing.
 use native.Mathlib.Omega.{arith}
 use borrow.Author.Needs.{needs}
-use mathlib.Core.Path.{_≡_}
 use denote.Ref.{now}
 use Rattle.dir_block_laws.proofs.SlotSearch.{tiled}
 use Rattle.dir_block_laws.proofs.LongestGap.{longest-long, longest-none, longest-only, longest-first, longest-second}

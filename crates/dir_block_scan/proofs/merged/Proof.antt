@@ -1,6 +1,5 @@
 -- `dir_block_scan::merged` meets its contract.
 -- Assumes nothing.
-use native.Mathlib.Omega.{arith}
 use borrow.Author.Needs.{needs}
 use Rattle.dir_block_laws.specs.BestSoFar.{ins-all}
 use Rattle.dir_block_scan.proofs.merged.Statement.{statement}

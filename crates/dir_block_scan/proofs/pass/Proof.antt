@@ -5,7 +5,6 @@ use borrow.Author.Needs.{needs}
 use Prim.Native.Nat.{_-_, _≤_}
 use mathlib.Core.Path.{sym, _∙_}
 use denote.Ref.{now}
-use Rattle.dir_block_rules.specs.Block.{data-end}
 use Rattle.dir_block_laws.specs.Pass.{Gaps-before, Gaps-behind}
 use Rattle.dir_block_laws.proofs.RecordSteps.{head-end}
 use Rattle.dir_block_laws.proofs.BothEnds.{place-fits, front-start, back-start, all-gaps}
