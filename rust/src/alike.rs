@@ -1,5 +1,5 @@
-//! Names made to fall together, for blocks that are slow to test if anything is: in the published hash, and in the library's second hash
-//! as well (`key-of`, crates/name_words/specs/Words.antt), by which it tells names of one hash apart.
+//! Names made to fall together, for blocks that are slow to test unless that is minded: in the published hash, and in the library's second
+//! hash as well (`key-of`, crates/name_words/specs/Words.antt), by which it tells names of one hash apart.
 
 use crate::yardstick::hash;
 
@@ -18,6 +18,17 @@ pub fn in_hash(toggles: u32) -> Vec<u8> {
 fn mix(key: u64, word: u64) -> u64 {
     let x = key ^ word;
     (x % (1 << 32) * 2_654_435_761) ^ (x >> 32)
+}
+
+/// The second hash of a name, which has a byte at least.
+pub fn key(name: &[u8]) -> u32 {
+    let words = name.chunks(8).map(|bytes| {
+        let mut word = [0; 8];
+        word[8 - bytes.len()..].copy_from_slice(bytes);
+        u64::from_le_bytes(word)
+    });
+    let key = words.fold(name.len() as u64, mix);
+    (mix(key, key >> 32) >> 17) as u32
 }
 
 /// What each half of a name leaves in the key before it is mixed for the last time.

@@ -69,19 +69,41 @@ fn each_byte_of_a_name() {
     println!("{} calls", lab.cover.calls());
 }
 
+/// A call takes no more stack than the header says, on the largest block, whose names have to be sorted: a thread has little more.
+#[test]
+fn stack_of_a_call() {
+    let mut bytes = build::fresh_block(&mut Rng::new(1), 65_536);
+    for name in alike::in_both(1 << 11) {
+        let _ = pelunziwa::block::insert(&mut bytes, &name, 5);
+    }
+    let calls = move || {
+        assert!(pelunziwa::block::test(&bytes).is_ok());
+        assert!(pelunziwa::block::lookup(&bytes, b"none").is_err());
+        assert!(pelunziwa::block::remove(&mut bytes, b"none").is_err());
+        assert!(pelunziwa::block::insert(&mut bytes, &[b'l'; 255], 5).is_err());
+    };
+    let thread = std::thread::Builder::new().stack_size(144 << 10);
+    let thread = thread.spawn(calls).expect("a thread");
+    assert!(thread.join().is_ok());
+}
+
 /// Where the entries stand, but for "." and "..".
 fn offsets(bytes: &[u8]) -> Vec<usize> {
     let block = block::read(V4, bytes).unwrap_or_else(|n| panic!("refused with {n}"));
     block.live().map(|(offset, _, _)| offset).skip(2).collect()
 }
 
-/// Names of one hash, all told apart, and names that share the library's second hash too: a block full of them is accepted, and refused
+/// Names of one hash, no two of them equal, and names that share the library's second hash too: a block full of them is accepted, and refused
 /// with 10 with one of them stored twice, whichever two slots theirs are, and with stale slots among them.
 #[test]
 fn names_of_one_hash() {
     let mut lab = Lab::new(0x0e5a);
     let in_hash: Vec<_> = (0..1 << 11).map(alike::in_hash).collect();
-    for names in [in_hash, alike::in_both(1 << 11)] {
+    let in_both = alike::in_both(1 << 11);
+    let key = alike::key(&in_both[0]);
+    assert!(in_both.iter().all(|name| alike::key(name) == key));
+    assert!(in_hash.iter().all(|name| alike::key(name) != key));
+    for names in [in_hash, in_both] {
         assert_eq!(names.len(), 1 << 11);
         let hash = model::hash(&names[0]);
         assert!(names.iter().all(|name| model::hash(name) == hash));

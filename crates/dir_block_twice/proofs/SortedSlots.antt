@@ -53,33 +53,33 @@ ascends-less b t n O k m h l j u = h j (omega arith)
 
 module _ (b : List ℕ) (t n : ℕ) where
   -- the name that slot i addresses
-  abbrev name-at : ℕ → List ℕ
-  name-at i = name-at b (8 * addr-at b t i)
+  abbrev slot-name : ℕ → List ℕ
+  slot-name i = name-at b (8 * addr-at b t i)
 
-  names-ordered : (i j : ℕ) → sorts-before b t n i j ≡ true → lex (name-at i) (name-at j) ≡ true
+  names-ordered : (i j : ℕ) → sorts-before b t n i j ≡ true → lex (slot-name i) (slot-name j) ≡ true
   unfolding sorts-before
   names-ordered i j h = and-right (live-at b t n j) _ (and-right (live-at b t n i) _ h)
 
   module _ (O R : List ℕ) (m : ℕ) (up : Ascends b t n O m) (all : Ranked b t n O R m) where
     -- the slots in any two cells
-    chain : (d k : ℕ) → k + d + 1 < m → lex (name-at (getD O k 0)) (name-at (getD O (k + d + 1) 0)) ≡ true
+    chain : (d k : ℕ) → k + d + 1 < m → lex (slot-name (getD O k 0)) (slot-name (getD O (k + d + 1) 0)) ≡ true
     unfolding Ascends
     chain zero k l =
         let z : k + 0 + 1 ≡ k + 1 = omega arith in
         rw z (names-ordered (getD O k 0) (getD O (k + 1) 0) (up k (omega arith)))
     chain (suc d) k l =
         let z : k + suc d + 1 ≡ k + d + 1 + 1 = omega arith in
-        rw z (lex-trans _ (name-at (getD O (k + d + 1) 0)) _ (chain d k (omega arith)) (names-ordered (getD O (k + d + 1) 0) (getD O (k + d + 1 + 1) 0) (up (k + d + 1) (omega arith))))
+        rw z (lex-trans _ (slot-name (getD O (k + d + 1) 0)) _ (chain d k (omega arith)) (names-ordered (getD O (k + d + 1) 0) (getD O (k + d + 1 + 1) 0) (up (k + d + 1) (omega arith))))
 
-    ordered : (p q i j : ℕ) → p < q → q < m → getD O p 0 ≡ i → getD O q 0 ≡ j → lex (name-at i) (name-at j) ≡ true
+    ordered : (p q i j : ℕ) → p < q → q < m → getD O p 0 ≡ i → getD O q 0 ≡ j → lex (slot-name i) (slot-name j) ≡ true
     ordered p q i j l u pi qj =
         let z : p + (q - (p + 1)) + 1 ≡ q = omega arith in
-        ap₂ (λ (v w : ℕ). lex (name-at v) (name-at w)) (sym pi) (sym qj ∙ ap (λ (k : ℕ). getD O k 0) (sym z)) ∙ chain (q - (p + 1)) p (omega arith)
+        ap₂ (λ (v w : ℕ). lex (slot-name v) (slot-name w)) (sym pi) (sym qj ∙ ap (λ (k : ℕ). getD O k 0) (sym z)) ∙ chain (q - (p + 1)) p (omega arith)
 
     differ : (x y : List ℕ) → lex x y ≡ true → x ≡ y → ⊥
     differ x y h e = clash h (ap (λ (z : List ℕ). lex z y) e ∙ lex-strict y)
 
-    names-apart : (i j : ℕ) → (i ≡ j → ⊥) → live-at b t n i ≡ true → live-at b t n j ≡ true → name-at i ≡ name-at j → ⊥
+    names-apart : (i j : ℕ) → (i ≡ j → ⊥) → live-at b t n i ≡ true → live-at b t n j ≡ true → slot-name i ≡ slot-name j → ⊥
     unfolding Ranked
     names-apart i j d li lj e =
         let r = all i li in
@@ -96,10 +96,10 @@ module _ (b : List ℕ) (t n : ℕ) where
         lower p q l z = omega arith
 
     module _ (e : Edition) where
-      unlike : (i j : ℕ) → i < j → j < n → (addr-at b t i ≡ 0 → ⊥) → (addr-at b t j ≡ 0 → ⊥) → same-name e (name-at i) (name-at j) ≡ false
+      unlike : (i j : ℕ) → i < j → j < n → (addr-at b t i ≡ 0 → ⊥) → (addr-at b t j ≡ 0 → ⊥) → same-name e (slot-name i) (slot-name j) ≡ false
       unfolding same-name
       unlike i j l u a c =
-          by-cases (same-name e (name-at i) (name-at j))
+          by-cases (same-name e (slot-name i) (slot-name j))
           (λ q. absurd (names-apart i j (λ (z : i ≡ j). omega arith) (live-is b t n i (omega arith) a) (live-is b t n j u c) (same-eq _ _ q)))
           (λ q. q)
 

@@ -131,7 +131,7 @@ fn full(size: usize, kind: &Names, seed: u64) -> Full {
     )
 }
 
-/// A real block of this size, full or nearly so.
+/// A real block, full or nearly so.
 fn real(file: &str) -> Full {
     let folder = concat!(env!("CARGO_MANIFEST_DIR"), "/tests/images/");
     Full {
@@ -448,6 +448,13 @@ fn slots(b: &[u8]) -> [u32; 2] {
     [tail(8), tail(4)]
 }
 
+/// The same after an insert: the room rule's case shows in them.
+fn grown(b: &[u8], name: &[u8]) -> [u32; 2] {
+    let mut after = b.to_vec();
+    assert!(block::insert(&mut after, name, 5).is_ok());
+    slots(&after)
+}
+
 /// Half full, with one gap: filled by (d), and the next insert is by (d).
 fn half_full(size: usize, kind: &Names, seed: u64) -> Full {
     let mut full = full(size, kind, seed);
@@ -462,8 +469,8 @@ fn half_full(size: usize, kind: &Names, seed: u64) -> Full {
 
 fn by_d(size: usize, kind: &Names, seed: u64) -> Asked {
     let half = half_full(size, kind, seed);
-    assert_eq!(slots(&half.bytes)[1], 0);
     let last = half.names[half.names.len() - 1].clone();
+    assert_eq!(grown(&half.bytes, &last), [slots(&half.bytes)[0] + 1, 0]);
     (half.bytes, last)
 }
 
@@ -478,8 +485,9 @@ fn by_c(size: usize, kind: &Names, seed: u64) -> Asked {
     }
     assert!(block::remove(&mut bytes, &long).is_ok());
     assert!(block::insert(&mut bytes, b"!", 5).is_ok());
-    assert_eq!(slots(&bytes)[1], 0);
-    (bytes, names[names.len() - 1].clone())
+    let last = names[names.len() - 1].clone();
+    assert_eq!(grown(&bytes, &last), [slots(&bytes)[0] + 1, 0]);
+    (bytes, last)
 }
 
 /// Every eighth entry removed: as many gaps, and stale slots.
@@ -496,9 +504,7 @@ fn by_b(size: usize, kind: &Names, seed: u64) -> Asked {
     let b = with_gaps(size, kind, seed).bytes;
     let longest = u16::from_be_bytes([b[6], b[7]]);
     let name = vec![b'b'; usize::from(longest) + 8 - 11];
-    let mut after = b.clone();
-    assert!(block::insert(&mut after, &name, 5).is_ok());
-    assert_eq!(slots(&after), [slots(&b)[0] - slots(&b)[1] + 1, 0]);
+    assert_eq!(grown(&b, &name), [slots(&b)[0] - slots(&b)[1] + 1, 0]);
     (b, name)
 }
 
@@ -510,10 +516,11 @@ fn removed_of_many(size: usize, kind: &Names, seed: u64) -> Asked {
 
 fn inserted_among_many(size: usize, kind: &Names, seed: u64) -> Asked {
     let Full { bytes, names } = with_gaps(size, kind, seed);
-    let mut after = bytes.clone();
     let name = names[names.len() / 2 / 8 * 8].clone();
-    assert!(block::insert(&mut after, &name, 5).is_ok());
-    assert_eq!(slots(&after), [slots(&bytes)[0], slots(&bytes)[1] - 1]);
+    assert_eq!(
+        grown(&bytes, &name),
+        [slots(&bytes)[0], slots(&bytes)[1] - 1]
+    );
     (bytes, name)
 }
 

@@ -7,7 +7,7 @@ pub once-spec : {M : Type 1} → statement M
 once-spec =
     tie.close
     (tie.spec
-    (λ c. omega arith)
+    (λ c κs. search needs)
     (λ c κs. search needs)
     (λ c. c .before .by-tables .ensures .0 (c .if1 .taken))
     (λ c κs. search needs)
