@@ -1,11 +1,10 @@
 -- A pass over the records from both ends at once: a record on from the front, one back from the end by its tag, and where the two meet.
 -- Assumes nothing.
 use Prim.Native.Nat.{ℕ, _+_, _-_, _≤_, _<_}
-use native.Mathlib.Nat.{add-zero}
 use native.Mathlib.Omega.{arith}
 use mathlib.Core.Bool.{true, false}
 use mathlib.Core.Path.{_≡_, refl, sym, _∙_, ap, ap₂, subst}
-use mathlib.Core.List.{List, [], _∷_, _++_, append-assoc, append-nil}
+use mathlib.Core.List.{List, [], _∷_, _++_}
 use lib.ListN.{length, drop, getD, length-append}
 use lib.Dec.{ltb}
 use borrow.Author.Tests.{eq-eqb, ne-eqb, ltb-true, ltb-false}
@@ -18,15 +17,16 @@ use Rattle.dir_block_rules.specs.Record.{Rec, size, is-gap, gap-start, gaps}
 use Rattle.dir_block_rules.specs.Block.{records, data-end}
 use Rattle.dir_block_rules.specs.Verdict.{Pair, pair}
 use Rattle.dir_block_rules.specs.Change.{best-of}
-use Rattle.dir_block_rules.proofs.CutJoin.{Laid, join, join-append, laid-front, laid-back}
+use Rattle.dir_block_rules.proofs.CutJoin.{Laid, join, laid-front, laid-back}
 use Rattle.dir_block_laws.specs.Tiled.{Tiled}
 use Rattle.dir_block_laws.specs.BestSoFar.{ins, ins-all}
 use Rattle.dir_block_laws.specs.JoinedTable.{empty-table}
 use Rattle.dir_block_laws.specs.Pass.{Place, Gaps-before, Gaps-behind, Next-place}
 use Rattle.dir_block_laws.proofs.BestGrows.{best-more, elsewhere}
-use Rattle.dir_block_laws.proofs.RecordSteps.{Here, here, none-left, laid-all, laid-elsewhere, end-is}
+use Rattle.dir_block_laws.proofs.RecordSteps.{Here, Next, next, over, place-start, laid-all, laid-elsewhere}
 use Rattle.dir_block_laws.proofs.RecordPass.{gaps-gap, gaps-entry, says-gap, says-entry}
 use Rattle.dir_block_laws.proofs.GapsBeside.{Prior, prior-at}
+use Rattle.dir_block_laws.proofs.LastGap.{end-place}
 use Rattle.dir_block_laws.proofs.TablesJoined.{tables-joined, table-ahead}
 
 -- what lies between two cuts of the same records
@@ -49,12 +49,6 @@ no-gap x ys h = rw h
 module _ (e : Edition) (b : List ℕ) (t : Tiled e b) where
   laid-at : (xs ys : List Rec) → records e b ≡ xs ++ ys → Laid e (e .header) (xs ++ ys)
   laid-at xs ys q = subst (λ (rs : List Rec). Laid e (e .header) rs) q (laid-all e b t)
-
-  pub place-fits : (o : ℕ) → Place e b o → (e .header ≤ o) × (o ≤ data-end b)
-  place-fits o w = (
-    omega (arith, w .place),
-    omega (arith, w .place, end-is e b t, ap (λ (rs : List Rec). length (join rs)) (w .all), ap length (join-append (w .before) (w .behind)), length-append (join (w .before)) (join (w .behind))),
-  )
 
   -- the records between two places
   abbrev Between : (o u : ℕ) → Place e b o → Place e b u → Type 0
@@ -85,66 +79,52 @@ module _ (e : Edition) (b : List ℕ) (t : Tiled e b) where
 
   pub front-start : Gaps-before e b (e .header) empty-table
   unfolding best-of
-  front-start = record { spot = record { before = []; behind = records e b; all = refl; place = add-zero (e .header) }; best = refl }
+  front-start = record { spot = place-start e b; best = refl }
 
-  -- the record at a place, if the data goes on
-  next : (o : ℕ) (w : Place e b o) → o < data-end b → (y : Rec) × (ys : List Rec) × Here e b t (w .before) y ys o
-  next o w h = go (w .behind) refl
-    where
-      go : (zs : List Rec) → w .behind ≡ zs → (y : Rec) × (ys : List Rec) × Here e b t (w .before) y ys o
-      go [] q = absurd (omega (arith, none-left e b t (w .before) o (w .all ∙ ap (λ (l : List Rec). w .before ++ l) q) (w .place)))
-      go (y ∷ ys) q = (y, ys, here e b t (w .before) y ys o (w .all ∙ ap (λ (l : List Rec). w .before ++ l) q) (w .place))
-
-  -- over the record y of n bytes
-  module _ (o n : ℕ) (w : Place e b o) (y : Rec) (ys : List Rec) (v : Here e b t (w .before) y ys o) (n-is : size y ≡ n) where
-    abbrev over : Place e b (o + n)
-    over =
-        record {
-          before = w .before ++ (y ∷ []);
-          behind = ys;
-          all = v .is ∙ sym (append-assoc (w .before) (y ∷ []) ys);
-          place = v .place ∙ ap (λ (m : ℕ). o + m) n-is;
-        }
-
-    is-next : Next-place e b o (o + n)
-    is-next = record { on = omega (arith, v .is-whole .least, n-is); first = λ u p h. omega (arith, n-is, behind-it o u (w .before) y ys v (w .place) p h) }
+  is-next : (o n : ℕ) (w : Place e b o) (k : Next e b t o w) → size (k .this) ≡ n → Next-place e b o (o + n)
+  is-next o n w k q =
+      record {
+        on = omega (arith, k .stands .is-whole .least, q);
+        first = λ u p h. omega (arith, q, behind-it o u (w .before) (k .this) (k .later) (k .stands) (w .place) p h);
+      }
 
   pub front-gap : (o n : ℕ) (ps : List Pair) → Gaps-before e b o ps → o < data-end b → field o 2 b ≡ 65535 → field (o + 2) 2 b ≡ n
       → Gaps-before e b (o + n) (ins (pair o n) ps) × Next-place e b o (o + n)
   front-gap o n ps s h g f =
       let w : Place e b o = s .spot in
-      let k = next o w h in
-      let y : Rec = k .0 in
-      let v : Here e b t (w .before) y (k .1) o = k .2 in
+      let k : Next e b t o w = next e b t o w h in
+      let y : Rec = k .this in
+      let v : Here e b t (w .before) y (k .later) o = k .stands in
       let gs : gap-start (drop o b) ≡ true = eq-eqb (field o 2 b) 65535 g in
       let n-is : size y ≡ n = v .says-is ∙ says-gap e b o gs ∙ f in
       let lx : Laid e (e .header) (w .before) = laid-front e (e .header) (w .before) (y ∷ []) (v .lies) in
       let el : every (elsewhere (y .off)) (gaps (w .before)) ≡ true = laid-elsewhere e (e .header) (y .off) is-gap (w .before) lx (omega (arith, w .place, v .off-is)) in (
         record {
-          spot = over o n w y (k .1) v n-is;
-          best = ap (best-of 3) (gaps-gap (w .before) y (v .gap-is ∙ gs)) ∙ best-more 3 (gaps (w .before)) y (omega (arith, v .is-whole .least)) el
+          spot = over e b t o n w k n-is;
+          best =
+              ap (best-of 3) (gaps-gap (w .before) y (v .gap-is ∙ gs)) ∙ best-more 3 (gaps (w .before)) y (omega (arith, v .is-whole .least)) el
               ∙ ap₂ ins (ap₂ pair (v .off-is) n-is) (s .best);
         },
-        is-next o n w y (k .1) v n-is,
+        is-next o n w k n-is,
       )
 
   pub front-entry : (o n : ℕ) (ps : List Pair) → Gaps-before e b o ps → o < data-end b → (field o 2 b ≡ 65535 → ⊥) → entry-size e (getD b (o + 8) 0) ≡ n
       → Gaps-before e b (o + n) ps × Next-place e b o (o + n)
   front-entry o n ps s h g f =
       let w : Place e b o = s .spot in
-      let k = next o w h in
-      let v : Here e b t (w .before) (k .0) (k .1) o = k .2 in
+      let k : Next e b t o w = next e b t o w h in
+      let v : Here e b t (w .before) (k .this) (k .later) o = k .stands in
       let gs : gap-start (drop o b) ≡ false = ne-eqb (field o 2 b) 65535 g in
-      let n-is : size (k .0) ≡ n = v .says-is ∙ says-entry e b o gs ∙ f in (
-        record { spot = over o n w (k .0) (k .1) v n-is; best = ap (best-of 3) (gaps-entry (w .before) (k .0) (v .gap-is ∙ gs)) ∙ s .best },
-        is-next o n w (k .0) (k .1) v n-is,
+      let n-is : size (k .this) ≡ n = v .says-is ∙ says-entry e b o gs ∙ f in (
+        record { spot = over e b t o n w k n-is; best = ap (best-of 3) (gaps-entry (w .before) (k .this) (v .gap-is ∙ gs)) ∙ s .best },
+        is-next o n w k n-is,
       )
 
   -- ---- from the end
 
   pub back-start : Gaps-behind e b (data-end b) empty-table
   unfolding best-of
-  back-start = record { spot = record { before = records e b; behind = []; all = sym (append-nil (records e b)); place = sym (end-is e b t) }; best = refl }
+  back-start = record { spot = end-place e b t (data-end b) refl; best = refl }
 
   -- back over the record that ends at u, by its tag p, from behind a place o
   module _ (o u p : ℕ) (qs : List Pair) (s : Gaps-behind e b u qs) (w : Place e b o) (h : o < u) (f : field (u - 2) 2 b ≡ p) where

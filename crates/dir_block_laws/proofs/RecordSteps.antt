@@ -1,6 +1,7 @@
 -- The records of a block one by one: what stands at the offset where the next one starts.
 -- Assumes nothing.
-use Prim.Native.Nat.{ℕ, _+_, _-_, _*_, _≤_}
+use Prim.Native.Nat.{ℕ, _+_, _-_, _*_, _≤_, _<_}
+use native.Mathlib.Nat.{add-zero}
 use native.Mathlib.Omega.{arith}
 use mathlib.Core.Bool.{Bool, true}
 use mathlib.Core.Path.{_≡_, refl, sym, _∙_, ap, subst}
@@ -19,6 +20,7 @@ use Rattle.be.proofs.Bools.{by-cases, every-cons, and-right}
 use Rattle.dir_block_rules.proofs.CutJoin.{Whole, Laid, join, join-append, laid-back, laid-front, says-append, gap-start-append}
 use Rattle.dir_block_rules.proofs.BlockParts.{tail-bytes, build-end, refit, rebuild, room-for as span-room, end-is as span-end}
 use Rattle.dir_block_laws.specs.Tiled.{Tiled}
+use Rattle.dir_block_laws.specs.Pass.{Place}
 use Rattle.dir_block_laws.proofs.BestGrows.{elsewhere}
 
 -- offsets rise, so a record behind stands elsewhere than those before it
@@ -43,6 +45,9 @@ stale-read b x q = q
 pub end-read : (b : List ℕ) (x : ℕ) → x ≡ count-of b → length b - 8 - 8 * x ≡ data-end b
 unfolding data-end
 end-read b x q = ap (λ (c : ℕ). length b - 8 - 8 * c) q
+
+abbrev pub place-start : (e : Edition) (b : List ℕ) → Place e b (e .header)
+place-start e b = record { before = []; behind = records e b; all = refl; place = add-zero (e .header) }
 
 module _ (e : Edition) (b : List ℕ) (t : Tiled e b) where
   pub room-for : e .header + 8 * count-of b + 8 ≤ length b
@@ -112,3 +117,33 @@ module _ (e : Edition) (b : List ℕ) (t : Tiled e b) where
 
   pub none-left : (xs : List Rec) (o : ℕ) → records e b ≡ xs ++ [] → e .header + length (join xs) ≡ o → o ≡ data-end b
   none-left xs o q p = sym p ∙ ap (λ (r : List Rec). e .header + length (join r)) (sym (q ∙ append-nil xs)) ∙ sym end-is
+
+  pub place-within : (p : ℕ) → Place e b p → p ≤ data-end b
+  place-within p s =
+      omega (arith, s .place, end-is, ap (λ (rs : List Rec). length (join rs)) (s .all), ap length (join-append (s .before) (s .behind)), length-append (join (s .before)) (join (s .behind)))
+
+  -- the record at a place before the data's end
+  pub record Next (p : ℕ) (s : Place e b p) : Type 0 where
+    pub this : Rec
+    pub later : List Rec
+    pub is : records e b ≡ s .before ++ (this ∷ later)
+    pub stands : Here (s .before) this later p
+
+  pub next : (p : ℕ) (s : Place e b p) → p < data-end b → Next p s
+  next p s h = go (s .behind) refl
+    where
+      go : (zs : List Rec) → s .behind ≡ zs → Next p s
+      go [] q = absurd (omega (arith, none-left (s .before) p (s .all ∙ ap (λ (l : List Rec). s .before ++ l) q) (s .place)))
+      go (y ∷ ys) q =
+          let a : records e b ≡ s .before ++ (y ∷ ys) = s .all ∙ ap (λ (l : List Rec). s .before ++ l) q in
+          record { this = y; later = ys; is = a; stands = here (s .before) y ys p a (s .place) }
+
+  -- the place behind it
+  abbrev pub over : (p n : ℕ) (s : Place e b p) (w : Next p s) → size (w .this) ≡ n → Place e b (p + n)
+  over p n s w q =
+      record {
+        before = s .before ++ (w .this ∷ []);
+        behind = w .later;
+        all = w .is ∙ sym (append-assoc (s .before) (w .this ∷ []) (w .later));
+        place = w .stands .place ∙ ap (λ (m : ℕ). p + m) q;
+      }

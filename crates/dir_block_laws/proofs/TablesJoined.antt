@@ -130,8 +130,8 @@ joins [] a b c ts n ab bc = refl
 joins (y ∷ ys) a b c ts n ab bc =
     let p : Pair = named-by y in
     let go : (f g h : Pair) → g .long ≤ f .long → h .long ≤ g .long → ins p (a ∷ b ∷ c ∷ []) ≡ f ∷ g ∷ h ∷ []
-        → ins p (ins c (ins b (ins a ts))) ≡ ins h (ins g (ins f ts))
-        → into ys (ins p (ins c (ins b (ins a ts)))) ≡ ins-all (into ys (ins p (a ∷ b ∷ c ∷ []))) ts =
+    → ins p (ins c (ins b (ins a ts))) ≡ ins h (ins g (ins f ts))
+    → into ys (ins p (ins c (ins b (ins a ts)))) ≡ ins-all (into ys (ins p (a ∷ b ∷ c ∷ []))) ts =
     λ f g h fg gh i q. ap (into ys) q ∙ joins ys f g h ts n fg gh ∙ ap (λ (l : List Pair). ins-all (into ys l) ts) (sym i) in
     by-cases (ltb (a .long) (p .long))
     (λ z. let l : a .long < p .long = ltb-true (a .long) (p .long) z in

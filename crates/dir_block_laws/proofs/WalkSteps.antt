@@ -1,13 +1,12 @@
 -- The walk's step, read in the block: a gap, a live entry, the end; and which places a walk may stand at.
 -- Assumes nothing.
 use Prim.Native.Nat.{ℕ, _+_, _≤_, _<_}
-use native.Mathlib.Nat.{add-zero}
 use native.Mathlib.Omega.{arith}
 use mathlib.Core.Bool.{true, false}
 use mathlib.Core.Path.{_≡_, refl, sym, _∙_, ap, ap₂, subst}
-use mathlib.Core.List.{List, [], _∷_, _++_, append-assoc}
+use mathlib.Core.List.{List, [], _∷_, _++_}
 use lib.Dec.{eqb}
-use lib.ListN.{length, take, drop, getD, length-append, length-take, take-append-drop, List·getD-append}
+use lib.ListN.{length, take, drop, getD, length-take, take-append-drop, List·getD-append}
 use lib.Seq.{getD-drop}
 use borrow.Author.Tests.{eq-eqb, ne-eqb}
 use Rattle.be.specs.Lists.{every, some-of, keep}
@@ -26,19 +25,16 @@ use Rattle.dir.specs.Answers.{seen-start, seen-len}
 use Rattle.dir.specs.declared.Target.{Target}
 use Rattle.dir_block_rules.specs.Lookup.{target-at}
 use Rattle.dir_block_rules.specs.Walk.{step-over, step-end, is-place, walk-step}
-use Rattle.dir_block_rules.proofs.CutJoin.{Laid, join, laid-back, laid-front, join-append}
+use Rattle.dir_block_rules.proofs.CutJoin.{Laid, join, laid-back, laid-front}
 use Rattle.be.proofs.Splits.{some-at}
 use Rattle.dir_block_rules.proofs.RecordPlaces.{off-above, none-at, target-there}
 use Rattle.dir_block_rules.proofs.WholeWalk.{step-at, at-end}
 use Rattle.dir_block_laws.specs.Tiled.{Tiled, Ready}
 use Rattle.dir_block_laws.specs.Pass.{Place, Steps}
-use Rattle.dir_block_laws.proofs.RecordSteps.{Here, here, none-left, laid-all, laid-elsewhere, end-is, end-fits, head-end}
+use Rattle.dir_block_laws.proofs.RecordSteps.{Here, here, none-left, laid-all, laid-elsewhere, end-is, end-fits, head-end, Next, next, over, place-within}
 use Rattle.dir_block_laws.proofs.RecordPass.{says-gap, says-entry}
 use Rattle.dir_block_laws.proofs.BestGrows.{elsewhere}
 use Rattle.dir_block_laws.proofs.SlotSearch.{tiled}
-
-pub place-start : (e : Edition) (b : List ℕ) → Place e b (e .header)
-place-start e b = record { before = []; behind = records e b; all = refl; place = add-zero (e .header) }
 
 -- every record, kept
 keep-all : (rs : List Rec) → keep (λ r. true) rs ≡ rs
@@ -66,10 +62,6 @@ module _ (e : Edition) (sane : Sane e) (b : List ℕ) (r : Ready e b) where
   pub too-early : (q : ℕ) → q < e .header → is-place q (data-end b) (records e b) ≡ false
   too-early q h = not-place q (λ (z : q ≡ data-end b). omega (arith, head-end e b t)) (behind-is e q (e .header) (records e b) h (laid-all e b t))
 
-  pub place-within : (p : ℕ) → Place e b p → p ≤ data-end b
-  place-within p s =
-      omega (arith, s .place, end-is e b t, ap (λ (rs : List Rec). length (join rs)) (s .all), ap length (join-append (s .before) (s .behind)), length-append (join (s .before)) (join (s .behind)))
-
   pub place-is : (p : ℕ) → Place e b p → is-place p (data-end b) (records e b) ≡ true
   place-is p s = go (s .behind) refl
     where
@@ -82,36 +74,20 @@ module _ (e : Edition) (sane : Sane e) (b : List ℕ) (r : Ready e b) where
           ap (some-of (λ r. eqb (r .off) p)) a ∙ some-at (λ r. eqb (r .off) p) (s .before) y ys (eq-eqb (y .off) p (v .off-is)) in
           by-cases (eqb p (data-end b)) (λ z. rw z) (λ z. rw z found)
 
-  -- the record at a place before the data's end
-  record Next (p : ℕ) (s : Place e b p) : Type 0 where
-    pub this : Rec
-    pub later : List Rec
-    pub is : records e b ≡ s .before ++ (this ∷ later)
-    pub stands : Here e b t (s .before) this later p
-
-  next : (p : ℕ) (s : Place e b p) → p < data-end b → Next p s
-  next p s h = go (s .behind) refl
-    where
-      go : (zs : List Rec) → s .behind ≡ zs → Next p s
-      go [] q = absurd (omega (arith, none-left e b t (s .before) p (s .all ∙ ap (λ (l : List Rec). s .before ++ l) q) (s .place)))
-      go (y ∷ ys) q =
-          let a : records e b ≡ s .before ++ (y ∷ ys) = s .all ∙ ap (λ (l : List Rec). s .before ++ l) q in
-          record { this = y; later = ys; is = a; stands = here e b t (s .before) y ys p a (s .place) }
-
   -- what may be read at a place before the data's end
   pub place-room : (p : ℕ) → Place e b p → p < data-end b → p + 8 ≤ data-end b
-  place-room p s h = let w : Next p s = next p s h in omega (arith, w .stands .fits, w .stands .is-whole .least)
+  place-room p s h = let w : Next e b t p s = next e b t p s h in omega (arith, w .stands .fits, w .stands .is-whole .least)
 
   pub entry-room : (p : ℕ) → Place e b p → p < data-end b → (field p 2 b ≡ 0xffff → ⊥) → p + 11 + byte (p + 8) b + e .ftype ≤ data-end b
   entry-room p s h g =
-      let w : Next p s = next p s h in
+      let w : Next e b t p s = next e b t p s h in
       omega (arith, w .stands .fits, w .stands .says-is, says-entry e b p (ne-eqb (field p 2 b) 0xffff g), entry-size-least e (byte (p + 8) b))
 
   abbrev step-to : ℕ → Seen → Step
   step-to p s = record { next = p; seen = s }
 
   -- no record starts within a record
-  none-inside : (p : ℕ) (s : Place e b p) (w : Next p s) (q : ℕ) → p < q → q < p + size (w .this) → is-place q (data-end b) (records e b) ≡ false
+  none-inside : (p : ℕ) (s : Place e b p) (w : Next e b t p s) (q : ℕ) → p < q → q < p + size (w .this) → is-place q (data-end b) (records e b) ≡ false
   none-inside p s w q l u =
       let y : Rec = w .this in
       let v : Here e b t (s .before) y (w .later) p = w .stands in
@@ -124,7 +100,7 @@ module _ (e : Edition) (sane : Sane e) (b : List ℕ) (r : Ready e b) where
       every-append (elsewhere q) (s .before) (y ∷ w .later) ∙ and-both (every (elsewhere q) (s .before)) _ xs (every-cons (elsewhere q) y (w .later) here′ ys) in
       not-place q (λ (z : q ≡ data-end b). omega (arith, v .fits)) (subst (λ (rs : List Rec). every (elsewhere q) rs ≡ true) (sym (w .is)) al)
 
-  goes : (p n : ℕ) (seen : Seen) (s : Place e b p) (w : Next p s) → size (w .this) ≡ n → step-over e (w .this) .seen ≡ seen
+  goes : (p n : ℕ) (seen : Seen) (s : Place e b p) (w : Next e b t p s) → size (w .this) ≡ n → step-over e (w .this) .seen ≡ seen
       → seen-start seen + seen-len seen ≤ length b → seen-len seen < 256 → Steps e b p (step-to (p + n) seen)
   goes p n seen s w q k nf ns =
       let y : Rec = w .this in
@@ -133,7 +109,7 @@ module _ (e : Edition) (sane : Sane e) (b : List ℕ) (r : Ready e b) where
         says =
             sym (ap (walk-step e b) (sym (s .place)) ∙ step-at e sane b (r .are-bytes) (r .ok) (s .before) y (w .later) (w .is)
             ∙ ap₂ (λ (m : ℕ) (z : Seen). Stepped (record { next = m; seen = z })) (ap₂ (λ (i j : ℕ). i + j) (v .off-is) q) k);
-        leads = record { before = s .before ++ (y ∷ []); behind = w .later; all = w .is ∙ sym (append-assoc (s .before) (y ∷ []) (w .later)); place = v .place ∙ ap (λ (m : ℕ). p + m) q };
+        leads = over e b t p n s w q;
         on = λ (h : p < data-end b). omega (arith, v .is-whole .least);
         within = omega (arith, v .fits);
         none-within = λ q′ l u. none-inside p s w q′ l (omega arith);
@@ -143,14 +119,14 @@ module _ (e : Edition) (sane : Sane e) (b : List ℕ) (r : Ready e b) where
 
   pub step-gap : (p n : ℕ) → Place e b p → p < data-end b → field p 2 b ≡ 0xffff → n ≡ field (p + 2) 2 b → Steps e b p (step-to (p + n) Gap)
   step-gap p n s h g f =
-      let w : Next p s = next p s h in
+      let w : Next e b t p s = next e b t p s h in
       let gs : gap-start (drop p b) ≡ true = eq-eqb (field p 2 b) 0xffff g in
       goes p n Gap s w (w .stands .says-is ∙ says-gap e b p gs ∙ sym f) (rw (w .stands .gap-is ∙ gs)) (omega arith) (omega arith)
 
   pub step-entry : (p n k : ℕ) (i : Target) → Place e b p → p < data-end b → (field p 2 b ≡ 0xffff → ⊥) → k ≡ byte (p + 8) b → k < 256 → n ≡ entry-size e k → i ≡ target-at e b p
       → Steps e b p (step-to (p + n) (Live (record { target = i; tag = p; start = p + 9; len = k })))
   step-entry p n k i s h g ks kb ns is =
-      let w : Next p s = next p s h in
+      let w : Next e b t p s = next e b t p s h in
       let y : Rec = w .this in
       let v : Here e b t (s .before) y (w .later) p = w .stands in
       let gs : gap-start (drop p b) ≡ false = ne-eqb (field p 2 b) 0xffff g in
@@ -168,7 +144,7 @@ module _ (e : Edition) (sane : Sane e) (b : List ℕ) (r : Ready e b) where
 
   pub step-last : (p : ℕ) → Place e b p → data-end b ≤ p → Steps e b p (step-end p)
   step-last p s h =
-      let q : p ≡ data-end b = omega (arith, place-within p s) in
+      let q : p ≡ data-end b = omega (arith, place-within e b t p s) in
       record {
         says = rw q (sym (at-end e sane b (r .are-bytes) (r .ok)));
         leads = s;

@@ -9,7 +9,9 @@ use lib.Dec.{eqb}
 use Rattle.dir_block_rules.specs.Block.{records, data-end}
 use Rattle.dir_block_rules.specs.Walk.{is-place}
 use Rattle.dir_block_laws.specs.Pass.{Place}
-use Rattle.dir_block_laws.proofs.WalkSteps.{place-start, place-is, place-within, beyond, too-early}
+use Rattle.dir_block_laws.proofs.RecordSteps.{place-start, place-within}
+use Rattle.dir_block_laws.proofs.SlotSearch.{tiled}
+use Rattle.dir_block_laws.proofs.WalkSteps.{place-is, beyond, too-early}
 use Rattle.dir_block_lookup.proofs.stands.Statement.{statement}
 use Rattle.dir_block_lookup.proofs.stands.Tie as tie
 
@@ -42,7 +44,7 @@ stands-spec =
     (λ c. let q = c .before .pre in (place-start _ _, too-early _ (q .0 .0) _ (q .0 .1) _))
     (λ c.
     let q = c .before .before .before .before .pre in
-    let s = place-within _ (q .0 .0) (now (c .before .before .before .before .args .b)) (q .0 .1) _ (c .before .before .loop .inv .0) in
+    let s = place-within _ (now (c .before .before .before .before .args .b)) (tiled _ _ (q .0 .1)) _ (c .before .before .loop .inv .0) in
     (sym (beyond _ (q .0 .0) _ (q .0 .1) _ (omega (arith, q .1, s, c .if1 .taken, c .before .loop-test .taken))), λ w. absurd (true≢false (sym w))))
     (λ c κs. let q = c .before .before .before .before .pre in (q .0, (q .1, c .before .before .loop .inv .0)))
     (λ c.

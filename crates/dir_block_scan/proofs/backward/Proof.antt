@@ -4,8 +4,8 @@ use native.Mathlib.Omega.{arith}
 use borrow.Author.Needs.{needs}
 use mathlib.Core.Path.{sym, _∙_}
 use denote.Ref.{now}
-use Rattle.dir_block_laws.proofs.RecordSteps.{end-fits}
-use Rattle.dir_block_laws.proofs.BothEnds.{place-fits, back-fits, back-gap, back-entry}
+use Rattle.dir_block_laws.proofs.RecordSteps.{end-fits, place-within}
+use Rattle.dir_block_laws.proofs.BothEnds.{back-fits, back-gap, back-entry}
 use Rattle.dir_block_scan.specs.Table.{table}
 use Rattle.dir_block_scan.proofs.backward.Statement.{statement}
 use Rattle.dir_block_scan.proofs.backward.Tie as tie
@@ -14,14 +14,18 @@ be16-requires : tie.Need-be16-requires
 be16-requires c κs =
     let p = c .before .before .before .before in
     let b = now (p .args .b) in
-    omega (arith, place-fits _ b (p .pre .0 .1) (p .args .g .at) (p .pre .1 .0 .spot), end-fits _ b (p .pre .0 .1))
+    omega (arith, place-within _ b (p .pre .0 .1) (p .args .g .at) (p .pre .1 .0 .spot), end-fits _ b (p .pre .0 .1))
 
 be16-requires-2 : tie.Need-be16-requires-2
 be16-requires-2 c κs =
     let p = c .before .before .before .before .before in
     let b = now (p .args .b) in
-    omega (arith, place-fits _ b (p .pre .0 .1) (p .args .g .at) (p .pre .1 .0 .spot), end-fits _ b (p .pre .0 .1),
-    back-fits _ b (p .pre .0 .1) (p .args .o) (p .args .g .at) (c .be16 .result) (table (p .args .g)) (p .pre .1 .0) (p .pre .1 .1 .0) (c .before .before .if1 .left) (sym (c .be16 .ensures .0)))
+    omega (
+      arith,
+      place-within _ b (p .pre .0 .1) (p .args .g .at) (p .pre .1 .0 .spot),
+      end-fits _ b (p .pre .0 .1),
+      back-fits _ b (p .pre .0 .1) (p .args .o) (p .args .g .at) (c .be16 .result) (table (p .args .g)) (p .pre .1 .0) (p .pre .1 .1 .0) (c .before .before .if1 .left) (sym (c .be16 .ensures .0)),
+    )
 
 sub-with-pair : tie.Need-sub-with-pair
 sub-with-pair c =
@@ -38,9 +42,10 @@ returns-2 c =
 returns-3 : tie.Need-returns-3
 returns-3 c =
     let p = c .before .before .before .before .before .before .before in
-    let f = back-fits _ (now (p .args .b)) (p .pre .0 .1) (p .args .o) (p .args .g .at) (c .before .before .be16 .result) (table (p .args .g)) (p .pre .1 .0) (p .pre .1 .1 .0) (c .before .before .before .before .if1 .left) (sym (c .before .before .be16 .ensures .0)) in
-    (back-entry _ (now (p .args .b)) (p .pre .0 .1) (p .args .o) (p .args .g .at) (c .before .before .be16 .result) (table (p .args .g)) (p .pre .1 .0) (p .pre .1 .1 .0) (c .before .before .before .before .if1 .left) (sym (c .before .before .be16 .ensures .0)) (λ z. c .if2 .left (c .before .be162 .ensures .0 ∙ z)),
-    (f .0, omega (arith, f .1)))
+    let f = back-fits _ (now (p .args .b)) (p .pre .0 .1) (p .args .o) (p .args .g .at) (c .before .before .be16 .result) (table (p .args .g)) (p .pre .1 .0) (p .pre .1 .1 .0) (c .before .before .before .before .if1 .left) (sym (c .before .before .be16 .ensures .0)) in (
+      back-entry _ (now (p .args .b)) (p .pre .0 .1) (p .args .o) (p .args .g .at) (c .before .before .be16 .result) (table (p .args .g)) (p .pre .1 .0) (p .pre .1 .1 .0) (c .before .before .before .before .if1 .left) (sym (c .before .before .be16 .ensures .0)) (λ z. c .if2 .left (c .before .be162 .ensures .0 ∙ z)),
+      (f .0, omega (arith, f .1)),
+    )
 
 pub backward-spec : {M : Type 1} → statement M
 backward-spec =

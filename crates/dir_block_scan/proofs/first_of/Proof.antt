@@ -1,5 +1,3 @@
--- `dir_block_scan::first_of` meets its contract.
--- Assumes nothing.
 use native.Mathlib.Omega.{arith}
 use Prim.Native.Nat.{_-_, _≤_}
 use denote.Ref.{now}
@@ -58,11 +56,12 @@ loop-less c =
 loop-again : tie.Need-loop-again Inv-loop μ-loop
 loop-again c =
     let p = c .before .before .before .before .before .before in
-    let q = c .before .before .before .before .loop in
-    (shorter-on _ (now (p .args .b)) (p .pre .0 .1) (p .args .l) (q .o) (c .before .before .record-len .result) (q .inv .0)
-    (omega (arith, p .pre .1 .0, c .before .before .before .loop-test .taken)) (c .before .before .record-len .ensures) (p .pre .1 .1 .0) (c .before .be16 .result) (c .before .be16 .ensures .0) (c .if1 .left),
-    record-fits _ (now (p .args .b)) (p .pre .0 .1) (p .args .l) (q .o) (c .before .before .record-len .result) (q .inv .0)
-    (omega (arith, p .pre .1 .0, c .before .before .before .loop-test .taken)) (c .before .before .record-len .ensures) .1)
+    let q = c .before .before .before .before .loop in (
+      shorter-on _ (now (p .args .b)) (p .pre .0 .1) (p .args .l) (q .o) (c .before .before .record-len .result) (q .inv .0)
+          (omega (arith, p .pre .1 .0, c .before .before .before .loop-test .taken)) (c .before .before .record-len .ensures) (p .pre .1 .1 .0) (c .before .be16 .result) (c .before .be16 .ensures .0) (c .if1 .left),
+      record-fits _ (now (p .args .b)) (p .pre .0 .1) (p .args .l) (q .o) (c .before .before .record-len .result) (q .inv .0)
+          (omega (arith, p .pre .1 .0, c .before .before .before .loop-test .taken)) (c .before .before .record-len .ensures) .1,
+    )
 
 returns-2 : tie.Need-returns-2 Inv-loop μ-loop
 returns-2 c =

@@ -1,5 +1,3 @@
--- `dir_block_scan::longest` meets its contract.
--- Assumes nothing.
 use native.Mathlib.Omega.{arith}
 use denote.Ref.{now}
 use Rattle.dir_block_laws.proofs.RecordSteps.{head-end, end-fits}

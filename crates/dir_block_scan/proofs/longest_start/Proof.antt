@@ -1,5 +1,3 @@
--- `dir_block_scan::longest_start` meets its contract.
--- Assumes nothing.
 use native.Mathlib.Omega.{arith}
 use borrow.Author.Needs.{needs}
 use denote.Ref.{now}

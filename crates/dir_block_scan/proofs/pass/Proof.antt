@@ -6,8 +6,8 @@ use Prim.Native.Nat.{_-_, _≤_}
 use mathlib.Core.Path.{sym, _∙_}
 use denote.Ref.{now}
 use Rattle.dir_block_laws.specs.Pass.{Gaps-before, Gaps-behind}
-use Rattle.dir_block_laws.proofs.RecordSteps.{head-end}
-use Rattle.dir_block_laws.proofs.BothEnds.{place-fits, front-start, back-start, all-gaps}
+use Rattle.dir_block_laws.proofs.RecordSteps.{head-end, place-within}
+use Rattle.dir_block_laws.proofs.BothEnds.{front-start, back-start, all-gaps}
 use Rattle.dir_block_scan.specs.Table.{table}
 use Rattle.dir_block_scan.proofs.pass.Statement.{statement}
 use Rattle.dir_block_scan.proofs.pass.Tie as tie
@@ -23,15 +23,18 @@ abbrev μ-loop : tie.MeasureT-loop
 loop-holds : tie.Need-loop-holds Inv-loop μ-loop
 loop-holds c =
     let p = c .before .before .before in
-    let b = now (p .args .b) in
-    (rw (c .before .start .ensures .0, c .before .start .ensures .1) (front-start _ b (p .pre .0 .1)),
-    (rw (c .start2 .ensures .0, c .start2 .ensures .1, p .pre .1) (back-start _ b (p .pre .0 .1)),
-    omega (arith, c .before .start .ensures .1, c .start2 .ensures .1, p .pre .1, head-end _ b (p .pre .0 .1))))
+    let b = now (p .args .b) in (
+      rw (c .before .start .ensures .0, c .before .start .ensures .1) (front-start _ b (p .pre .0 .1)),
+      (
+        rw (c .start2 .ensures .0, c .start2 .ensures .1, p .pre .1) (back-start _ b (p .pre .0 .1)),
+        omega (arith, c .before .start .ensures .1, c .start2 .ensures .1, p .pre .1, head-end _ b (p .pre .0 .1)),
+      ),
+    )
 
 forward-requires : tie.Need-forward-requires Inv-loop μ-loop
 forward-requires c κs =
     let p = c .before .before .before .before .before .before .before in
-    (p .pre .0, (c .before .before .before .loop .inv .0, omega (arith, c .if1 .taken, place-fits _ (now (p .args .b)) (p .pre .0 .1) _ (c .before .before .before .loop .inv .1 .0 .spot))))
+    (p .pre .0, (c .before .before .before .loop .inv .0, omega (arith, c .if1 .taken, place-within _ (now (p .args .b)) (p .pre .0 .1) _ (c .before .before .before .loop .inv .1 .0 .spot))))
 
 backward-requires : tie.Need-backward-requires Inv-loop μ-loop
 backward-requires c κs =

@@ -1,5 +1,3 @@
--- `dir_block_scan::record_len` meets its contract.
--- Assumes nothing.
 use borrow.Author.Needs.{needs}
 use mathlib.Core.Path.{sym, _∙_, ap}
 use denote.Ref.{now}

@@ -8,14 +8,14 @@ returns c =
     let t = c .last-gap .ensures in (
       refl,
       λ ps q.
-      record {
-        best = q;
-        touch-off = t .touch-off;
-        touch-size = t .touch-size;
-        touch-end = t .touch-end;
-        touch-from = t .touch-from;
-        touch-mod = t .touch-mod;
-      },
+          record {
+            best = q;
+            touch-off = t .touch-off;
+            touch-size = t .touch-size;
+            touch-end = t .touch-end;
+            touch-from = t .touch-from;
+            touch-mod = t .touch-mod;
+          },
     )
 
 pub with-last-spec : {M : Type 1} → statement M

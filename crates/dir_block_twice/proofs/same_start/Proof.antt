@@ -16,9 +16,11 @@ abbrev μ-loop : tie.MeasureT-loop
 loop-again : tie.Need-loop-again Inv-loop μ-loop
 loop-again c =
     let l = c .before .before .before .before .loop in
-    let o = c .before .before .before .before .before in
-    (alike-word _ _ (λ i. o .before .before .shared-slice-known .given i .fits) (λ i. o .before .shared-slice-known2 .given i .fits) (l .k) _ _ (l .inv .0)
-    (omega arith) (omega arith) (c .before .before .le64 .ensures) (c .before .le642 .ensures) (c .if1 .left), omega arith)
+    let o = c .before .before .before .before .before in (
+      alike-word _ _ (λ i. o .before .before .shared-slice-known .given i .fits) (λ i. o .before .shared-slice-known2 .given i .fits) (l .k) _ _ (l .inv .0)
+          (omega arith) (omega arith) (c .before .before .le64 .ensures) (c .before .le642 .ensures) (c .if1 .left),
+      omega arith,
+    )
 
 pub same-start-spec : {M : Type 1} → statement M
 same-start-spec =

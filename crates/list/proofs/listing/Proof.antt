@@ -9,7 +9,7 @@ use lib.ListN.{length, length-take}
 use Rattle.dir.specs.declared.Seen.{Seen}
 use Rattle.dir.specs.Answers.{seen-start, seen-len}
 use Rattle.dir_block_laws.specs.Pass.{Place}
-use Rattle.dir_block_laws.proofs.WalkSteps.{place-start}
+use Rattle.dir_block_laws.proofs.RecordSteps.{place-start}
 use Rattle.list.proofs.listing.Statement.{statement}
 use Rattle.list.proofs.listing.Tie as tie
 

@@ -26,9 +26,11 @@ loop-again c =
     let p = c .before .before .before .le64 in
     let q = c .before .before .le642 in
     let r = c .before .le643 in
-    let t = c .le644 in
-    (omega arith, l .inv .1 ∙ chunk-hash (a .s .now) k (l .i) (length (a .s .now)) (omega arith) (c .before .before .before .before .loop-test .taken)
-    (p .result) (q .result) (r .result) (t .result) (p .ensures) (q .ensures) (r .ensures) (t .ensures) (l .u) (l .v) (l .x) (l .y))
+    let t = c .le644 in (
+      omega arith,
+      l .inv .1 ∙ chunk-hash (a .s .now) k (l .i) (length (a .s .now)) (omega arith) (c .before .before .before .before .loop-test .taken)
+          (p .result) (q .result) (r .result) (t .result) (p .ensures) (q .ensures) (r .ensures) (t .ensures) (l .u) (l .v) (l .x) (l .y),
+    )
 
 returns : tie.Need-returns Inv-loop μ-loop
 returns c =
