@@ -33,7 +33,7 @@ pub record Gaps-behind (e : Edition) (b : List ℕ) (u : ℕ) (qs : List Pair) :
   pub spot : Place e b u
   pub best : best-of 3 (gaps (spot .behind)) ≡ qs
 
--- the first place behind o is p
+-- p lies behind o, and no place between the two
 pub record Next-place (e : Edition) (b : List ℕ) (o p : ℕ) : Type 0 where
   pub on : o < p
   pub first : (u : ℕ) → Place e b u → o < u → p ≤ u

@@ -20,7 +20,8 @@ ghost use Rattle.dir_block_laws.specs.Pass.{Place, Gaps-before, Gaps-behind, Ne
 ghost use Rattle.dir_block_scan.specs.Table.{table, top, first, Pairs-small};
 use edition::Edition;
 
-// Where a walk stands; the three longest gaps so far, as offset and length; the gap at the slots (none: the data's end, and 0).
+// Where a walk stands; three gaps as offset and length: after a pass the longest, else what the function says; and where that is asked for
+// the gap at the slots (none: the data's end, and 0).
 pub struct Scan {
     pub at: usize,
     pub o1: usize,
@@ -319,7 +320,7 @@ fn longest_start(e: Edition, b: &[u8], end: usize, s: Scan) -> usize
     s.o2
 }
 
-// The longest gap of an accepted block, and the gap at the slots.
+// The longest gap of an accepted block, as the first pair; the others say nothing. And the gap at the slots.
 pub fn longest(e: Edition, b: &[u8], end: usize) -> Scan
     requires { ⌜ Sane e × Ready e (now b) ⌝ }
     requires { ⌜ end ≡ data-end (now b) ⌝ }
@@ -468,7 +469,7 @@ fn used(s: Scan, n: usize, stale: usize, end: usize) -> Scan
 }
 
 // The best-gap table anew, after an entry with a name of n bytes went in. Before that the stored pairs were s, the slots started at end,
-// and some of them were stale. Without a third pair the first two named all gaps, and no pass is made.
+// and so many of them were stale. Without a third pair the first two named all gaps, and no pass is made.
 pub fn used_table(e: Edition, b: &mut [u8], s: Scan, end: usize, stale: usize, n: usize)
     requires { ⌜ Sane e × Tiled e (now b) ⌝ }
     requires { ⌜ Pairs-small s × ((n < 256) × ((stale < 8192) × (end ≤ 65536))) ⌝ }

@@ -154,7 +154,8 @@ fn equal_bytes(s: &[u8], t: &[u8]) -> bool
     true
 }
 
-// Whether two runs of bytes are equal: eight bytes a turn, and the last eight at the end, which are in part compared before.
+// Whether two runs of bytes are equal: eight bytes a turn, and the last eight at the end, of which some may have been compared before; fewer
+// than eight byte by byte.
 pub fn equal(s: &[u8], t: &[u8]) -> bool
     ensures { λ r. ⌜ r ≡ same (now (s .entry)) (now (t .entry)) ⌝ }
 {

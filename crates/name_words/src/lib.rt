@@ -227,13 +227,13 @@ pub fn number_legal_at(b: &[u8], o: usize) -> bool
 
 // ---- the hash alone, of bytes that nothing need follow
 
-// The bytes up to a place, and their hash.
+// A place, and a hash that goes on from there.
 struct Hashed {
     at: usize,
     hash: u32,
 }
 
-// Runs of 32, as long as more bytes are left.
+// Runs of 32, as long as more than 32 bytes are left.
 fn runs(s: &[u8]) -> Hashed
     requires { ⌜ 0 < length (now s) ⌝ }
     ensures { λ r. ⌜ (r .at < length (now (s .entry)))
