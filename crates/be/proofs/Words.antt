@@ -1,7 +1,7 @@
 -- Words: little-endian numbers in bytes, in halves, there and back; and what a word shows of a big-endian number.
 -- Assumes nothing.
 use Prim.Native.Nat.{ℕ, zero, suc, _+_, _*_, _/_, _%_, _^_, _≤_, _<_}
-use native.Mathlib.Nat.{pow-suc, add-mul, mul-assoc, add-assoc, mod-lt, mod-one, mod-eq-of-lt}
+use native.Mathlib.Nat.{zero-add, suc-add, pow-suc, add-mul, mul-assoc, add-assoc, div-one, mod-lt, mod-one, mod-eq-of-lt}
 use native.Mathlib.Omega.{arith}
 use mathlib.Core.Path.{_≡_, refl, sym, ap, ap₂, _∙_}
 use mathlib.Core.Bool.{true}
@@ -9,13 +9,14 @@ use mathlib.Core.List.{List, [], _∷_, _++_}
 use lib.Arith.{digits-div, digits-mod}
 use lib.Dec.{eqb, ltb, lit<}
 use lib.ListN.{length, take, drop}
-use lib.Pow.{mod-pow-add}
+use lib.Pow.{mod-pow-add, shr-shr}
 use lib.Seq.{drop-cons, take-all, take-take}
 use borrow.Author.Tests.{ltb-true, lt-ltb, eqb-true, eqb-false, eq-eqb, ne-eqb}
-use Rattle.be.specs.Bytes.{bytes, be, be-from, byte, part, field}
+use Rattle.be.specs.Bytes.{bytes, be, be-from, to-be, byte, part, field, put}
 use Rattle.be.specs.Words.{le, to-le}
 use Rattle.be.proofs.Bools.{by-cases, every-head, every-tail, every-cons}
 use Rattle.be.proofs.Parts.{part-length, part-add, bytes-all, bytes-take, bytes-drop}
+use Rattle.be.proofs.Writes.{put-next}
 
 -- ---- elements below 2 ^ k, to go through them one by one
 
@@ -100,6 +101,48 @@ pub word-bytes : (b : List ℕ) → ((i : ℕ) → byte i b < 256) → (o : ℕ)
 word-bytes b known o fits n w p e =
     let l : length (part o 8 b) ≡ 8 = part-length o 8 b fits in
     ap (to-le n) e ∙ to-le-take n (bytes-part b known o 8) (omega arith) ∙ take-take n 8 (drop o b) p
+
+-- a number of n + m bytes is one of n bytes, and one of m behind it
+to-le-halves : (n m v : ℕ) → to-le (n + m) v ≡ to-le n v ++ to-le m (v / 2 ^ (8 * n))
+unfolding to-le
+to-le-halves zero m v = ap₂ to-le (zero-add m) (sym (div-one v))
+to-le-halves (suc n) m v =
+    let e : 8 + 8 * n ≡ 8 * suc n = omega arith in
+    ap (λ (k : ℕ). to-le k v) (suc-add n m)
+    ∙ ap (λ (l : List ℕ). v % 256 ∷ l) (to-le-halves n m (v / 256))
+    ∙ ap (λ (k : ℕ). v % 256 ∷ (to-le n (v / 256) ++ to-le m k)) (shr-shr v 8 (8 * n) ∙ ap (λ (k : ℕ). v / 2 ^ k) e)
+
+pub put-le-halves : (b : List ℕ) (o n m v : ℕ) → put (put b o (to-le n v)) (o + n) (to-le m (v / 2 ^ (8 * n))) ≡ put b o (to-le (n + m) v)
+put-le-halves b o n m v =
+    put-next b (o + n) o (to-le n v) (to-le m (v / 2 ^ (8 * n))) (rw length-to-le) ∙ ap (put b o) (sym (to-le-halves n m v))
+
+-- one byte is the same either way
+pub one-byte : (v : ℕ) → to-be 1 v ≡ to-le 1 v
+unfolding to-be to-le
+one-byte v = simp div-one
+
+-- ---- beside the big-endian number in the same bytes: one is 0 where the other is
+
+be-least : (a : ℕ) (xs : List ℕ) → a ≤ be-from a xs
+unfolding be-from
+be-least a [] = omega arith
+be-least a (x ∷ xs) = omega (arith, be-least (a * 256 + x) xs)
+
+pub le-zero : (l : List ℕ) → le l ≡ 0 → be l ≡ 0
+unfolding le be be-from
+le-zero [] h = refl
+le-zero (x ∷ xs) h =
+    let z : 0 * 256 + x ≡ 0 = omega arith in
+    let r : le xs ≡ 0 = omega arith in
+    ap (λ (a : ℕ). be-from a xs) z ∙ le-zero xs r
+
+pub be-zero : (l : List ℕ) → be l ≡ 0 → le l ≡ 0
+unfolding le be be-from
+be-zero [] h = refl
+be-zero (x ∷ xs) h =
+    let z : 0 * 256 + x ≡ 0 = omega (arith, be-least (0 * 256 + x) xs) in
+    let r : le xs ≡ 0 = be-zero xs (ap (λ (a : ℕ). be-from a xs) (sym z) ∙ h) in
+    omega arith
 
 -- ---- two bytes of ones, whichever of them comes first
 

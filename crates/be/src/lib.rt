@@ -4,7 +4,7 @@ ghost use Prim.Native.Nat.{_+_, _≤_, _<_};
 ghost use lib.Dec.{eqb};
 ghost use lib.ListN.{length, replicate};
 ghost use Rattle.be.specs.Bytes.{byte, part, field, put, to-be};
-ghost use Rattle.be.specs.Words.{le};
+ghost use Rattle.be.specs.Words.{le, to-le};
 
 fn wide(x: u8) -> usize
     ensures { λ r. ⌜ (r ≡ x) × (r < 256) ⌝ }
@@ -60,14 +60,15 @@ fn le16(b: &[u8], o: usize) -> u64
     le8(b, o + 1) * 256 + le8(b, o)
 }
 
-fn le32(b: &[u8], o: usize) -> u64
+// The number in 4 bytes from a place on, least significant first.
+pub fn le32(b: &[u8], o: usize) -> u64
     requires { ⌜ o + 4 ≤ length (now b) ⌝ }
     ensures { λ r. ⌜ (r ≡ le (part o 4 (now (b .entry)))) × (r < 4294967296) ⌝ }
 {
     le16(b, o + 2) * 65536 + le16(b, o)
 }
 
-// The number in 8 bytes from a place on, least significant first.
+// In 8 bytes.
 pub fn le64(b: &[u8], o: usize) -> u64
     requires { ⌜ o + 8 ≤ length (now b) ⌝ }
     ensures { λ r. ⌜ r ≡ le (part o 8 (now (b .entry))) ⌝ }
@@ -118,6 +119,31 @@ pub fn put64(b: &mut [u8], o: usize, v: u64)
 {
     put32(b, o, (v / 4294967296) as usize);
     put32(b, o + 4, v as usize);
+}
+
+fn put_le16(b: &mut [u8], o: usize, v: u64)
+    requires { ⌜ o + 2 ≤ length (now b) ⌝ }
+    ensures { λ _. ⌜ now (b .exit) ≡ put (now (b .entry)) o (to-le 2 v) ⌝ }
+{
+    put8(b, o, v as usize);
+    put8(b, o + 1, (v / 256) as usize);
+}
+
+fn put_le32(b: &mut [u8], o: usize, v: u64)
+    requires { ⌜ o + 4 ≤ length (now b) ⌝ }
+    ensures { λ _. ⌜ now (b .exit) ≡ put (now (b .entry)) o (to-le 4 v) ⌝ }
+{
+    put_le16(b, o, v);
+    put_le16(b, o + 2, v / 65536);
+}
+
+// 8 bytes, least significant first: this compiles to one store.
+pub fn put_le64(b: &mut [u8], o: usize, v: u64)
+    requires { ⌜ o + 8 ≤ length (now b) ⌝ }
+    ensures { λ _. ⌜ now (b .exit) ≡ put (now (b .entry)) o (to-le 8 v) ⌝ }
+{
+    put_le32(b, o, v);
+    put_le32(b, o + 4, v / 4294967296);
 }
 
 // Stores n zeros from a place on.

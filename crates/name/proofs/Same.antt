@@ -8,9 +8,10 @@ use lib.Dec.{eqb}
 use lib.ListN.{length}
 use borrow.Author.Tests.{eqb-true, eq-eqb}
 use Rattle.be.specs.Lists.{same}
-use Rattle.be.proofs.Bools.{and-left, and-right, and-both, neither, by-cases, clash}
+use Rattle.be.proofs.Bools.{and-left, and-right, and-both, neither, or-cases, by-cases, clash}
 use Rattle.edition.specs.declared.Edition.{Edition}
-use Rattle.name.specs.Name.{same-name, hash-of, fixed-name, dot, dotdot}
+use Rattle.name.specs.Name.{same-name, hash-of, legal-name, fixed-name, dot, dotdot}
+use Rattle.name.proofs.Legality.{dot-legal, dotdot-legal}
 
 pub same-refl : (n : List ℕ) → same n n ≡ true
 same-refl [] = refl
@@ -59,7 +60,19 @@ module _ (e : Edition) where
   unfolding same-name
   same-name-fixed n m h = ap fixed-name (same-eq n m h)
 
+  pub same-name-legal : (n m : List ℕ) → same-name e n m ≡ true → legal-name e n ≡ legal-name e m
+  unfolding same-name
+  same-name-legal n m h = ap (legal-name e) (same-eq n m h)
+
   -- "." and ".." are the same name as themselves alone
   pub same-name-as-fixed : (n d : List ℕ) → fixed-name d ≡ true → same-name e n d ≡ same n d
   unfolding same-name
   same-name-as-fixed n d h = refl
+
+  -- and are legal
+  pub fixed-legal : (n : List ℕ) → fixed-name n ≡ true → legal-name e n ≡ true
+  unfolding fixed-name
+  fixed-legal n h =
+      or-cases (same n dot) (same n dotdot) h
+      (λ q. ap (legal-name e) (same-eq n dot q) ∙ dot-legal e)
+      (λ q. ap (legal-name e) (same-eq n dotdot q) ∙ dotdot-legal e)

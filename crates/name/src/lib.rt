@@ -2,9 +2,10 @@
 ghost use mathlib.Core.Path.{_≡_};
 ghost use mathlib.Core.Bool.{cond};
 ghost use mathlib.Core.List.{[], _∷_};
-ghost use Prim.Native.Nat.{_≤_, _<_};
-ghost use lib.ListN.{length, take};
+ghost use Prim.Native.Nat.{_+_, _≤_, _<_};
+ghost use lib.ListN.{length, take, drop};
 ghost use Rattle.be.specs.Lists.{every, same};
+ghost use Rattle.be.specs.Bytes.{part};
 ghost use Rattle.name.specs.Name.{clear-of, legal-name, legal-attr-name, legal-number, rol, hash-from, hash-of, same-name, fixed-name};
 use edition::Edition;
 
@@ -154,8 +155,36 @@ fn equal_bytes(s: &[u8], t: &[u8]) -> bool
     true
 }
 
-// Whether two runs of bytes are equal: eight bytes a turn, and the last eight at the end, of which some may have been compared before; fewer
-// than eight byte by byte.
+// Whether the 32 bytes at i of both are equal, by words.
+fn equal_32(s: &[u8], t: &[u8], i: usize) -> bool
+    requires { ⌜ (i + 32 ≤ length (now s)) × (i + 32 ≤ length (now t)) ⌝ }
+    ensures { λ r. ⌜ r ≡ same (part i 32 (now (s .entry))) (part i 32 (now (t .entry))) ⌝ }
+{
+    (be::le64(s, i) == be::le64(t, i))
+        & ((be::le64(s, i + 8) == be::le64(t, i + 8))
+            & ((be::le64(s, i + 16) == be::le64(t, i + 16))
+                & (be::le64(s, i + 24) == be::le64(t, i + 24))))
+}
+
+// Whether two runs as long as each other, of eight bytes at least, are equal, where those before i0 are: eight bytes a turn, and the last
+// eight at the end, of which some may have been compared before.
+fn equal_words(s: &[u8], t: &[u8], i0: usize) -> bool
+    requires { ⌜ (length (now s) ≡ length (now t)) × ((8 ≤ length (now s)) × (i0 ≤ length (now s))) ⌝ }
+    requires { ⌜ same (now s) (now t) ≡ same (drop i0 (now s)) (drop i0 (now t)) ⌝ }
+    ensures { λ r. ⌜ r ≡ same (now (s .entry)) (now (t .entry)) ⌝ }
+{
+    let n = s.len();
+    let mut i = i0;
+    while 8 < n - i {
+        if be::le64(s, i) != be::le64(t, i) {
+            return false;
+        }
+        i += 8;
+    }
+    be::le64(s, n - 8) == be::le64(t, n - 8)
+}
+
+// Whether two runs of bytes are equal: 32 bytes a turn, then eight; fewer than eight byte by byte.
 pub fn equal(s: &[u8], t: &[u8]) -> bool
     ensures { λ r. ⌜ r ≡ same (now (s .entry)) (now (t .entry)) ⌝ }
 {
@@ -167,13 +196,13 @@ pub fn equal(s: &[u8], t: &[u8]) -> bool
         return equal_bytes(s, t);
     }
     let mut i = 0;
-    while 8 < n - i {
-        if be::le64(s, i) != be::le64(t, i) {
+    while 32 < n - i {
+        if !equal_32(s, t, i) {
             return false;
         }
-        i += 8;
+        i += 32;
     }
-    be::le64(s, n - 8) == be::le64(t, n - 8)
+    equal_words(s, t, i)
 }
 
 // Whether the directory name s asked for is the stored name t.

@@ -3,7 +3,7 @@
 use Prim.Native.Nat.{ℕ, _+_, _*_, _%_, _^_, _≤_, _<_}
 use mathlib.Core.Path.{_≡_, refl, sym, _∙_, ap, subst}
 use mathlib.Core.Bool.{true, not, _&&_}
-use mathlib.Core.List.{List, [], _∷_}
+use mathlib.Core.List.{List, _∷_}
 use native.Mathlib.Omega.{arith}
 use lib.Arith.{digits-mod}
 use lib.Dec.{eqb, leb}
@@ -14,30 +14,8 @@ use Rattle.be.specs.Words.{le}
 use Rattle.be.proofs.Bools.{by-cases}
 use Rattle.be.proofs.Numbers.{be-high, be-lt}
 use Rattle.be.proofs.Parts.{part-length}
-use Rattle.be.proofs.Words.{Bytes, none, more, bytes-true, bytes-part}
+use Rattle.be.proofs.Words.{Bytes, none, more, bytes-true, bytes-part, le-zero, be-zero}
 use Rattle.name.specs.Name.{legal-number}
-
--- all bytes are 0
-be-least : (a : ℕ) (xs : List ℕ) → a ≤ be-from a xs
-unfolding be-from
-be-least a [] = omega arith
-be-least a (x ∷ xs) = omega (arith, be-least (a * 256 + x) xs)
-
-le-zero : (l : List ℕ) → le l ≡ 0 → be l ≡ 0
-unfolding le be be-from
-le-zero [] h = refl
-le-zero (x ∷ xs) h =
-    let z : 0 * 256 + x ≡ 0 = omega arith in
-    let r : le xs ≡ 0 = omega arith in
-    ap (λ (a : ℕ). be-from a xs) z ∙ le-zero xs r
-
-be-zero : (l : List ℕ) → be l ≡ 0 → le l ≡ 0
-unfolding le be be-from
-be-zero [] h = refl
-be-zero (x ∷ xs) h =
-    let z : 0 * 256 + x ≡ 0 = omega (arith, be-least (0 * 256 + x) xs) in
-    let r : le xs ≡ 0 = be-zero xs (ap (λ (a : ℕ). be-from a xs) (sym z) ∙ h) in
-    omega arith
 
 number-law : {l : List ℕ} → Bytes l → length l ≡ 8 → (not (eqb (le l) 0) && eqb (le l % 256) 0) ≡ legal-number (be l)
 unfolding le be be-from legal-number

@@ -7,6 +7,7 @@ pub mod Linear
 pub mod LastWord
 pub mod WordWalk
 pub mod Overlay
+pub mod TwoWords
 pub mod WholeName
 pub mod Keys
 pub mod InodeNumbers

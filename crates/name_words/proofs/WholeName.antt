@@ -1,6 +1,6 @@
 -- A name of up to 255 bytes: what its bytes and their hash show of it.
 -- Assumes nothing.
-use Prim.Native.Nat.{ℕ, _+_, _-_, _≤_, _<_}
+use Prim.Native.Nat.{ℕ, _+_, _-_, _^_, _≤_, _<_}
 use mathlib.Core.Path.{_≡_, sym, ap, _∙_}
 use mathlib.Core.Bool.{Bool, false}
 use mathlib.Core.List.{List, []}
@@ -26,15 +26,21 @@ module _ (e : Edition) (b : List ℕ) (i end : ℕ) where
   unfolding hash-of hash-from
   hash-nothing h = sym (ap (hash-of e) (nothing h))
 
-  pub legal-is : i < end → end ≤ length b → end ≤ i + 255 → (s : Bool) → s ≡ every legal-byte (part i (end - i) b)
+  legal-is : i < end → end ≤ length b → end ≤ i + 255 → (s : Bool) → s ≡ every legal-byte (part i (end - i) b)
       → s ≡ legal-name e (part i (end - i) b)
   legal-is p q r s h =
       let l : length (part i (end - i) b) ≡ end - i = part-length i (end - i) b (omega arith) in
       h ∙ legal-rest e (part i (end - i) b) (omega arith) (omega arith)
 
-  pub hash-is : (h : ℕ) → h ≡ hash-from 0 (part i (end - i) b) → h ≡ hash-of e (part i (end - i) b)
+  hash-is : (h : ℕ) → h ≡ hash-from 0 (part i (end - i) b) → h ≡ hash-of e (part i (end - i) b)
   unfolding hash-of
   hash-is h x = x
+
+  -- legality and hash at once
+  pub shown : i < end → end ≤ length b → end ≤ i + 255 → (s m : Bool) (h r : ℕ) → s ≡ m → h ≡ r → h < 2 ^ 32
+      → (r ≡ hash-from 0 (part i (end - i) b)) × (m ≡ every legal-byte (part i (end - i) b))
+      → (s ≡ legal-name e (part i (end - i) b)) × ((h ≡ hash-of e (part i (end - i) b)) × (h < 2 ^ 32))
+  shown p q t s m h r es eh l f = (legal-is p q t s (es ∙ f .1), (hash-is h (eh ∙ f .0), l))
 
 -- a name by itself
 pub hash-whole : (e : Edition) (s : List ℕ) (h : ℕ) → h ≡ hash-from 0 (part 0 (length s - 0) s) → h ≡ hash-of e s

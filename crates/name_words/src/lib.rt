@@ -198,7 +198,22 @@ fn judged(g: Read) -> Checked
     Checked { legal, hash }
 }
 
-// Legality and hash of the directory name from i up to end, where eight more bytes follow it. Up to eight bytes are one word, with no loop.
+// What a name of 9 to 16 bytes shows, with no loop. Its first eight bytes and its last eight are all of it. For the hash, those before the last
+// eight are moved to the end of a word, where the zeros before them add nothing.
+fn two_words(b: &[u8], i: usize, end: usize) -> Read
+    requires { ⌜ (i + 8 < end) × (end ≤ i + 16) × (end ≤ length (now b)) ⌝ }
+    ensures { λ r. ⌜ (r .hash ≡ hash-from 0 (part i (end - i) (now (b .entry))))
+        × (marked (r .marks) ≡ every legal-byte (part i (end - i) (now (b .entry)))) ⌝ }
+{
+    let v = be::le64(b, i);
+    let w = be::le64(b, end - 8);
+    let h = hash_word(moved(v, (end - 8 - i) as u32));
+    let hash = with_word(h, w);
+    let m = marks(v) & marks(w);
+    Read { marks: m, hash }
+}
+
+// Legality and hash of the directory name from i up to end, where eight more bytes follow it. Up to eight bytes are one word.
 pub fn check_in(e: Edition, b: &[u8], i: usize, end: usize) -> Checked
     requires { ⌜ (i ≤ end) × (end + 8 ≤ length (now b)) × (end ≤ i + 255) ⌝ }
     ensures { λ r. ⌜ (r .legal ≡ legal-name e (part i (end - i) (now (b .entry))))
@@ -212,6 +227,9 @@ pub fn check_in(e: Edition, b: &[u8], i: usize, end: usize) -> Checked
     }
     if end - i <= 8 {
         return judged(one_word(be::le64(b, i), (end - i) as u32));
+    }
+    if end - i <= 16 {
+        return judged(two_words(b, i, end));
     }
     judged(all_words(b, i, end))
 }

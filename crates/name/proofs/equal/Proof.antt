@@ -1,11 +1,12 @@
 use Prim.Native.Nat.{_-_}
 use native.Mathlib.Omega.{arith}
-use mathlib.Core.Path.{refl}
+use mathlib.Core.Path.{refl, sym, _∙_}
 use borrow.Author.Needs.{needs}
+use borrow.Author.Tests.{not-true, not-false}
 use lib.ListN.{length}
 use Rattle.be.specs.Lists.{same}
 use Rattle.name.proofs.Scans.{Alike, unlike}
-use Rattle.name.proofs.EqualWords.{alike-word, alike-word-not, last-words}
+use Rattle.name.proofs.EqualWords.{alike-run, alike-run-not}
 use Rattle.name.proofs.equal.Statement.{statement}
 use Rattle.name.proofs.equal.Tie as tie
 
@@ -17,22 +18,17 @@ abbrev μ-loop : tie.MeasureT-loop
 
 returns-3 : tie.Need-returns-3 Inv-loop μ-loop
 returns-3 c =
-    let l = c .before .before .before .before .loop in
-    alike-word-not _ _ _ (l .i) _ _ (l .inv) (omega arith) (c .before .before .le64 .ensures) (c .before .le642 .ensures) (c .if3 .taken)
+    let l = c .before .before .before .loop in
+    alike-run-not _ _ _ (l .i) 32 (l .inv) (omega arith) (sym (c .before .equal-32 .ensures) ∙ not-true _ (c .if3 .taken))
 
 loop-again : tie.Need-loop-again Inv-loop μ-loop
 loop-again c =
-    let l = c .before .before .before .before .loop in
-    let k = c .before .before .before .before .before .before .before in
-    alike-word _ _ _ (l .i) _ _ (l .inv) (omega arith) (c .before .before .le64 .ensures) (c .before .le642 .ensures)
-    (λ n. k .before .shared-slice-known .given n .fits) (λ n. k .shared-slice-known2 .given n .fits) (c .if3 .left)
-
-returns-4 : tie.Need-returns-4 Inv-loop μ-loop
-returns-4 c =
     let l = c .before .before .before .loop in
-    let k = c .before .before .before .before .before .before in
-    last-words _ _ (λ n. k .before .shared-slice-known .given n .fits) (λ n. k .shared-slice-known2 .given n .fits) (l .i) _ _ (l .inv)
-    (omega arith) (omega arith) (c .before .le643 .ensures) (c .le644 .ensures)
+    alike-run _ _ _ (l .i) 32 (l .inv) (omega arith) (sym (c .before .equal-32 .ensures) ∙ not-false _ (c .if3 .left))
+
+equal-words-requires : tie.Need-equal-words-requires Inv-loop μ-loop
+equal-words-requires c κs =
+    let a = c .before .loop .inv in ((a .long, (omega arith, a .upto)), a .rest)
 
 pub equal-spec : {M : Type 1} → statement M
 equal-spec =
@@ -46,11 +42,9 @@ equal-spec =
     (λ c. record { upto = search needs; long = search needs; rest = refl })
     (λ c. omega arith)
     (λ c κs. omega arith)
-    (λ c κs. omega arith)
     returns-3
     (λ c. omega arith)
     (λ c. omega arith)
     loop-again
-    (λ c κs. omega arith)
-    (λ c κs. omega arith)
-    returns-4)
+    equal-words-requires
+    (λ c. search needs))
