@@ -1,12 +1,12 @@
--- Insert and removal up to the search: a refusal leaves every byte; without one the block is accepted and the request legal.
+-- Insert and removal up to the search: a refusal leaves every byte; without one the block is accepted, and what an insert asks for is legal.
 -- Assumes nothing.
 use Prim.Native.Nat.{ℕ}
 use native.Mathlib.Omega.{arith}
 use mathlib.Core.Bool.{Bool, true, false, not, _&&_}
-use mathlib.Core.Path.{_≡_, refl, sym, _∙_, ap, ap₂}
+use mathlib.Core.Path.{_≡_, refl, sym, _∙_, ap₂}
 use mathlib.Core.List.{List}
 use borrow.Author.Tests.{eq-eqb, ne-eqb}
-use Rattle.refusal.specs.Refusal.{ABSENT, EXISTS, NOROOM}
+use Rattle.refusal.specs.Refusal.{EXISTS, NOROOM}
 use Rattle.be.proofs.Bools.{by-cases}
 use Rattle.be.specs.Codes.{_unless_then_}
 use Rattle.edition.specs.declared.Edition.{Edition}
@@ -17,6 +17,7 @@ use Rattle.dir.specs.declared.Target.{Target}
 use Rattle.dir_block_rules.specs.Lookup.{sought}
 use Rattle.dir_block_rules.specs.Room.{has-room}
 use Rattle.dir_block_rules.specs.Change.{insert-code, insert-bytes, remove-code, remove-bytes}
+use Rattle.dir_block_laws.proofs.EditAnswers.{remove-refused}
 use Rattle.dir_block_edit.specs.Refusal.{asked-of}
 
 -- ---- the request
@@ -79,20 +80,5 @@ module _ (e : Edition) (b n : List ℕ) (i : Target) where
 
 module _ (e : Edition) (b n : List ℕ) where
   pub remove-tested : (t : ℕ) → t ≡ verdict e b → (t ≡ 0 → ⊥) → (t ≡ remove-code e b n) × (b ≡ remove-bytes e b n)
-  unfolding remove-bytes remove-code
-  remove-tested t q z =
-      let s : remove-code e b n ≡ t = rw (ne-eqb (verdict e b) 0 (λ y. z (q ∙ y))) (sym q) in
-      (sym s, sym (rw (ne-eqb (remove-code e b n) 0 (λ y. z (sym s ∙ y)))))
-
-  module _ (t : ℕ) (tq : t ≡ verdict e b) (tz : t ≡ 0) where
-    remove-chain : remove-code e b n ≡ asked-of (legal-name e n) (fixed-name n) (ABSENT unless sought e b n .hit then 0)
-    unfolding remove-code asked-of
-    remove-chain = rw (eq-eqb (verdict e b) 0 (sym tq ∙ tz)) refl
-
-    pub remove-refused : (r : ℕ) (l : Bool) → l ≡ legal-name e n → r ≡ asked-of l (fixed-name n) 0 → (r ≡ 0 → ⊥)
-        → (r ≡ remove-code e b n) × (b ≡ remove-bytes e b n)
-    unfolding remove-bytes
-    remove-refused r l v q z =
-        let q′ : r ≡ asked-of (legal-name e n) (fixed-name n) 0 = q ∙ ap (λ (x : Bool). asked-of x (fixed-name n) 0) v in
-        let s : remove-code e b n ≡ r = remove-chain ∙ refused _ _ _ (λ y. z (q′ ∙ y)) ∙ sym q′ in
-        (sym s, sym (rw (ne-eqb (remove-code e b n) 0 (λ y. z (sym s ∙ y)))))
+  unfolding remove-code
+  remove-tested t q z = remove-refused e b n t z (rw (ne-eqb (verdict e b) 0 (λ y. z (q ∙ y))) (sym q))

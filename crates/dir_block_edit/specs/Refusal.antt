@@ -1,4 +1,4 @@
--- The refusals of an insert's or a removal's request that need no search, and what follows them.
+-- The refusals of an insert's request that need no search, and what follows them.
 -- Assumes nothing.
 use Prim.Native.Nat.{ℕ}
 use mathlib.Core.Bool.{Bool, not}

@@ -17,7 +17,7 @@ ghost use Rattle.dir_block_rules.specs.Change.{longest, gap-start-before, gap-e
 ghost use Rattle.dir_block_laws.specs.Tiled.{Ready, Tiled};
 ghost use Rattle.dir_block_laws.specs.SlotIndex.{Spot};
 ghost use Rattle.dir_block_laws.specs.Pass.{Entry-at, Inside, Scanned};
-ghost use Rattle.dir_block_scan.specs.Table.{top, first};
+ghost use Rattle.dir_block_scan.specs.Table.{first};
 ghost use Rattle.dir_block_edit.specs.Chosen.{chosen};
 ghost use Rattle.dir_block_edit.specs.Refusal.{asked-of};
 use dir::Target;
@@ -113,11 +113,10 @@ fn remove_found(e: Edition, b: &mut [u8], end: usize, slot: usize, at: usize, na
     dir_block_scan::joined_table(e, b, s, g.start, g.end);
 }
 
-// The removal of a legal name other than "." and "..", whose hash is h: 0, or 13 if it is absent.
+// The removal of a name other than "." and "..", whose hash is h: 0, or where it is not found 11 or 13. A name that is found is legal.
 fn remove_ready(e: Edition, b: &mut [u8], name: &[u8], h: usize) -> usize
     requires { ⌜ Sane e × Ready e (now b) ⌝ }
-    requires { ⌜ (legal-name e (now name) ≡ true) × (fixed-name (now name) ≡ false) ⌝ }
-    requires { ⌜ h ≡ hash-of e (now name) ⌝ }
+    requires { ⌜ (fixed-name (now name) ≡ false) × (h ≡ hash-of e (now name)) ⌝ }
     ensures { λ r. ⌜ (r ≡ remove-code e (now (b .entry)) (now (name .entry)))
         × (now (b .exit) ≡ remove-bytes e (now (b .entry)) (now (name .entry))) ⌝ }
 {
@@ -129,6 +128,9 @@ fn remove_ready(e: Edition, b: &mut [u8], name: &[u8], h: usize) -> usize
     if hit {
         remove_found(e, b, end, f.index, f.at, name);
         return 0;
+    }
+    if !name::legal(e, name) {
+        return refusal::ASKED;
     }
     refusal::ABSENT
 }
@@ -290,7 +292,7 @@ fn choose_cd(
     requires { ⌜ Sane e × Ready e (now b) ⌝ }
     requires { ⌜ (end ≡ data-end (now b)) × ((count ≡ count-of (now b)) × (0 ≡ stale-of (now b))) ⌝ }
     requires { ⌜ Spot (now b) h p ⌝ }
-    requires { ⌜ Scanned e (now b) (top g) (g .tat) (g .tlen) ⌝ }
+    requires { ⌜ Scanned e (now b) (first g) (g .tat) (g .tlen) ⌝ }
     requires { ⌜ (longest (other-gaps (room-of e (now b) (now name))) .off ≡ o)
         × (size (longest (other-gaps (room-of e (now b) (now name)))) ≡ l) ⌝ }
     requires { ⌜ (h ≡ hash-of e (now name)) × ((need ≡ entry-size e (length (now name))) × (length (now name) < 256)) ⌝ }
@@ -366,13 +368,13 @@ fn choose(
 {
     let need = edition::entry_size(e, name.len());
     let p = dir_block_index::spot(e, &b[..], end, count, h);
+    let g = dir_block_scan::longest(e, &b[..], end);
     if 0 < stale {
-        let g = dir_block_scan::longest(e, &b[..], end);
         return choose_ab(e, b, end, count, stale, p, g, h, need, to, name);
     }
-    let g = dir_block_scan::known(e, &b[..], end);
     if g.o1 == g.tat {
-        return choose_cd(e, b, end, count, p, g, g.o2, g.l2, h, need, to, name);
+        let t = dir_block_scan::next_longest(e, &b[..], end, g.o1);
+        return choose_cd(e, b, end, count, p, g, t.at, t.len, h, need, to, name);
     }
     choose_cd(e, b, end, count, p, g, g.o1, g.l1, h, need, to, name)
 }
@@ -404,7 +406,7 @@ fn insert_ready(e: Edition, b: &mut [u8], to: Target, name: &[u8], h: usize) -> 
     refusal::NOROOM
 }
 
-// The refusals of a request that need no search: 11 if it is not legal, 12; 0 if there is none.
+// The refusals of an insert's request that need no search: 11 if it is not legal, 12; 0 if there is none.
 fn request(name: &[u8], legal: bool) -> usize
     ensures { λ r. ⌜ r ≡ asked-of legal (fixed-name (now (name .entry))) 0 ⌝ }
 {
@@ -446,9 +448,12 @@ fn remove_in(e: Edition, b: &mut [u8], name: &[u8]) -> usize
     if k != 0 {
         return k;
     }
-    let refused = request(name, name::legal(e, name));
-    if refused != 0 {
-        return refused;
+    // Too long to be a name, and not hashed.
+    if 255 < name.len() {
+        return refusal::ASKED;
+    }
+    if name::fixed(name) {
+        return refusal::FIXED;
     }
     remove_ready(e, b, name, name_words::hash(e, name))
 }

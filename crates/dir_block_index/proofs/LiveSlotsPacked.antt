@@ -6,18 +6,21 @@ use native.Mathlib.Omega.{arith}
 use mathlib.Core.Bool.{Bool, true}
 use mathlib.Core.Path.{_≡_, refl, sym, _∙_, ap, ap₂}
 use mathlib.Core.List.{List, [], _∷_, _++_, append-assoc}
-use lib.Dec.{leb, ltb}
+use lib.Dec.{leb, ltb, lit≤}
 use lib.ListN.{length, take, drop, length-append, take-append-drop}
 use lib.Seq.{drop-drop}
 use borrow.Author.Tests.{eq-eqb, ne-eqb}
 use Rattle.be.specs.Lists.{keep}
-use Rattle.be.specs.Bytes.{be, part, field, put, to-be, written}
+use Rattle.be.specs.Bytes.{be, byte, part, field, put, to-be, written}
+use Rattle.be.specs.Words.{le, to-le}
 use Rattle.edition.specs.declared.Edition.{Edition}
 use Rattle.dir_block_rules.specs.Block.{Slot, slot, slots, slots-in, slot-bytes, data-end, count-of, stale-of, is-live}
 use Rattle.dir_block_rules.specs.Change.{index-writes, insert-slot}
 use Rattle.be.proofs.Bools.{by-cases, every-head, every-tail, every-cons, keep-append}
 use Rattle.be.proofs.Writes.{put-nothing, length-put, put-next, part-before, part-inside, put-over}
 use Rattle.be.proofs.Numbers.{length-to-be}
+use Rattle.be.proofs.Parts.{part-add, bytes-all, field-bytes}
+use Rattle.be.proofs.Words.{word-bytes, be-zero}
 use Rattle.dir_block_rules.proofs.BlockParts.{length-slot-bytes, length-slots-in}
 use Rattle.dir_block_rules.proofs.ChangeAccepted.{length-insert, length-live}
 use Rattle.edition.specs.Edition.{Sane}
@@ -47,13 +50,22 @@ packed-stale b h a w z =
       ap (λ (l : List Slot). w + 8 * length l) k ∙ add-zero w,
     )
 
-pub packed-live : (b c : List ℕ) (h h′ a a′ w : ℕ) → 8 ≤ w → (a ≡ 0 → ⊥) → h ≡ h′ → a ≡ a′ → c ≡ put b (w - 8) (to-be 4 h ++ to-be 4 a)
-    → (c ≡ put b (w - 8) (slot-bytes (keep is-live (slot h′ a′ ∷ [])))) × (w - 8 + 8 * length (keep is-live (slot h′ a′ ∷ [])) ≡ w)
-packed-live b c h h′ a a′ w l n p q e =
-    let k : keep is-live (slot h′ a′ ∷ []) ≡ slot h′ a′ ∷ [] = keep-live h′ a′ (λ z. n (q ∙ z)) in
-    let s : w - 8 + 8 ≡ w = omega arith in (
-      e ∙ ap₂ (λ (x y : ℕ). put b (w - 8) (to-be 4 x ++ to-be 4 y)) p q ∙ sym (ap (λ (m : List Slot). put b (w - 8) (slot-bytes m)) k ∙ ap (put b (w - 8)) (one-slot h′ a′)),
-      ap (λ (m : List Slot). w - 8 + 8 * length m) k ∙ s,
+-- a slot is copied as a word
+pub packed-live : (b c : List ℕ) → ((i : ℕ) → byte i b < 256) → (o w s : ℕ) → o + 8 ≤ length b → 8 ≤ w → (le (part (o + 4) 4 b) ≡ 0 → ⊥)
+    → s ≡ le (part o 8 b) → c ≡ put b (w - 8) (to-le 8 s)
+    → (c ≡ put b (w - 8) (slot-bytes (keep is-live (slot (field o 4 b) (field (o + 4) 4 b) ∷ []))))
+    × (w - 8 + 8 * length (keep is-live (slot (field o 4 b) (field (o + 4) 4 b) ∷ [])) ≡ w)
+packed-live b c known o w s fits l n es e =
+    let h : ℕ = field o 4 b in
+    let a : ℕ = field (o + 4) 4 b in
+    let k : keep is-live (slot h a ∷ []) ≡ slot h a ∷ [] = keep-live h a (λ z. n (be-zero (part (o + 4) 4 b) z)) in
+    let p : to-be 4 h ≡ part o 4 b = field-bytes o 4 b (bytes-all b known) (omega arith) in
+    let q : to-be 4 a ≡ part (o + 4) 4 b = field-bytes (o + 4) 4 b (bytes-all b known) (omega arith) in
+    let word : to-le 8 s ≡ to-be 4 h ++ to-be 4 a =
+    word-bytes b known o fits 8 s (lit≤ tt) es ∙ part-add o 4 4 b ∙ sym (ap₂ (λ (x y : List ℕ). x ++ y) p q) in
+    let r : w - 8 + 8 ≡ w = omega arith in (
+      e ∙ ap (put b (w - 8)) word ∙ sym (ap (λ (m : List Slot). put b (w - 8) (slot-bytes m)) k ∙ ap (put b (w - 8)) (one-slot h a)),
+      ap (λ (m : List Slot). w - 8 + 8 * length m) k ∙ r,
     )
 
 -- ---- a run of slots, from its end down

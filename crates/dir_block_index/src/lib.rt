@@ -104,19 +104,19 @@ pub fn reuse(
     put_slot(b, n - 8, count, stale - 1);
 }
 
-// The slot at o, written before w if it is live: where the packed slots start now.
+// The slot at o, written before w if it is live, as a word: where the packed slots start now. An address of 0 reads the same in either order
+// of its bytes.
 fn pack_one(b: &mut [u8], o: usize, w: usize) -> usize
     requires { ⌜ (o + 8 ≤ w) × (w ≤ length (now b)) ⌝ }
     ensures { λ r. ⌜ (now (b .exit) ≡ put (now (b .entry)) r
         (slot-bytes (keep is-live (slot (field o 4 (now (b .entry))) (field (o + 4) 4 (now (b .entry))) ∷ []))))
         × (r + 8 * length (keep is-live (slot (field o 4 (now (b .entry))) (field (o + 4) 4 (now (b .entry))) ∷ [])) ≡ w) ⌝ }
 {
-    let h = be::be32(&b[..], o);
-    let a = be::be32(&b[..], o + 4);
-    if a == 0 {
+    if be::le32(&b[..], o + 4) == 0 {
         return w;
     }
-    put_slot(b, w - 8, h, a);
+    let s = be::le64(&b[..], o);
+    be::put_le64(b, w - 8, s);
     w - 8
 }
 

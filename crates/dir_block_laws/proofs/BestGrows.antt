@@ -39,7 +39,7 @@ longest-more (x ∷ xs) g h =
     (λ q. rw (e, q) (rw p)))
 
 -- a shorter table is the longer one's front
-pub take-best : (k : ℕ) (gs : List Rec) → take k (best-of (suc k) gs) ≡ best-of k gs
+take-best : (k : ℕ) (gs : List Rec) → take k (best-of (suc k) gs) ≡ best-of k gs
 unfolding best-of
 take-best zero gs = refl
 take-best (suc k) [] = ap (λ (l : List Pair). pair 0 0 ∷ l) (take-best k [])

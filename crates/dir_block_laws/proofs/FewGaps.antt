@@ -15,7 +15,7 @@ use Rattle.dir_block_rules.specs.Record.{Rec, size, is-gap, gaps, besides}
 use Rattle.dir_block_rules.specs.Verdict.{Pair, pair, best-ok, zero-pair, is-gap-of}
 use Rattle.dir_block_rules.proofs.CutJoin.{Laid}
 use Rattle.dir_block_rules.proofs.PlainTests.{every-besides}
-use Rattle.dir_block_laws.specs.BestSoFar.{ins, ins-all}
+use Rattle.dir_block_laws.specs.BestSoFar.{ins}
 use Rattle.dir_block_laws.specs.JoinedTable.{ins-before, ins-behind, joined-table, in-order}
 use Rattle.dir_block_laws.proofs.BestKnown.{solid, ok-named, ok-rest, none-long, zero-is}
 
@@ -36,7 +36,7 @@ rising-laid e o (r ∷ rs) l =
     (λ q. rw q (omega (arith, l .0), omega (arith, l .1 .least), rising-from (r .off + size r) (o + size r) (gaps rs) (omega (arith, l .0)) s))
     (λ q. rw q (rising-from o (o + size r) (gaps rs) (omega arith) s))
 
-rising-solid : (o : ℕ) (gs : List Rec) → Rising o gs → every solid gs ≡ true
+pub rising-solid : (o : ℕ) (gs : List Rec) → Rising o gs → every solid gs ≡ true
 rising-solid o [] r = refl
 rising-solid o (g ∷ gs) r = every-cons solid g gs (lt-ltb 0 (size g) (r .1)) (rising-solid (g .off + size g) gs (r .2))
 
@@ -203,14 +203,6 @@ either-same false x y q = refl
 
 not-filled : (p : Pair) → filled p ≡ false → p .long ≡ 0
 not-filled p h = omega (arith, ltb-false 0 (p .long) h)
-
-pub all-filled : (ps ts : List Pair) → ins-all ps ts ≡ ins-all (keep filled ps) ts
-unfolding ins-all
-all-filled [] ts = refl
-all-filled (p ∷ ps) ts =
-    by-cases (filled p)
-    (λ q. rw q (all-filled ps (ins p ts)))
-    (λ q. rw q (ap (ins-all ps) (ins-empty p ts (not-filled p q)) ∙ all-filled ps ts))
 
 before-filled : (o : ℕ) (ps ts : List Pair) → ins-before o ps ts ≡ ins-before o (keep filled ps) ts
 unfolding ins-before

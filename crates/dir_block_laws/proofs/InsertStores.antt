@@ -129,7 +129,7 @@ kept-shorter p (x ∷ xs) =
     (λ q. rw q (longest-under x (keep p xs) (size (longest (x ∷ xs))) (t .0) (omega (arith, kept-shorter p xs, t .1))))
     (λ q. rw q (omega (arith, kept-shorter p xs, t .1)))
 
-longest-besides : (o : ℕ) (gs : List Rec) → (longest gs .off ≡ o → ⊥) → longest (besides o gs) ≡ longest gs
+pub longest-besides : (o : ℕ) (gs : List Rec) → (longest gs .off ≡ o → ⊥) → longest (besides o gs) ≡ longest gs
 longest-besides o [] h = refl
 longest-besides o (x ∷ xs) h =
     by-cases (leb (size (longest xs)) (size x))
@@ -147,7 +147,7 @@ longest-besides o (x ∷ xs) h =
     (λ w. let be : besides o (x ∷ xs) ≡ x ∷ besides o xs = rw w in
     ap longest be ∙ longest-step x (besides o xs) ∙ ap (λ (m : Rec). cond (leb (size m) (size x)) x m) ih ∙ rw q (sym z)))
 
-second-best : (k : ℕ) (gs : List Rec) (p : Pair) (o l : ℕ) (ps : List Pair) → best-of (suc (suc k)) gs ≡ p ∷ pair o l ∷ ps
+pub second-best : (k : ℕ) (gs : List Rec) (p : Pair) (o l : ℕ) (ps : List Pair) → best-of (suc (suc k)) gs ≡ p ∷ pair o l ∷ ps
     → (longest (besides (longest gs .off) gs) .off ≡ o) × (size (longest (besides (longest gs .off) gs)) ≡ l)
 second-best k gs p o l ps q = first-best k (besides (longest gs .off) gs) o l ps (rest gs q)
   where
@@ -281,15 +281,14 @@ module _ (e : Edition) (b n : List ℕ) (i : Target) (o₁ l₁ : ℕ) (ps : Lis
         let w : case-d (room-of e b n) ≡ false = need-d ∙ rw (eq-eqb s 0 z, lt-leb (E + 8) k m) in
         ap₂ (λ (p q : Bool). p || q || case-c (room-of e b n) || case-d (room-of e b n)) not-a not-b ∙ ap₂ (λ (p q : Bool). p || q) v w
 
--- T is the longest gap, and the second pair the longest other than it
-pub other-next : (e : Edition) (b n : List ℕ) (o₁ l₁ o₂ l₂ u k : ℕ) → Scanned e b (pair o₁ l₁ ∷ pair o₂ l₂ ∷ []) u k → o₁ ≡ u
-    → (longest (other-gaps (room-of e b n)) .off ≡ o₂) × (size (longest (other-gaps (room-of e b n))) ≡ l₂)
+-- T is the gap at o, and the longest besides it is known
+pub other-next : (e : Edition) (b n : List ℕ) (ps : List Pair) (o u k : ℕ) → Scanned e b ps u k → o ≡ u → (p l : ℕ)
+    → longest (besides o (gaps (records e b))) .off ≡ p → size (longest (besides o (gaps (records e b)))) ≡ l
+    → (longest (other-gaps (room-of e b n)) .off ≡ p) × (size (longest (other-gaps (room-of e b n))) ≡ l)
 unfolding room-of
-other-next e b n o₁ l₁ o₂ l₂ u k sc h =
-    let one = first-best 1 (gaps (records e b)) o₁ l₁ (pair o₂ l₂ ∷ []) (sc .best) in
-    let two = second-best 0 (gaps (records e b)) (pair o₁ l₁) o₂ l₂ [] (sc .best) in
-    let z : touching (data-end b) (records e b) .off ≡ longest (gaps (records e b)) .off = sc .touch-off ∙ sym h ∙ sym (one .0) in
-    (ap (λ (x : ℕ). longest (besides x (gaps (records e b))) .off) z ∙ two .0, ap (λ (x : ℕ). size (longest (besides x (gaps (records e b))))) z ∙ two .1)
+other-next e b n ps o u k sc h p l q r =
+    let z : touching (data-end b) (records e b) .off ≡ o = sc .touch-off ∙ sym h in
+    (ap (λ (x : ℕ). longest (besides x (gaps (records e b))) .off) z ∙ q, ap (λ (x : ℕ). size (longest (besides x (gaps (records e b))))) z ∙ r)
 
 -- ---- where a gap lies
 

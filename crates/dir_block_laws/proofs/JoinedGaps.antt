@@ -7,7 +7,7 @@ use mathlib.Core.Bool.{Bool, true, false, cond}
 use mathlib.Core.Path.{_≡_, refl, sym, _∙_, ap, ap₂, subst}
 use mathlib.Core.List.{List, [], _∷_, _++_, append-assoc, append-nil}
 use lib.Dec.{leb, ltb}
-use lib.ListN.{length, length-append, take}
+use lib.ListN.{length, length-append}
 use borrow.Author.Tests.{ltb-true, leb-true, lt-ltb, le-ltb, le-leb, lt-leb, ne-eqb}
 use Rattle.be.specs.Lists.{every}
 use Rattle.be.specs.Bytes.{bytes, written, Write}
@@ -32,13 +32,13 @@ use Rattle.dir_block_rules.proofs.ChangeAccepted.{After}
 use Rattle.dir_block_rules.proofs.RemoveAccepted.{Removable, fr, bk, from, freed, left, stale-slots, remove-entry, all-records, freed-is, laid-mid, laid-left, freed-long}
 use Rattle.dir_block_rules.proofs.LookupFinds.{Found-removable, found-removable, o-is, u-is, same-writes}
 use Rattle.dir_block_laws.specs.Tiled.{Ready}
-use Rattle.dir_block_laws.specs.BestSoFar.{ins, ins-all}
+use Rattle.dir_block_laws.specs.BestSoFar.{ins}
 use Rattle.dir_block_laws.specs.JoinedTable.{empty-table, ins-before, ins-behind, joined-table, in-order}
-use Rattle.dir_block_laws.proofs.BestGrows.{elsewhere, best-more, take-best}
+use Rattle.dir_block_laws.proofs.BestGrows.{elsewhere, best-more}
 use Rattle.dir_block_laws.proofs.RecordSteps.{laid-all}
 use Rattle.dir_block_laws.proofs.SlotSearch.{tiled}
 use Rattle.dir_block_laws.proofs.StoresTiled.{records-changed}
-use Rattle.dir_block_laws.proofs.FewGaps.{Rising, rising-laid, named-by, pairs-of, Named, named, few-gaps, all-filled, table-filled}
+use Rattle.dir_block_laws.proofs.FewGaps.{Rising, rising-laid, named-by, pairs-of, Named, named, few-gaps, table-filled}
 
 -- starts before o; at o or behind
 abbrev before : ℕ → Rec → Bool
@@ -55,11 +55,6 @@ into (g ∷ gs) ts = into gs (ins (named-by g) ts)
 pub into-append : (gs hs : List Rec) (ts : List Pair) → into (gs ++ hs) ts ≡ into hs (into gs ts)
 into-append [] hs ts = refl
 into-append (g ∷ gs) hs ts = into-append gs hs (ins (named-by g) ts)
-
-into-all : (gs : List Rec) (ts : List Pair) → into gs ts ≡ ins-all (pairs-of gs) ts
-unfolding ins-all
-into-all [] ts = refl
-into-all (g ∷ gs) ts = into-all gs (ins (named-by g) ts)
 
 not-at : (o p : ℕ) (r : Rec) → o ≤ p → before o r ≡ true → elsewhere p r ≡ true
 not-at o p r h b = rw (ne-eqb (r .off) p (λ (z : r .off ≡ p). omega (arith, ltb-true (r .off) o b)))
@@ -213,21 +208,6 @@ pub stored-named : (e : Edition) (b : List ℕ) → Ready e b → (p q t : Pair)
 stored-named e b r p q t s z =
     named p q t (gaps (records e b)) (e .header) (rising-laid e (e .header) (records e b) (laid-all e b (tiled e b r)))
     (subst (λ (l : List Pair). best-ok l (gaps (records e b)) ≡ true) (sym s) (passed e b (r .ok) .best)) z
-
--- the table of all gaps, where two pairs name them
-pub few-best : (e : Edition) (b : List ℕ) → Ready e b → (p q t : Pair) → p ∷ q ∷ t ∷ [] ≡ best-pairs e b → t .long ≡ 0
-    → best-of 3 (gaps (records e b)) ≡ ins-all (in-order p q) empty-table
-unfolding best-of
-few-best e b r p q t s z =
-    best-into 3 (e .header) [] (gaps (records e b)) refl (rising-laid e (e .header) (records e b) (laid-all e b (tiled e b r)))
-    ∙ into-all (gaps (records e b)) empty-table
-    ∙ ap (λ (l : List Pair). ins-all l empty-table) (sym (few-gaps p q (gaps (records e b)) (stored-named e b r p q t s z)))
-    ∙ sym (all-filled (in-order p q) empty-table)
-
--- and its first two pairs
-pub few-two : (e : Edition) (b : List ℕ) → Ready e b → (p q t : Pair) → p ∷ q ∷ t ∷ [] ≡ best-pairs e b → t .long ≡ 0
-    → (ps : List Pair) → ps ≡ ins-all (in-order p q) empty-table → best-of 2 (gaps (records e b)) ≡ take 2 ps
-few-two e b r p q t s z ps h = sym (take-best 2 (gaps (records e b))) ∙ ap (take 2) (few-best e b r p q t s z ∙ sym h)
 
 -- the table of what a removal leaves, from the gaps before it
 module _ (e : Edition) (sane : Sane e) (b n : List ℕ) (r : Ready e b) (hit : sought e b n .hit ≡ true) (fx : fixed-name n ≡ false) where

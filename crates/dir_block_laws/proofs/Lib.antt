@@ -14,6 +14,7 @@ pub mod BothEnds
 pub mod TwoPairs
 pub mod UsedGap
 pub mod EditAnswers
+pub mod FoundLegal
 pub mod IndexStores
 pub mod InsertStores
 pub mod WalkSteps

@@ -2,7 +2,7 @@
 -- Assumes nothing.
 use Prim.Native.Nat.{ℕ, _+_}
 use mathlib.Core.Bool.{true, false}
-use mathlib.Core.Path.{_≡_, sym, _∙_, ap}
+use mathlib.Core.Path.{_≡_, _∙_, ap}
 use mathlib.Core.List.{List, [], _∷_, _++_, append-nil}
 use lib.ListN.{take, drop, getD}
 use lib.Seq.{drop-drop, getD-drop}
@@ -12,11 +12,7 @@ use Rattle.be.proofs.Bools.{keep-append}
 use Rattle.edition.specs.declared.Edition.{Edition}
 use Rattle.edition.specs.Edition.{entry-size}
 use Rattle.dir_block_rules.specs.Record.{Rec, rec, is-gap, gap-start, says, gaps}
-use Rattle.dir_block_rules.specs.Block.{records}
-use Rattle.dir_block_rules.specs.Verdict.{Pair}
 use Rattle.dir_block_rules.specs.Room.{touching}
-use Rattle.dir_block_laws.specs.Pass.{Scanned}
-use Rattle.dir_block_laws.proofs.BestGrows.{take-best}
 
 pub touch-gap : (o : ℕ) (xs : List Rec) (y : Rec) → is-gap y ≡ true → touching o (xs ++ (y ∷ [])) ≡ y
 unfolding touching
@@ -40,15 +36,3 @@ says-gap e b o g = rw g (ap (λ (l : List ℕ). be (take 2 l)) (drop-drop 2 o b)
 pub says-entry : (e : Edition) (b : List ℕ) (o : ℕ) → gap-start (drop o b) ≡ false → says e (drop o b) ≡ entry-size e (getD b (o + 8) 0)
 unfolding says
 says-entry e b o g = rw g (ap (entry-size e) (getD-drop o b 8 0))
-
--- the two longest gaps of three
-pub seen-two : {e : Edition} {b : List ℕ} {p q r : Pair} {u k : ℕ} → Scanned e b (p ∷ q ∷ r ∷ []) u k → Scanned e b (p ∷ q ∷ []) u k
-seen-two {e} {b} s =
-    record {
-      best = sym (take-best 2 (gaps (records e b))) ∙ ap (take 2) (s .best);
-      touch-off = s .touch-off;
-      touch-size = s .touch-size;
-      touch-end = s .touch-end;
-      touch-from = s .touch-from;
-      touch-mod = s .touch-mod;
-    }

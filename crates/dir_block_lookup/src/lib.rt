@@ -5,7 +5,7 @@ ghost use Prim.Native.Nat.{_+_, _≤_};
 ghost use lib.ListN.{length, take, drop};
 ghost use Rattle.be.specs.Bytes.{byte};
 ghost use Rattle.edition.specs.Edition.{v4, Sane};
-ghost use Rattle.name.specs.Name.{hash-of, legal-name, same-name};
+ghost use Rattle.name.specs.Name.{hash-of, same-name};
 ghost use Rattle.dir_block_rules.specs.Block.{records, data-end, count-of, slots};
 ghost use Rattle.dir_block_rules.specs.Lookup.{sought, name-at, target-at, lookup, Lookup-promise};
 ghost use Rattle.dir_block_rules.specs.Walk.{is-place, walk-step, Step-promise};
@@ -121,10 +121,11 @@ pub fn end_of_data(e: Edition, b: &[u8]) -> usize
     n - 8 - 8 * be::be32(b, n - 8)
 }
 
-// The lookup of a legal name, whose hash is h, in a tested block.
+// The lookup of a name, whose hash is h, in a tested block. A name that is found is legal, as every stored name is: only one that is not
+// found is looked at for that.
 fn lookup_ready(e: Edition, b: &[u8], name: &[u8], h: usize) -> Looked
     requires { ⌜ Sane e × Ready e (now b) ⌝ }
-    requires { ⌜ (legal-name e (now name) ≡ true) × (h ≡ hash-of e (now name)) ⌝ }
+    requires { ⌜ h ≡ hash-of e (now name) ⌝ }
     ensures { λ r. ⌜ r ≡ lookup e (now (b .entry)) (now (name .entry)) ⌝ }
 {
     let n = b.len();
@@ -140,6 +141,9 @@ fn lookup_ready(e: Edition, b: &[u8], name: &[u8], h: usize) -> Looked
             compared: s.compared,
         };
     }
+    if !name::legal(e, name) {
+        return Looked::Refused(refusal::ASKED);
+    }
     Looked::Absent {
         compared: s.compared,
     }
@@ -153,7 +157,8 @@ fn lookup_in(e: Edition, b: &[u8], name: &[u8]) -> Looked
     if n != 0 {
         return Looked::Refused(n);
     }
-    if !name::legal(e, name) {
+    // Too long to be a name, and not hashed.
+    if 255 < name.len() {
         return Looked::Refused(refusal::ASKED);
     }
     lookup_ready(e, b, name, name_words::hash(e, name))

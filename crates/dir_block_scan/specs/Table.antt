@@ -8,11 +8,11 @@ use Rattle.dir_block_scan.specs.declared.Scan.{Scan}
 abbrev pub table : Scan → List Pair
 table s = pair (s .o1) (s .l1) ∷ pair (s .o2) (s .l2) ∷ pair (s .o3) (s .l3) ∷ []
 
--- the longest gap: all that the room rule asks with stale slots
+-- the first pair: after `longest` the longest gap
 abbrev pub first : Scan → List Pair
 first s = pair (s .o1) (s .l1) ∷ []
 
--- the first two pairs: the two longest gaps, all that it asks without
+-- the first two pairs
 abbrev pub top : Scan → List Pair
 top s = pair (s .o1) (s .l1) ∷ pair (s .o2) (s .l2) ∷ []
 

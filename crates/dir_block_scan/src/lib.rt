@@ -7,12 +7,11 @@ ghost use mathlib.Core.List.{List, [], _∷_};
 ghost use lib.ListN.{length, drop};
 ghost use Rattle.be.specs.Bytes.{put};
 ghost use Rattle.edition.specs.Edition.{entry-size, Sane};
-ghost use Rattle.dir_block_rules.specs.Record.{gaps, says, size};
+ghost use Rattle.dir_block_rules.specs.Record.{gaps, says, size, besides};
 ghost use Rattle.dir_block_rules.specs.Block.{records, data-end};
 ghost use Rattle.dir_block_rules.specs.Verdict.{Pair, pair, best-pairs};
 ghost use Rattle.dir_block_rules.specs.Change.{longest, best-of, with-best, pair-bytes};
 ghost use Rattle.dir_block_laws.specs.Tiled.{Tiled, Ready};
-ghost use Rattle.dir_block_laws.specs.Falls.{falls};
 ghost use Rattle.dir_block_laws.specs.BestSoFar.{ins, ins-all};
 ghost use Rattle.dir_block_laws.specs.JoinedTable.{empty-table, joined-table, in-order};
 ghost use Rattle.dir_block_laws.specs.UsedTable.{left-a, left-b, left-c, left-d, used-table};
@@ -134,9 +133,9 @@ fn backward(e: Edition, b: &[u8], g: Scan, o: usize) -> Scan
 }
 
 // A gap, or none: where it starts, and how long it is.
-struct Gap {
-    at: usize,
-    len: usize,
+pub struct Gap {
+    pub at: usize,
+    pub len: usize,
 }
 
 // The gap at the slots: the last record starts where its tag says.
@@ -212,13 +211,6 @@ pub fn stored(e: Edition, b: &[u8]) -> Scan
     }
 }
 
-// Whether the lengths fall: then no other gap is as long as either of the first two.
-fn falls(s: Scan) -> bool
-    ensures { λ r. ⌜ r ≡ falls (table s) ⌝ }
-{
-    ((s.l2 < s.l1) | (s.l1 == 0)) & ((s.l3 < s.l2) | (s.l2 == 0))
-}
-
 // The first two pairs in offset order.
 fn ordered(s: Scan) -> Scan
     ensures { λ r. ⌜ (top r ≡ in-order (pair (s .o1) (s .l1)) (pair (s .o2) (s .l2)))
@@ -242,32 +234,6 @@ fn two(o: usize, l: usize, u: usize, k: usize) -> Scan
     with_pair(t, u, k)
 }
 
-// The table of the first two pairs of s.
-fn both(s: Scan) -> Scan
-    ensures { λ r. ⌜ table r ≡ ins-all (in-order (pair (s .o1) (s .l1)) (pair (s .o2) (s .l2))) empty-table ⌝ }
-{
-    let d = ordered(s);
-    two(d.o1, d.l1, d.o2, d.l2)
-}
-
-// The two longest gaps of an accepted block, and the gap at the slots. Without a third pair the first two name all gaps. Else the stored
-// pairs may be in any order among equals, so a pass is made where two are as long; the third is no part of the answer: a gap that is not
-// stored may be as long.
-pub fn known(e: Edition, b: &[u8], end: usize) -> Scan
-    requires { ⌜ Sane e × Ready e (now b) ⌝ }
-    requires { ⌜ end ≡ data-end (now b) ⌝ }
-    ensures { λ r. ⌜ Scanned e (now (b .entry)) (top r) (r .tat) (r .tlen) ⌝ }
-{
-    let s = stored(e, b);
-    if s.l3 == 0 {
-        return with_last(e, b, end, both(s));
-    }
-    if falls(s) {
-        return with_last(e, b, end, s);
-    }
-    pass(e, b, end)
-}
-
 // How long the record at o is.
 fn record_len(e: Edition, b: &[u8], o: usize) -> usize
     requires { ⌜ Sane e × (o + 8 < length (now b)) ⌝ }
@@ -280,22 +246,41 @@ fn record_len(e: Edition, b: &[u8], o: usize) -> usize
     edition::entry_size(e, c)
 }
 
-// Where the first gap of l bytes starts, which is as long as the longest: a walk that ends there.
-fn first_of(e: Edition, b: &[u8], end: usize, l: usize) -> usize
+// Where the first gap of l bytes starts, but for one at x, if it starts before `stop`; else no place before that. l is the length of the
+// longest of these gaps.
+fn first_before(e: Edition, b: &[u8], stop: usize, x: usize, l: usize) -> usize
     requires { ⌜ Sane e × Tiled e (now b) ⌝ }
-    requires { ⌜ end ≡ data-end (now b) ⌝ }
-    requires { ⌜ (size (longest (gaps (records e (now b)))) ≡ l) × (0 < l) ⌝ }
-    ensures { λ r. ⌜ r ≡ longest (gaps (records e (now (b .entry)))) .off ⌝ }
+    requires { ⌜ (stop ≤ data-end (now b)) × (size (longest (besides x (gaps (records e (now b))))) ≡ l) ⌝ }
+    ensures { λ r. ⌜ (r < stop → r ≡ longest (besides x (gaps (records e (now (b .entry))))) .off) ⌝ }
 {
     let mut o = e.header;
-    while o < end {
+    while o < stop {
         let n = record_len(e, b, o);
-        if (n == l) & (be::be16(b, o) == 65535) {
+        if ((n == l) & (be::be16(b, o) == 65535)) & (o != x) {
             return o;
         }
         o = o + n;
     }
     o
+}
+
+// Where it starts, wherever that is: by a walk over an eighth of the data, where it mostly ends, and then by a pass from both ends.
+fn first_of(e: Edition, b: &[u8], end: usize, x: usize, l: usize) -> usize
+    requires { ⌜ Sane e × Tiled e (now b) ⌝ }
+    requires { ⌜ end ≡ data-end (now b) ⌝ }
+    requires { ⌜ size (longest (besides x (gaps (records e (now b))))) ≡ l ⌝ }
+    ensures { λ r. ⌜ r ≡ longest (besides x (gaps (records e (now (b .entry))))) .off ⌝ }
+{
+    let stop = end / 8;
+    let o = first_before(e, b, stop, x, l);
+    if o < stop {
+        return o;
+    }
+    let p = pass(e, b, end);
+    if p.o1 != x {
+        return p.o1;
+    }
+    p.o2
 }
 
 // Where the longest gap starts, the first of those that are as long, by the stored pairs s. These may be in any order among equals, so
@@ -312,7 +297,8 @@ fn longest_start(e: Edition, b: &[u8], end: usize, s: Scan) -> usize
         return s.o1;
     }
     if s.l2 <= s.l3 {
-        return first_of(e, b, end, s.l1);
+        // No gap starts at the end: none is left out.
+        return first_of(e, b, end, end, s.l1);
     }
     if s.o1 < s.o2 {
         return s.o1;
@@ -332,6 +318,37 @@ pub fn longest(e: Edition, b: &[u8], end: usize) -> Scan
     r.o1 = longest_start(e, b, end, s);
     r.tat = t.at;
     r.tlen = t.len;
+    r
+}
+
+// The longest gap besides the longest, which starts at x. By the stored pairs, where the first of them names that one: the second, or where
+// the third is as long the first gap of that length. Else another gap is as long as the longest, and a pass is made: not where that is T, which
+// has none of its length before it.
+pub fn next_longest(e: Edition, b: &[u8], end: usize, x: usize) -> Gap
+    requires { ⌜ Sane e × Ready e (now b) ⌝ }
+    requires { ⌜ (end ≡ data-end (now b)) × (longest (gaps (records e (now b))) .off ≡ x) ⌝ }
+    ensures { λ r. ⌜ (longest (besides x (gaps (records e (now (b .entry))))) .off ≡ r .at)
+        × (size (longest (besides x (gaps (records e (now (b .entry)))))) ≡ r .len) ⌝ }
+{
+    let s = stored(e, b);
+    if s.o1 != x {
+        let p = pass(e, b, end);
+        return Gap {
+            at: p.o2,
+            len: p.l2,
+        };
+    }
+    let mut r = Gap {
+        at: s.o2,
+        len: s.l2,
+    };
+    if s.l2 == 0 {
+        return r;
+    }
+    if s.l3 < s.l2 {
+        return r;
+    }
+    r.at = first_of(e, b, end, x, s.l2);
     r
 }
 

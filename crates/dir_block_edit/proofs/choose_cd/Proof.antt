@@ -2,11 +2,10 @@ use Rattle.dir_block_edit.proofs.RoomTaken.{room-c, room-d, room-no-t, 
 use Prim.Native.Nat.{_<_}
 use native.Mathlib.Omega.{arith}
 use mathlib.Core.Path.{refl, sym, _∙_}
-use mathlib.Core.List.{[], _∷_}
+use mathlib.Core.List.{[]}
 use lib.ListN.{length}
 use denote.Ref.{now}
 use Rattle.edition.proofs.Sizes.{entry-size-least, entry-size-most}
-use Rattle.dir_block_rules.specs.Verdict.{pair}
 use Rattle.dir_block_laws.proofs.SlotSearch.{tiled}
 use Rattle.dir_block_laws.proofs.InsertStores.{other-inside, other-before}
 use borrow.Author.Needs.{needs}
@@ -17,7 +16,7 @@ returns : tie.Need-returns
 returns c =
     let c₂ = c .before .before in
     let p = c₂ .before in
-    room-no-t _ (now (p .args .b)) (now (p .args .name)) (p .args .to) (p .args .g .o1) (p .args .g .l1) (pair (p .args .g .o2) (p .args .g .l2) ∷ [])
+    room-no-t _ (now (p .args .b)) (now (p .args .name)) (p .args .to) (p .args .g .o1) (p .args .g .l1) []
     (p .args .g .tat) (p .args .g .tlen) 0 (p .args .need) (p .args .h) (p .pre .1 .1 .1 .0) (p .pre .1 .0 .1 .1)
     (p .pre .1 .1 .1 .1 .1 .1 .0) (p .pre .1 .1 .1 .1 .1 .0) (p .args .o) (p .args .l) (p .pre .1 .1 .1 .1 .0 .0) (p .pre .1 .1 .1 .1 .0 .1) refl
     (c .if1 .taken)
@@ -43,7 +42,7 @@ insert-c-requires c κs =
 returns-2 : tie.Need-returns-2
 returns-2 c =
     let p = c .before .before .before .before .before .before .before .before in
-    room-c _ (now (p .args .b)) (now (p .args .name)) (p .args .to) (p .args .g .o1) (p .args .g .l1) (pair (p .args .g .o2) (p .args .g .l2) ∷ []) (p .args .g .tat) (p .args .g .tlen) 0 (p .args .need) (p .args .h) (p .pre .1 .1 .1 .0) (p .pre .1 .0 .1 .1) (p .pre .1 .1 .1 .1 .1 .1 .0) (p .pre .1 .1 .1 .1 .1 .0) (p .args .o) (p .args .l) (p .pre .1 .1 .1 .1 .0 .0) (p .pre .1 .1 .1 .1 .0 .1) refl _ (omega (arith, c .before .before .before .before .before .if1 .left)) (c .before .before .before .before .if2 .taken) (c .before .before .insert-c .ensures)
+    room-c _ (now (p .args .b)) (now (p .args .name)) (p .args .to) (p .args .g .o1) (p .args .g .l1) [] (p .args .g .tat) (p .args .g .tlen) 0 (p .args .need) (p .args .h) (p .pre .1 .1 .1 .0) (p .pre .1 .0 .1 .1) (p .pre .1 .1 .1 .1 .1 .1 .0) (p .pre .1 .1 .1 .1 .1 .0) (p .args .o) (p .args .l) (p .pre .1 .1 .1 .1 .0 .0) (p .pre .1 .1 .1 .1 .0 .1) refl _ (omega (arith, c .before .before .before .before .before .if1 .left)) (c .before .before .before .before .if2 .taken) (c .before .before .insert-c .ensures)
 
 add-if3 : tie.Need-add-if3
 add-if3 c =
@@ -59,12 +58,12 @@ insert-d-requires c κs =
 returns-3 : tie.Need-returns-3
 returns-3 c =
     let p = c .before .before .before .before .before .before .before .before .before in
-    room-d _ (now (p .args .b)) (now (p .args .name)) (p .args .to) (p .args .g .o1) (p .args .g .l1) (pair (p .args .g .o2) (p .args .g .l2) ∷ []) (p .args .g .tat) (p .args .g .tlen) 0 (p .args .need) (p .args .h) (p .pre .1 .1 .1 .0) (p .pre .1 .0 .1 .1) (p .pre .1 .1 .1 .1 .1 .1 .0) (p .pre .1 .1 .1 .1 .1 .0) (p .args .o) (p .args .l) (p .pre .1 .1 .1 .1 .0 .0) (p .pre .1 .1 .1 .1 .0 .1) refl _ (omega (arith, c .before .before .before .before .before .if2 .left)) (c .before .before .before .before .if3 .taken) (c .before .before .insert-d .ensures)
+    room-d _ (now (p .args .b)) (now (p .args .name)) (p .args .to) (p .args .g .o1) (p .args .g .l1) [] (p .args .g .tat) (p .args .g .tlen) 0 (p .args .need) (p .args .h) (p .pre .1 .1 .1 .0) (p .pre .1 .0 .1 .1) (p .pre .1 .1 .1 .1 .1 .1 .0) (p .pre .1 .1 .1 .1 .1 .0) (p .args .o) (p .args .l) (p .pre .1 .1 .1 .1 .0 .0) (p .pre .1 .1 .1 .1 .0 .1) refl _ (omega (arith, c .before .before .before .before .before .if2 .left)) (c .before .before .before .before .if3 .taken) (c .before .before .insert-d .ensures)
 
 returns-4 : tie.Need-returns-4
 returns-4 c =
     let p = c .before .before .before .before .before in
-    room-no-cd _ (now (p .args .b)) (now (p .args .name)) (p .args .to) (p .args .g .o1) (p .args .g .l1) (pair (p .args .g .o2) (p .args .g .l2) ∷ []) (p .args .g .tat) (p .args .g .tlen) 0 (p .args .need) (p .args .h) (p .pre .1 .1 .1 .0) (p .pre .1 .0 .1 .1) (p .pre .1 .1 .1 .1 .1 .1 .0) (p .pre .1 .1 .1 .1 .1 .0) (p .args .o) (p .args .l) (p .pre .1 .1 .1 .1 .0 .0) (p .pre .1 .1 .1 .1 .0 .1) refl (omega (arith, c .before .if2 .left)) (omega (arith, c .if3 .left))
+    room-no-cd _ (now (p .args .b)) (now (p .args .name)) (p .args .to) (p .args .g .o1) (p .args .g .l1) [] (p .args .g .tat) (p .args .g .tlen) 0 (p .args .need) (p .args .h) (p .pre .1 .1 .1 .0) (p .pre .1 .0 .1 .1) (p .pre .1 .1 .1 .1 .1 .1 .0) (p .pre .1 .1 .1 .1 .1 .0) (p .args .o) (p .args .l) (p .pre .1 .1 .1 .1 .0 .0) (p .pre .1 .1 .1 .1 .0 .1) refl (omega (arith, c .before .if2 .left)) (omega (arith, c .if3 .left))
 
 pub choose-cd-spec : {M : Type 1} → statement M
 choose-cd-spec =

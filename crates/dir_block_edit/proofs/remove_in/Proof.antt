@@ -1,23 +1,30 @@
-use mathlib.Core.Path.{sym, _∙_}
-use denote.Ref.{now}
-use Rattle.be.proofs.Parts.{bytes-all}
-use Rattle.dir_block_edit.proofs.Refused.{clear, remove-tested, remove-refused}
 use borrow.Author.Needs.{needs}
+use mathlib.Core.Path.{sym, _∙_}
+use Rattle.name.proofs.Legality.{legal-long}
+use Rattle.dir_block_laws.proofs.SlotSearch.{ready-of}
+use Rattle.dir_block_laws.proofs.EditAnswers.{removed-asked, removed-fixed}
+use Rattle.dir_block_edit.proofs.Refused.{remove-tested}
 use Rattle.dir_block_edit.proofs.remove_in.Statement.{statement}
 use Rattle.dir_block_edit.proofs.remove_in.Tie as tie
 
-remove-ready-requires : tie.Need-remove-ready-requires
-remove-ready-requires c κs =
-    let p = c .before .before .before .before .before .before .before .before .before .before in
-    let k = clear _ _ (sym (c .before .before .before .request .ensures) ∙ c .before .before .if2 .left) in
-    let b = bytes-all (now (p .args .b)) (λ i. c .before .before .before .before .before .before .before .before .before .slice-known .given i .fits) in (
-      (p .pre, record { are-bytes = b; ok = sym (c .before .before .before .before .before .before .code .ensures) ∙ c .before .before .before .before .before .if1 .left }),
-      ((sym (c .before .before .before .before .legal .ensures) ∙ k .asked, k .free), c .hash .ensures .0),
-    )
+returns : tie.Need-returns
+returns c =
+    remove-tested _ _ _ _ (c .before .code .ensures) (c .if1 .taken)
 
 returns-2 : tie.Need-returns-2
 returns-2 c =
-    remove-refused _ _ _ _ (c .before .before .before .before .code .ensures) (c .before .before .before .if1 .left) _ _ (c .before .before .legal .ensures) (c .before .request .ensures) (c .if2 .taken)
+    let k = ready-of _ _ _ (λ i. c .before .before .before .before .before .slice-known .given i .fits) (c .before .before .code .ensures) (c .before .if1 .left) in
+    removed-asked _ (c .before .before .before .before .before .before .pre) _ _ k (sym (legal-long _ _ (c .if2 .taken)))
+
+returns-3 : tie.Need-returns-3
+returns-3 c =
+    let k = ready-of _ _ _ (λ i. c .before .before .before .before .before .before .before .slice-known .given i .fits) (c .before .before .before .before .code .ensures) (c .before .before .before .if1 .left) in
+    removed-fixed _ (c .before .before .before .before .before .before .before .before .pre) _ _ k (sym (c .before .fixed .ensures) ∙ c .if3 .taken)
+
+remove-ready-requires : tie.Need-remove-ready-requires
+remove-ready-requires c κs =
+    let k = ready-of _ _ _ (λ i. c .before .before .before .before .before .before .before .before .before .slice-known .given i .fits) (c .before .before .before .before .before .before .code .ensures) (c .before .before .before .before .before .if1 .left) in
+    ((c .before .before .before .before .before .before .before .before .before .before .pre, k), (sym (c .before .before .before .fixed .ensures) ∙ c .before .before .if3 .left, c .hash .ensures .0))
 
 pub remove-in-spec : {M : Type 1} → statement M
 remove-in-spec =
@@ -25,11 +32,12 @@ remove-in-spec =
     (tie.spec
     (λ c κs. search needs)
     (λ c. search needs)
-    (λ c. remove-tested _ _ _ _ (c .before .code .ensures) (c .if1 .taken))
-    (λ c κs. search needs)
-    (λ c κs. search needs)
+    returns
     (λ c. search needs)
     returns-2
+    (λ c κs. search needs)
+    (λ c. search needs)
+    returns-3
     (λ c κs. search needs)
     remove-ready-requires
     (λ c. search needs)

@@ -1,11 +1,13 @@
 use native.Mathlib.Omega.{arith}
-use mathlib.Core.Path.{_∙_, ap}
+use borrow.Author.Needs.{needs}
+use mathlib.Core.Path.{sym, _∙_, ap}
 use denote.Ref.{now}
+use borrow.Author.Tests.{not-true, not-false}
 use Rattle.dir_block_rules.specs.Lookup.{Sought}
 use Rattle.dir_block_laws.proofs.RecordSteps.{count-read, end-read}
 use Rattle.dir_block_laws.proofs.SlotSearch.{slots-room}
-use Rattle.dir_block_laws.proofs.EditAnswers.{removed-done, removed-absent}
-use borrow.Author.Needs.{needs}
+use Rattle.dir_block_laws.proofs.EditAnswers.{removed-done, removed-absent, removed-asked}
+use Rattle.dir_block_laws.proofs.FoundLegal.{found-legal}
 use Rattle.dir_block_edit.proofs.remove_ready.Statement.{statement}
 use Rattle.dir_block_edit.proofs.remove_ready.Tie as tie
 
@@ -32,36 +34,36 @@ sub-end-2 c =
 seek-requires : tie.Need-seek-requires
 seek-requires c κs =
     let p = c .before .before .before .before .before in
-    let n = count-read (now (p .args .b)) (c .before .be32 .result) (c .before .be32 .ensures .0) in
-    (p .pre .0, ((end-read (now (p .args .b)) (c .before .be32 .result) n, n), p .pre .1 .1))
+    let b = now (p .args .b) in
+    let n = count-read b (c .before .be32 .result) (c .before .be32 .ensures .0) in
+    (p .pre .0, ((end-read b (c .before .be32 .result) n, n), p .pre .1 .1))
 
 remove-found-requires : tie.Need-remove-found-requires
 remove-found-requires c κs =
-    let c₂ = c .before .before in
-    let c₄ = c₂ .before .before in
-    let c₇ = c₄ .before .before .before in
-    let p = c₇ .before in
-    let m = end-read (now (p .args .b)) (c₄ .be32 .result) (count-read (now (p .args .b)) (c₄ .be32 .result) (c₄ .be32 .ensures .0)) in
-    let f = c₂ .seek .ensures in
+    let p = c .before .before .before .before .before .before .before .before in
+    let b = now (p .args .b) in
+    let m = end-read b (c .before .before .before .before .be32 .result) (count-read b (c .before .before .before .before .be32 .result) (c .before .before .before .before .be32 .ensures .0)) in
+    let f = c .before .before .seek .ensures in
     let i = ap (λ (s : Sought). s .index) f in
     let o = ap (λ (s : Sought). s .at) f in
-    (p .pre .0, (m, ((ap (λ (s : Sought). s .hit) f ∙ c .before .if1 .taken, (i, o)), p .pre .1 .0 .1)))
+    (p .pre .0, (m, ((ap (λ (s : Sought). s .hit) f ∙ c .before .if1 .taken, (i, o)), p .pre .1 .0)))
 
 returns : tie.Need-returns
 returns c =
-    let c₂ = c .before .before in
-    let c₄ = c₂ .before .before in
-    let c₅ = c₄ .before in
-    let c₁₀ = c₅ .before .before .before .before .before in
-    let p = c₁₀ .before in
-    removed-done _ (p .pre .0 .0) (now (p .args .b)) (now (p .args .name)) (p .pre .0 .1) (p .pre .1 .0 .0) (p .pre .1 .0 .1) _
-    (ap (λ (s : Sought). s .hit) (c₅ .seek .ensures) ∙ c₄ .if1 .taken) (c₂ .remove-found .ensures)
+    let q = c .before .before .before .before .before .before .before .before .before .before .before .pre in
+    let h = ap (λ (s : Sought). s .hit) (c .before .before .before .before .before .seek .ensures) ∙ c .before .before .before .before .if1 .taken in
+    removed-done _ (q .0 .0) _ _ (q .0 .1) (found-legal _ (q .0 .0) _ _ (q .0 .1) h) (q .1 .0) _ h (c .before .before .remove-found .ensures)
 
 returns-2 : tie.Need-returns-2
 returns-2 c =
-    let p = c .before .before .before .before .before .before .before in
-    removed-absent _ (p .pre .0 .0) (now (p .args .b)) (now (p .args .name)) (p .pre .0 .1) (p .pre .1 .0 .0) (p .pre .1 .0 .1)
-    (ap (λ (s : Sought). s .hit) (c .before .seek .ensures) ∙ c .if1 .left)
+    let q = c .before .before .before .before .before .before .before .before .before .pre in
+    removed-asked _ (q .0 .0) _ _ (q .0 .1) (sym (c .before .legal .ensures) ∙ not-true _ (c .if2 .taken))
+
+returns-3 : tie.Need-returns-3
+returns-3 c =
+    let q = c .before .before .before .before .before .before .before .before .before .pre in
+    removed-absent _ (q .0 .0) _ _ (q .0 .1) (sym (c .before .legal .ensures) ∙ not-false _ (c .if2 .left)) (q .1 .0)
+    (ap (λ (s : Sought). s .hit) (c .before .before .before .seek .ensures) ∙ c .before .before .if1 .left)
 
 pub remove-ready-spec : {M : Type 1} → statement M
 remove-ready-spec =
@@ -76,5 +78,8 @@ remove-ready-spec =
     remove-found-requires
     (λ c. search needs)
     returns
+    (λ c κs. search needs)
     (λ c. search needs)
-    returns-2)
+    returns-2
+    (λ c. search needs)
+    returns-3)

@@ -1,85 +1,20 @@
 use native.Mathlib.Omega.{arith}
-use Prim.Native.Nat.{_-_, _≤_}
-use denote.Ref.{now}
-use Rattle.dir_block_rules.specs.Block.{data-end}
-use Rattle.dir_block_laws.proofs.RecordSteps.{head-end, end-fits}
-use Rattle.dir_block_laws.proofs.LongestGap.{Shorter, shorter-start, record-fits, shorter-found, shorter-on, shorter-end}
+use mathlib.Core.Path.{sym, _∙_}
+use Rattle.dir_block_laws.proofs.LongestGap.{seen-longest-at, seen-next, seen-other}
 use Rattle.dir_block_scan.proofs.first_of.Statement.{statement}
 use Rattle.dir_block_scan.proofs.first_of.Tie as tie
 
-abbrev Inv-loop : tie.InvT-loop
-Inv-loop e b end l o₀ o =
-    Shorter e b o l × (o ≤ data-end b)
-
-abbrev μ-loop : tie.MeasureT-loop
-μ-loop e b end l o₀ o =
-    end - o
-
-loop-holds : tie.Need-loop-holds Inv-loop μ-loop
-loop-holds c =
-    let p = c .before in
-    (shorter-start _ (now (p .args .b)) (p .pre .0 .1) (p .args .l), head-end _ (now (p .args .b)) (p .pre .0 .1))
-
-record-len-requires : tie.Need-record-len-requires Inv-loop μ-loop
-record-len-requires c κs =
-    let p = c .before .before .before in
-    (p .pre .0 .0, omega (arith, p .pre .1 .0, c .loop-test .taken, end-fits _ (now (p .args .b)) (p .pre .0 .1)))
-
-be16-requires : tie.Need-be16-requires Inv-loop μ-loop
-be16-requires c κs =
-    let p = c .before .before .before .before in
-    omega (arith, p .pre .1 .0, c .before .loop-test .taken, end-fits _ (now (p .args .b)) (p .pre .0 .1))
-
-returns : tie.Need-returns Inv-loop μ-loop
-returns c =
-    let p = c .before .before .before .before .before .before in
-    let q = c .before .before .before .before .loop in
-    shorter-found _ (now (p .args .b)) (p .pre .0 .1) (p .args .l) (q .o) (c .before .before .record-len .result) (q .inv .0)
-    (omega (arith, p .pre .1 .0, c .before .before .before .loop-test .taken)) (c .before .before .record-len .ensures) (p .pre .1 .1 .0) (c .before .be16 .result) (c .before .be16 .ensures .0) (c .if1 .taken)
-
-add-o : tie.Need-add-o Inv-loop μ-loop
-add-o c =
-    let p = c .before .before .before .before .before .before in
-    let q = c .before .before .before .before .loop in
-    let f = record-fits _ (now (p .args .b)) (p .pre .0 .1) (p .args .l) (q .o) (c .before .before .record-len .result) (q .inv .0)
-    (omega (arith, p .pre .1 .0, c .before .before .before .loop-test .taken)) (c .before .before .record-len .ensures) in
-    omega (arith, f, end-fits _ (now (p .args .b)) (p .pre .0 .1), p .pre .0 .1 .short)
-
-loop-less : tie.Need-loop-less Inv-loop μ-loop
-loop-less c =
-    let p = c .before .before .before .before .before .before in
-    let q = c .before .before .before .before .loop in
-    let f = record-fits _ (now (p .args .b)) (p .pre .0 .1) (p .args .l) (q .o) (c .before .before .record-len .result) (q .inv .0)
-    (omega (arith, p .pre .1 .0, c .before .before .before .loop-test .taken)) (c .before .before .record-len .ensures) in
-    omega (arith, p .pre .1 .0, f)
-
-loop-again : tie.Need-loop-again Inv-loop μ-loop
-loop-again c =
-    let p = c .before .before .before .before .before .before in
-    let q = c .before .before .before .before .loop in (
-      shorter-on _ (now (p .args .b)) (p .pre .0 .1) (p .args .l) (q .o) (c .before .before .record-len .result) (q .inv .0)
-          (omega (arith, p .pre .1 .0, c .before .before .before .loop-test .taken)) (c .before .before .record-len .ensures) (p .pre .1 .1 .0) (c .before .be16 .result) (c .before .be16 .ensures .0) (c .if1 .left),
-      record-fits _ (now (p .args .b)) (p .pre .0 .1) (p .args .l) (q .o) (c .before .before .record-len .result) (q .inv .0)
-          (omega (arith, p .pre .1 .0, c .before .before .before .loop-test .taken)) (c .before .before .record-len .ensures) .1,
-    )
-
-returns-2 : tie.Need-returns-2 Inv-loop μ-loop
-returns-2 c =
-    let p = c .before .before .before in
-    absurd (shorter-end _ (now (p .args .b)) (p .pre .0 .1) (p .args .l) (c .before .loop .o) (c .before .loop .inv .0)
-    (omega (arith, p .pre .1 .0, c .loop-test .left)) (p .pre .1 .1 .1) (p .pre .1 .1 .0))
+returns-3 : tie.Need-returns-3
+returns-3 c =
+    let w = c .before .before .pass .ensures in
+    sym (seen-next _ _ _ w (seen-longest-at _ _ w ∙ c .if2 .left) .0)
 
 pub first-of-spec : {M : Type 1} → statement M
 first-of-spec =
     tie.close
     (tie.spec
-    Inv-loop
-    μ-loop
-    loop-holds
-    record-len-requires
-    be16-requires
-    returns
-    add-o
-    loop-less
-    loop-again
-    returns-2)
+    (λ c κs. let p = c .before in (p .pre .0, (omega (arith, p .pre .1 .0), p .pre .1 .1)))
+    (λ c. c .before .first-before .ensures (c .if1 .taken))
+    (λ c κs. let p = c .before .before .before in (p .pre .0, p .pre .1 .0))
+    (λ c. seen-other _ _ _ (c .before .before .pass .ensures) (c .if2 .taken))
+    returns-3)

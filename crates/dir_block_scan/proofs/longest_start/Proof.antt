@@ -1,8 +1,9 @@
 use native.Mathlib.Omega.{arith}
-use borrow.Author.Needs.{needs}
+use mathlib.Core.Path.{_∙_, ap}
 use denote.Ref.{now}
+use Rattle.dir_block_rules.specs.Record.{Rec, size}
 use Rattle.dir_block_laws.proofs.SlotSearch.{tiled}
-use Rattle.dir_block_laws.proofs.LongestGap.{longest-long, longest-none, longest-only, longest-first, longest-second}
+use Rattle.dir_block_laws.proofs.LongestGap.{longest-long, longest-none, longest-only, longest-first, longest-second, none-at-end}
 use Rattle.dir_block_scan.proofs.longest_start.Statement.{statement}
 use Rattle.dir_block_scan.proofs.longest_start.Tie as tie
 
@@ -18,10 +19,18 @@ returns-2 c =
 
 first-of-requires : tie.Need-first-of-requires
 first-of-requires c κs =
-    let p = c .before .before .before .before .before .before .before in (
+    let p = c .before .before .before .before .before .before .before in
+    let some = c .before .before .before .before .if1 .left in
+    let k = none-at-end _ (now (p .args .b)) (p .pre .0 .1) _ _ _ _ _ _ (p .pre .1 .1) (p .args .end) (p .pre .1 .0) some in (
       (p .pre .0 .0, tiled _ (now (p .args .b)) (p .pre .0 .1)),
-      (p .pre .1 .0, (longest-long _ (now (p .args .b)) (p .pre .0 .1) _ _ _ _ _ _ (p .pre .1 .1), omega (arith, c .before .before .before .before .if1 .left))),
+      (p .pre .1 .0, (ap size k ∙ longest-long _ (now (p .args .b)) (p .pre .0 .1) _ _ _ _ _ _ (p .pre .1 .1))),
     )
+
+returns-3 : tie.Need-returns-3
+returns-3 c =
+    let p = c .before .before .before .before .before .before .before .before in
+    let some = c .before .before .before .before .before .if1 .left in
+    c .first-of .ensures ∙ ap (λ (r : Rec). r .off) (none-at-end _ (now (p .args .b)) (p .pre .0 .1) _ _ _ _ _ _ (p .pre .1 .1) (p .args .end) (p .pre .1 .0) some)
 
 returns-4 : tie.Need-returns-4
 returns-4 c =
@@ -40,6 +49,6 @@ longest-start-spec =
     returns
     returns-2
     first-of-requires
-    (λ c. search needs)
+    returns-3
     returns-4
     returns-5)
