@@ -69,6 +69,30 @@ fn each_byte_of_a_name() {
     println!("{} calls", lab.cover.calls());
 }
 
+/// A bad name is refused with 11 also where it has a stored name's hash: lookup and removal search for it before they look at its bytes.
+#[test]
+fn bad_names_of_a_stored_hash() {
+    let mut lab = Lab::new(0xbad5);
+    for len in [2, 3, 8, 9, 12, 16, 17, 33, 100, 255] {
+        for (good, bad) in [(b'.', b'/'), (1, 0)] {
+            let at = lab.rng.below(len - 1);
+            let mut stored = vec![b'n'; len];
+            stored[at] = good;
+            let asked = names::twin_at(&stored, at);
+            assert_eq!(asked[at], bad);
+            let fresh = build::fresh_block(&mut lab.rng, 512);
+            let block = lab.block_insert(&fresh, &stored, 5).bytes;
+            assert_eq!(block::lookup(V4, &block, &stored).refusal, 0);
+            assert_eq!(block::lookup(V4, &block, &asked).refusal, 11);
+            assert_eq!(block::remove(V4, &block, &asked).refusal, 11);
+            lab.block_lookup(&block, &stored);
+            lab.block_lookup(&block, &asked);
+            lab.block_remove(&block, &asked);
+            lab.block_insert(&block, &asked, 5);
+        }
+    }
+}
+
 /// A call takes no more stack than the header says, on the largest block, whose names have to be sorted: a thread has little more.
 #[test]
 fn stack_of_a_call() {

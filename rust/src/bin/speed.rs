@@ -490,33 +490,87 @@ fn by_c(size: usize, kind: &Names, seed: u64) -> Asked {
     (bytes, last)
 }
 
-/// Every eighth entry removed: as many gaps, and stale slots.
-fn with_gaps(size: usize, kind: &Names, seed: u64) -> Full {
+/// Whether the entry with this index, of so many, is removed.
+type Gone = fn(usize, usize) -> bool;
+
+fn every_eighth(index: usize, _: usize) -> bool {
+    index % 8 == 0
+}
+
+/// Every second one of the last 32: no gap stands before them.
+fn at_the_end(index: usize, count: usize) -> bool {
+    index + 32 >= count && index % 2 == 0
+}
+
+/// A full block with entries removed: as many gaps, and stale slots. And the names removed.
+fn with_gaps(size: usize, kind: &Names, seed: u64, gone: Gone) -> (Full, Vec<Vec<u8>>) {
     let mut full = full(size, kind, seed);
-    for name in full.names.iter().step_by(8) {
+    let count = full.names.len();
+    let removed: Vec<_> = (0..count)
+        .filter(|&index| gone(index, count))
+        .map(|index| full.names[index].clone())
+        .collect();
+    for name in &removed {
         assert!(block::remove(&mut full.bytes, name).is_ok());
     }
-    full
+    (full, removed)
 }
 
 /// A name that fits no gap, by 8 bytes, but in the place of stale slots: the insert is by (b).
-fn by_b(size: usize, kind: &Names, seed: u64) -> Asked {
-    let b = with_gaps(size, kind, seed).bytes;
+fn asked_for_b(b: Vec<u8>) -> Asked {
     let longest = u16::from_be_bytes([b[6], b[7]]);
     let name = vec![b'b'; usize::from(longest) + 8 - 11];
     assert_eq!(grown(&b, &name), [slots(&b)[0] - slots(&b)[1] + 1, 0]);
     (b, name)
 }
 
+fn by_b(size: usize, kind: &Names, seed: u64) -> Asked {
+    asked_for_b(with_gaps(size, kind, seed, every_eighth).0.bytes)
+}
+
+/// How long the gap at the slots is.
+fn last_gap(b: &[u8]) -> usize {
+    let end = b.len() - 8 - 8 * slots(b)[0] as usize;
+    let start = usize::from(u16::from_be_bytes([b[end - 2], b[end - 1]]));
+    if b[start..].starts_with(&[0xff, 0xff]) {
+        end - start
+    } else {
+        0
+    }
+}
+
+/// A removed name, where an insert by (b) has dropped the stale slots: the insert is by (c), and there are three gaps at least.
+fn by_c_after_b(size: usize, kind: &Names, seed: u64, gone: Gone) -> Asked {
+    let (full, removed) = with_gaps(size, kind, seed, gone);
+    let (mut b, long) = asked_for_b(full.bytes);
+    assert!(block::insert(&mut b, &long, 5).is_ok());
+    let name = removed[0].clone();
+    let mut after = b.clone();
+    assert!(block::insert(&mut after, &name, 5).is_ok());
+    assert_eq!(slots(&after), [slots(&b)[0] + 1, 0]);
+    assert_eq!(last_gap(&after), last_gap(&b) - 8);
+    assert_ne!(b[14..16], [0, 0]);
+    (b, name)
+}
+
+fn by_c_among_many(size: usize, kind: &Names, seed: u64) -> Asked {
+    by_c_after_b(size, kind, seed, every_eighth)
+}
+
+fn by_c_at_the_end(size: usize, kind: &Names, seed: u64) -> Asked {
+    by_c_after_b(size, kind, seed, at_the_end)
+}
+
 /// Many gaps: a removal, and an insert by (a).
 fn removed_of_many(size: usize, kind: &Names, seed: u64) -> Asked {
-    let Full { bytes, names } = with_gaps(size, kind, seed);
+    let (Full { bytes, names }, _) = with_gaps(size, kind, seed, every_eighth);
     (bytes, names[names.len() / 2 / 8 * 8 + 4].clone())
 }
 
-fn inserted_among_many(size: usize, kind: &Names, seed: u64) -> Asked {
-    let Full { bytes, names } = with_gaps(size, kind, seed);
-    let name = names[names.len() / 2 / 8 * 8].clone();
+/// A removed name, which goes back into a gap by (a).
+fn by_a(size: usize, kind: &Names, seed: u64, gone: Gone) -> Asked {
+    let (Full { bytes, .. }, removed) = with_gaps(size, kind, seed, gone);
+    let name = removed[removed.len() / 2].clone();
     assert_eq!(
         grown(&bytes, &name),
         [slots(&bytes)[0], slots(&bytes)[1] - 1]
@@ -524,16 +578,27 @@ fn inserted_among_many(size: usize, kind: &Names, seed: u64) -> Asked {
     (bytes, name)
 }
 
+fn by_a_among_many(size: usize, kind: &Names, seed: u64) -> Asked {
+    by_a(size, kind, seed, every_eighth)
+}
+
+fn by_a_at_the_end(size: usize, kind: &Names, seed: u64) -> Asked {
+    by_a(size, kind, seed, at_the_end)
+}
+
 /// Changes by every room rule and with many gaps, and what they take by the side of a test of the same block.
 fn other_changes() {
     println!("| blocks | change | library, us | test, us | change / test |");
     println!("|---|---|---|---|---|");
     type Make = fn(usize, &Names, u64) -> Asked;
-    let changes: [(&str, Change, Make); 5] = [
+    let changes: [(&str, Change, Make); 8] = [
         ("insert by (b), many gaps", inserted, by_b),
         ("insert by (c), two gaps", inserted, by_c),
+        ("insert by (c), many gaps", inserted, by_c_among_many),
+        ("insert by (c), gaps at the end", inserted, by_c_at_the_end),
         ("insert by (d), one gap", inserted, by_d),
-        ("insert by (a), many gaps", inserted, inserted_among_many),
+        ("insert by (a), many gaps", inserted, by_a_among_many),
+        ("insert by (a), gaps at the end", inserted, by_a_at_the_end),
         ("removal, many gaps", block::remove, removed_of_many),
     ];
     for size in [4096, 16_384, 65_536] {

@@ -35,18 +35,23 @@ pub fn legal(rng: &mut Rng) -> Vec<u8> {
     of_len(rng, len)
 }
 
-/// Another name with the same hash. A byte counts 7 bits higher than the next one, so its lowest bit and the
+/// Other bytes with the same hash. A byte counts 7 bits higher than the next one, so its lowest bit and the
 /// next one's highest bit cancel out.
+pub fn twin_at(name: &[u8], at: usize) -> Vec<u8> {
+    let mut other = name.to_vec();
+    other[at] ^= 1;
+    other[at + 1] ^= 0x80;
+    assert_eq!(model::hash(&other), model::hash(name));
+    other
+}
+
+/// Another name with the same hash.
 pub fn twin(rng: &mut Rng, name: &[u8]) -> Option<Vec<u8>> {
     if name.len() < 2 {
         return None;
     }
-    let at = rng.below(name.len() - 1);
-    let mut other = name.to_vec();
-    other[at] ^= 1;
-    other[at + 1] ^= 0x80;
-    let good = model::legal_name(V4, &other) && model::hash(&other) == model::hash(name);
-    good.then_some(other)
+    let other = twin_at(name, rng.below(name.len() - 1));
+    model::legal_name(V4, &other).then_some(other)
 }
 
 /// A name of another length with this hash: five more bytes of 7 bits each give any 32 bits.
