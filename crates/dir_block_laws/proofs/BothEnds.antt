@@ -144,13 +144,14 @@ module _ (e : Edition) (b : List ℕ) (t : Tiled e b) where
     back = record { before = tagged .xs; behind = tagged .x ∷ s .spot .behind; all = tagged .at-it .is; place = tagged .from }
 
     pub back-gap : field p 2 b ≡ 65535 → Gaps-behind e b p (ins-all qs (ins (pair p (u - p)) empty-table))
+    unfolding best-of
     back-gap g =
         let n : size (tagged .x) ≡ u - p = omega (arith, tagged .ends) in
         let l : Laid e (e .header + length (join (tagged .xs))) (tagged .x ∷ s .spot .behind) =
         laid-back e (e .header) (tagged .xs) (tagged .x ∷ s .spot .behind) (laid-at (tagged .xs) (tagged .x ∷ s .spot .behind) (tagged .at-it .is)) in
         record {
           spot = back;
-          best = table-ahead e (e .header + length (join (tagged .xs))) (tagged .x) (s .spot .behind) l (tagged .at-it .gap-is ∙ eq-eqb (field p 2 b) 65535 g)
+          best = table-ahead 3 e (e .header + length (join (tagged .xs))) (tagged .x) (s .spot .behind) l (tagged .at-it .gap-is ∙ eq-eqb (field p 2 b) 65535 g)
               ∙ ap₂ (λ (ts : List Pair) (q : Pair). ins-all ts (ins q empty-table)) (s .best) (ap₂ pair (tagged .at-it .off-is) n);
         }
 
@@ -178,7 +179,7 @@ module _ (e : Edition) (b : List ℕ) (t : Tiled e b) where
 
       go : (ms : List Rec) → w .behind ≡ ms ++ v .behind → o + length (join ms) ≡ u → best-of 3 (gaps (records e b)) ≡ ins-all qs ps
       go [] q n =
-          ap (λ (l : List Rec). best-of 3 (gaps l)) (w .all) ∙ tables-joined e (e .header) (w .before) (w .behind) la
+          ap (λ (l : List Rec). best-of 3 (gaps l)) (w .all) ∙ tables-joined 3 e (e .header) (w .before) (w .behind) la
           ∙ ap₂ (λ (l : List Rec) (ts : List Pair). ins-all (best-of 3 (gaps l)) ts) q (s .best) ∙ ap (λ (ts : List Pair). ins-all ts ps) (r .best)
       go (z ∷ ms) q n =
           let l : Laid e (e .header + length (join (w .before))) (z ∷ (ms ++ v .behind)) =

@@ -17,7 +17,6 @@ use Rattle.dir_block_rules.specs.Change.{best-of}
 use Rattle.dir_block_rules.proofs.CutJoin.{Laid, join, laid-front, laid-back}
 use Rattle.dir_block_rules.proofs.GoodParts.{length-best}
 use Rattle.dir_block_laws.specs.BestSoFar.{ins, ins-all}
-use Rattle.dir_block_laws.specs.JoinedTable.{empty-table}
 use Rattle.dir_block_laws.proofs.FewGaps.{named-by, rising-laid, ins-empty}
 use Rattle.dir_block_laws.proofs.JoinedGaps.{into, best-into, laid-before}
 
@@ -86,6 +85,11 @@ Least n zero ts = Unit {0}
 Least n (suc k) [] = Unit {0}
 Least n (suc k) (q ∷ qs) = (n ≤ q .long) × Least n k qs
 
+least-under : (m n k : ℕ) (ts : List Pair) → m ≤ n → Least n k ts → Least m k ts
+least-under m n zero ts h l = tt
+least-under m n (suc k) [] h l = tt
+least-under m n (suc k) (q ∷ qs) h l = (omega (arith, l .0), least-under m n k qs h (l .1))
+
 least-take : (n k m : ℕ) (ts : List Pair) → Least n k ts → Least n k (take m ts)
 least-take n zero m ts l = tt
 least-take n (suc k) zero ts l = tt
@@ -106,78 +110,109 @@ unfolding ins
 ins-short p [] l = refl
 ins-short p (q ∷ qs) l = ins-later p q qs (l .0) ∙ ap (λ (ts : List Pair). q ∷ ts) (ins-short p qs (l .1))
 
-ins-none : (p : Pair) → ins p [] ≡ []
+-- ---- a table put in
+
+-- none longer than n, and none longer than one before it
+abbrev Falling : ℕ → List Pair → Type 0
+Falling n [] = Unit {0}
+Falling n (q ∷ qs) = (q .long ≤ n) × Falling (q .long) qs
+
+falling-under : (m n : ℕ) (ts : List Pair) → n ≤ m → Falling n ts → Falling m ts
+falling-under m n [] h f = tt
+falling-under m n (q ∷ qs) h f = (omega (arith, f .0), f .1)
+
+falling-take : (m n : ℕ) (ts : List Pair) → Falling n ts → Falling n (take m ts)
+falling-take zero n ts f = tt
+falling-take (suc m) n [] f = tt
+falling-take (suc m) n (q ∷ qs) f = (f .0, falling-take m (q .long) qs (f .1))
+
+falling-ins : (n : ℕ) (p : Pair) (ts : List Pair) → p .long ≤ n → Falling n ts → Falling n (ins p ts)
 unfolding ins
-ins-none p = refl
+falling-ins n p [] h f = tt
+falling-ins n p (q ∷ qs) h f =
+    by-cases (ltb (q .long) (p .long))
+    (λ z. rw z (h, falling-take (length qs) (p .long) (q ∷ qs) (omega (arith, ltb-true (q .long) (p .long) z), f .1)))
+    (λ z. rw z (f .0, falling-ins (q .long) p qs (ltb-false (q .long) (p .long) z) (f .1)))
 
--- ---- three pairs put in
-
--- a fourth pair that is no longer
-fourth : (d a b c : Pair) (ts : List Pair) → length ts ≡ 3 → d .long ≤ a .long → d .long ≤ b .long → d .long ≤ c .long
-    → ins d (ins c (ins b (ins a ts))) ≡ ins c (ins b (ins a ts))
-fourth d a b c ts n da db dc =
-    let xs : List Pair = ins c (ins b (ins a ts)) in
-    let m : length xs ≡ 3 = length-ins c (ins b (ins a ts)) ∙ length-ins b (ins a ts) ∙ length-ins a ts ∙ n in
-    ins-short d xs
-    (subst (λ (k : ℕ). Least (d .long) k xs) (sym m)
-    (least-ins (d .long) 2 c (ins b (ins a ts)) dc (least-ins (d .long) 1 b (ins a ts) db (least-ins (d .long) 0 a ts da tt))))
-
--- gaps put into the table a b c and that into ts, or one by one
-joins : (ys : List Rec) (a b c : Pair) (ts : List Pair) → length ts ≡ 3 → b .long ≤ a .long → c .long ≤ b .long
-    → into ys (ins c (ins b (ins a ts))) ≡ ins-all (into ys (a ∷ b ∷ c ∷ [])) ts
+-- a pair longer than all of a table goes in before it or behind
+past-all : (n : ℕ) (p : Pair) (ts ss : List Pair) → n < p .long → Falling n ts → ins p (ins-all ts ss) ≡ ins-all ts (ins p ss)
 unfolding ins-all
-joins [] a b c ts n ab bc = refl
-joins (y ∷ ys) a b c ts n ab bc =
+past-all n p [] ss h f = refl
+past-all n p (t ∷ ts) ss h f =
+    past-all (t .long) p ts (ins t ss) (omega (arith, f .0)) (f .1) ∙ ap (ins-all ts) (swapped t p (omega (arith, f .0)) ss)
+
+-- the last pair is lost, if j pairs at least as long and the others fill the table
+last-lost : (j : ℕ) (t : Pair) (ts ss : List Pair) → Falling (t .long) ts → Least (t .long) j ss → length ss ≡ j + length ts
+    → ins-all (t ∷ ts) ss ≡ ins-all (take (length ts) (t ∷ ts)) ss
+unfolding ins-all
+last-lost j t [] ss f l n =
+    let m : j ≡ length ss = omega (arith, n) in
+    ins-short t ss (subst (λ (k : ℕ). Least (t .long) k ss) m l)
+last-lost j t (u ∷ ts) ss f l n =
+    last-lost (suc j) u ts (ins t ss) (f .1) (least-ins (u .long) j t ss (f .0) (least-under (u .long) (t .long) j ss (f .0) l))
+    (length-ins t ss ∙ omega (arith, n))
+
+-- one pair more, put into the second table or into the first
+one-in : (n j : ℕ) (p : Pair) (ts ss : List Pair) → p .long ≤ n → Falling n ts → Least n j ss → length ss ≡ j + length ts
+    → ins p (ins-all ts ss) ≡ ins-all (ins p ts) ss
+unfolding ins-all ins
+one-in n j p [] ss h f l q =
+    let m : j ≡ length ss = omega (arith, q) in
+    ins-short p ss (subst (λ (k : ℕ). Least (p .long) k ss) m (least-under (p .long) n j ss h l))
+one-in n j p (t ∷ ts) ss h f l q =
+    by-cases (ltb (t .long) (p .long))
+    (λ z. let k : t .long < p .long = ltb-true (t .long) (p .long) z in
+    past-all (t .long) p (t ∷ ts) ss k (le-refl (t .long), f .1)
+    ∙ last-lost (suc j) t ts (ins p ss) (f .1) (least-ins (t .long) j p ss (omega arith) (least-under (t .long) n j ss (f .0) l)) (length-ins p ss ∙ omega (arith, q))
+    ∙ ap (λ (l : List Pair). ins-all l ss) (sym (ins-first p t ts k)))
+    (λ z. let k : p .long ≤ t .long = ltb-false (t .long) (p .long) z in
+    one-in (t .long) (suc j) p ts (ins t ss) k (f .1) (least-ins (t .long) j t ss (le-refl (t .long)) (least-under (t .long) n j ss (f .0) l))
+    (length-ins t ss ∙ omega (arith, q))
+    ∙ ap (λ (l : List Pair). ins-all l ss) (sym (ins-later p t ts k)))
+
+-- gaps put into the table ts and that into ss, or one by one
+joins : (n : ℕ) (ys : List Rec) (ts ss : List Pair) → length ss ≡ length ts → Falling n ts → into ys (ins-all ts ss) ≡ ins-all (into ys ts) ss
+joins n [] ts ss q f = refl
+joins n (y ∷ ys) ts ss q f =
     let p : Pair = named-by y in
-    let go : (f g h : Pair) → g .long ≤ f .long → h .long ≤ g .long → ins p (a ∷ b ∷ c ∷ []) ≡ f ∷ g ∷ h ∷ []
-    → ins p (ins c (ins b (ins a ts))) ≡ ins h (ins g (ins f ts))
-    → into ys (ins p (ins c (ins b (ins a ts)))) ≡ ins-all (into ys (ins p (a ∷ b ∷ c ∷ []))) ts =
-    λ f g h fg gh i q. ap (into ys) q ∙ joins ys f g h ts n fg gh ∙ ap (λ (l : List Pair). ins-all (into ys l) ts) (sym i) in
-    by-cases (ltb (a .long) (p .long))
-    (λ z. let l : a .long < p .long = ltb-true (a .long) (p .long) z in
-    go p a b (omega arith) ab (ins-first p a (b ∷ c ∷ []) l)
-    (swapped c p (omega arith) (ins b (ins a ts)) ∙ ap (ins c) (swapped b p (omega arith) (ins a ts) ∙ ap (ins b) (swapped a p l ts))
-    ∙ fourth c p a b ts n (omega arith) (omega arith) bc))
-    (λ z. let l : p .long ≤ a .long = ltb-false (a .long) (p .long) z in
-    let i : ins p (a ∷ b ∷ c ∷ []) ≡ a ∷ ins p (b ∷ c ∷ []) = ins-later p a (b ∷ c ∷ []) l in
-    by-cases (ltb (b .long) (p .long))
-    (λ y. let m : b .long < p .long = ltb-true (b .long) (p .long) y in
-    go a p b l (omega arith) (i ∙ ap (λ (l : List Pair). a ∷ l) (ins-first p b (c ∷ []) m))
-    (swapped c p (omega arith) (ins b (ins a ts)) ∙ ap (ins c) (swapped b p m (ins a ts)) ∙ fourth c a p b ts n (omega arith) (omega arith) bc))
-    (λ y. let m : p .long ≤ b .long = ltb-false (b .long) (p .long) y in
-    let j : ins p (a ∷ b ∷ c ∷ []) ≡ a ∷ b ∷ ins p (c ∷ []) = i ∙ ap (λ (l : List Pair). a ∷ l) (ins-later p b (c ∷ []) m) in
-    by-cases (ltb (c .long) (p .long))
-    (λ x. let k : c .long < p .long = ltb-true (c .long) (p .long) x in
-    go a b p ab m (j ∙ ap (λ (l : List Pair). a ∷ b ∷ l) (ins-first p c [] k))
-    (swapped c p k (ins b (ins a ts)) ∙ fourth c a b p ts n (omega arith) bc (omega arith)))
-    (λ x. let k : p .long ≤ c .long = ltb-false (c .long) (p .long) x in
-    go a b c ab bc (j ∙ ap (λ (l : List Pair). a ∷ b ∷ l) (ins-later p c [] k ∙ ap (λ (l : List Pair). c ∷ l) (ins-none p)))
-    (fourth p a b c ts n l m k))))
+    let m : ℕ = n + p .long in
+    let g : Falling m ts = falling-under m n ts (omega arith) f in
+    ap (into ys) (one-in m 0 p ts ss (omega arith) g tt (omega (arith, q)))
+    ∙ joins m ys (ins p ts) ss (q ∙ sym (length-ins p ts)) (falling-ins m p ts (omega arith) g)
 
 -- ---- the gaps of records
 
--- the table of the gaps of records laid from o on
-table-into : (e : Edition) (o : ℕ) (rs : List Rec) → Laid e o rs → best-of 3 (gaps rs) ≡ into (gaps rs) empty-table
+falling-empty : (k : ℕ) → Falling 0 (best-of k [])
 unfolding best-of
-table-into e o rs l = best-into 3 o [] (gaps rs) refl (rising-laid e o rs l)
+falling-empty zero = tt
+falling-empty (suc k) = (le-refl 0, falling-empty k)
 
-pub tables-joined : (e : Edition) (o : ℕ) (xs ys : List Rec) → Laid e o (xs ++ ys)
-    → best-of 3 (gaps (xs ++ ys)) ≡ ins-all (best-of 3 (gaps ys)) (best-of 3 (gaps xs))
-tables-joined e o xs ys l =
+-- the table of no gaps changes nothing
+all-empty : (k : ℕ) (ts : List Pair) → ins-all (best-of k []) ts ≡ ts
+unfolding best-of ins-all
+all-empty zero ts = refl
+all-empty (suc k) ts = ap (ins-all (best-of k [])) (ins-empty (pair 0 0) ts refl) ∙ all-empty k ts
+
+-- the table of the gaps of records laid from o on
+table-into : (k : ℕ) (e : Edition) (o : ℕ) (rs : List Rec) → Laid e o rs → best-of k (gaps rs) ≡ into (gaps rs) (best-of k [])
+table-into k e o rs l = best-into k o [] (gaps rs) refl (rising-laid e o rs l)
+
+pub tables-joined : (k : ℕ) (e : Edition) (o : ℕ) (xs ys : List Rec) → Laid e o (xs ++ ys)
+    → best-of k (gaps (xs ++ ys)) ≡ ins-all (best-of k (gaps ys)) (best-of k (gaps xs))
+tables-joined k e o xs ys l =
     let p : ℕ = o + length (join xs) in
     let ly : Laid e p ys = laid-back e o xs ys l in
-    let ts : List Pair = best-of 3 (gaps xs) in
-    let z : ins (pair 0 0) (ins (pair 0 0) (ins (pair 0 0) ts)) ≡ ts =
-    ins-empty (pair 0 0) (ins (pair 0 0) (ins (pair 0 0) ts)) refl ∙ ins-empty (pair 0 0) (ins (pair 0 0) ts) refl ∙ ins-empty (pair 0 0) ts refl in
-    ap (best-of 3) (keep-append is-gap xs ys)
-    ∙ best-into 3 p (gaps xs) (gaps ys) (laid-before e o p xs (laid-front e o xs ys l) (le-refl p)) (rising-laid e p ys ly)
-    ∙ ap (into (gaps ys)) (sym z) ∙ joins (gaps ys) (pair 0 0) (pair 0 0) (pair 0 0) ts (length-best 3 (gaps xs)) (le-refl 0) (le-refl 0)
-    ∙ ap (λ (l : List Pair). ins-all l ts) (sym (table-into e p ys ly))
+    let ts : List Pair = best-of k (gaps xs) in
+    ap (best-of k) (keep-append is-gap xs ys)
+    ∙ best-into k p (gaps xs) (gaps ys) (laid-before e o p xs (laid-front e o xs ys l) (le-refl p)) (rising-laid e p ys ly)
+    ∙ ap (into (gaps ys)) (sym (all-empty k ts))
+    ∙ joins 0 (gaps ys) (best-of k []) ts (length-best k (gaps xs) ∙ sym (length-best k [])) (falling-empty k)
+    ∙ ap (λ (l : List Pair). ins-all l ts) (sym (table-into k e p ys ly))
 
 -- one gap before the others
-pub table-ahead : (e : Edition) (o : ℕ) (x : Rec) (ys : List Rec) → Laid e o (x ∷ ys) → is-gap x ≡ true
-    → best-of 3 (gaps (x ∷ ys)) ≡ ins-all (best-of 3 (gaps ys)) (ins (named-by x) empty-table)
-table-ahead e o x ys l g =
+pub table-ahead : (k : ℕ) (e : Edition) (o : ℕ) (x : Rec) (ys : List Rec) → Laid e o (x ∷ ys) → is-gap x ≡ true
+    → best-of k (gaps (x ∷ ys)) ≡ ins-all (best-of k (gaps ys)) (ins (named-by x) (best-of k []))
+table-ahead k e o x ys l g =
     let h : gaps (x ∷ []) ≡ x ∷ [] = rw g in
-    tables-joined e o (x ∷ []) ys l
-    ∙ ap (ins-all (best-of 3 (gaps ys))) (table-into e o (x ∷ []) (l .0, l .1, tt) ∙ ap (λ (gs : List Rec). into gs empty-table) h)
+    tables-joined k e o (x ∷ []) ys l
+    ∙ ap (ins-all (best-of k (gaps ys))) (table-into k e o (x ∷ []) (l .0, l .1, tt) ∙ ap (λ (gs : List Rec). into gs (best-of k [])) h)
