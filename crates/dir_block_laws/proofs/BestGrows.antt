@@ -39,7 +39,7 @@ longest-more (x ∷ xs) g h =
     (λ q. rw (e, q) (rw p)))
 
 -- a shorter table is the longer one's front
-take-best : (k : ℕ) (gs : List Rec) → take k (best-of (suc k) gs) ≡ best-of k gs
+pub take-best : (k : ℕ) (gs : List Rec) → take k (best-of (suc k) gs) ≡ best-of k gs
 unfolding best-of
 take-best zero gs = refl
 take-best (suc k) [] = ap (λ (l : List Pair). pair 0 0 ∷ l) (take-best k [])
@@ -51,12 +51,12 @@ take-best (suc k) (g ∷ gs) =
 abbrev pub elsewhere : ℕ → Rec → Bool
 elsewhere o r = not (eqb (r .off) o)
 
-keep-all : (p : Rec → Bool) (l : List Rec) → every p l ≡ true → keep p l ≡ l
+pub keep-all : (p : Rec → Bool) (l : List Rec) → every p l ≡ true → keep p l ≡ l
 keep-all p [] h = refl
 keep-all p (x ∷ l) h = rw (every-head p x l h, keep-all p l (every-tail p x l h))
 
 -- one step of the table
-best-step : (k : ℕ) (gs : List Rec) → 0 < length gs → best-of (suc k) gs ≡ pair (longest gs .off) (size (longest gs)) ∷ best-of k (besides (longest gs .off) gs)
+pub best-step : (k : ℕ) (gs : List Rec) → 0 < length gs → best-of (suc k) gs ≡ pair (longest gs .off) (size (longest gs)) ∷ best-of k (besides (longest gs .off) gs)
 unfolding best-of
 best-step k [] h = absurd (not-suc-le-zero h)
 best-step k (g ∷ gs) h = refl

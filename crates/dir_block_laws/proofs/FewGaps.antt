@@ -71,7 +71,7 @@ only : (p : Pair) (ps : List Pair) (g : Rec) → best-ok (p ∷ ps) (g ∷ []) �
 only p ps g h =
     or-cases (is-gap-of p g) false (ok-named p ps g [] h) (λ z. is-named p g z) (λ z. absurd (false≢true z))
 
-besides-it : (g : Rec) (gs : List Rec) → besides (g .off) (g ∷ gs) ≡ besides (g .off) gs
+pub besides-it : (g : Rec) (gs : List Rec) → besides (g .off) (g ∷ gs) ≡ besides (g .off) gs
 besides-it g gs = rw (eq-eqb (g .off) (g .off) refl)
 
 besides-other : (o : ℕ) (g : Rec) (gs : List Rec) → (g .off ≡ o → ⊥) → besides o (g ∷ gs) ≡ g ∷ besides o gs

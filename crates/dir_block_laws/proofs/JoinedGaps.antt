@@ -41,7 +41,7 @@ use Rattle.dir_block_laws.proofs.StoresTiled.{records-changed}
 use Rattle.dir_block_laws.proofs.FewGaps.{Rising, rising-laid, named-by, pairs-of, Named, named, few-gaps, table-filled}
 
 -- starts before o; at o or behind
-abbrev before : ℕ → Rec → Bool
+abbrev pub before : ℕ → Rec → Bool
 before o r = ltb (r .off) o
 
 abbrev behind : ℕ → Rec → Bool

@@ -11,6 +11,7 @@ pub mod FewGaps
 pub mod JoinedGaps
 pub mod TablesJoined
 pub mod BothEnds
+pub mod PairPlaced
 pub mod TwoPairs
 pub mod UsedGap
 pub mod EditAnswers

@@ -23,28 +23,28 @@ use Rattle.dir_block_laws.proofs.JoinedGaps.{into, best-into, laid-befo
 -- ---- one pair put in
 
 -- put in before all, if it is longer than the first
-ins-first : (p q : Pair) (qs : List Pair) → q .long < p .long → ins p (q ∷ qs) ≡ p ∷ take (length qs) (q ∷ qs)
+pub ins-first : (p q : Pair) (qs : List Pair) → q .long < p .long → ins p (q ∷ qs) ≡ p ∷ take (length qs) (q ∷ qs)
 unfolding ins
 ins-first p q qs h = rw (lt-ltb (q .long) (p .long) h)
 
 -- and behind the first otherwise
-ins-later : (p q : Pair) (qs : List Pair) → p .long ≤ q .long → ins p (q ∷ qs) ≡ q ∷ ins p qs
+pub ins-later : (p q : Pair) (qs : List Pair) → p .long ≤ q .long → ins p (q ∷ qs) ≡ q ∷ ins p qs
 unfolding ins
 ins-later p q qs h = rw (le-ltb (q .long) (p .long) h)
 
-length-ins : (p : Pair) (ts : List Pair) → length (ins p ts) ≡ length ts
+pub length-ins : (p : Pair) (ts : List Pair) → length (ins p ts) ≡ length ts
 unfolding ins
 length-ins p [] = refl
 length-ins p (q ∷ qs) =
     by-cases (ltb (q .long) (p .long)) (λ z. rw z (simp length-take (omega arith))) (λ z. rw z (ap suc (length-ins p qs)))
 
 -- a table's front is as if the others were not there
-front-cut : (m : ℕ) (q : Pair) (qs : List Pair) → take m (take (length qs) (q ∷ qs)) ≡ take (length (take m qs)) (q ∷ take m qs)
+pub front-cut : (m : ℕ) (q : Pair) (qs : List Pair) → take m (take (length qs) (q ∷ qs)) ≡ take (length (take m qs)) (q ∷ take m qs)
 front-cut zero q qs = refl
 front-cut (suc m) q [] = refl
 front-cut (suc m) q (r ∷ qs) = ap (λ (l : List Pair). q ∷ l) (front-cut m r qs)
 
-ins-front : (m : ℕ) (p : Pair) (ts : List Pair) → take m (ins p ts) ≡ ins p (take m ts)
+pub ins-front : (m : ℕ) (p : Pair) (ts : List Pair) → take m (ins p ts) ≡ ins p (take m ts)
 unfolding ins
 ins-front zero p ts = refl
 ins-front (suc m) p [] = refl
