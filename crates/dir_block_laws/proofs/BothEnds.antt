@@ -1,28 +1,29 @@
 -- A pass over the records from both ends at once: a record on from the front, one back from the end by its tag, and where the two meet.
 -- Assumes nothing.
 use Prim.Native.Nat.{ℕ, _+_, _-_, _≤_, _<_}
+use native.Mathlib.Nat.{add-zero, le-refl}
 use native.Mathlib.Omega.{arith}
 use mathlib.Core.Bool.{true, false}
 use mathlib.Core.Path.{_≡_, refl, sym, _∙_, ap, ap₂, subst}
-use mathlib.Core.List.{List, [], _∷_, _++_}
+use mathlib.Core.List.{List, [], _∷_, _++_, append-assoc, append-nil}
 use lib.ListN.{length, drop, getD, length-append}
 use lib.Dec.{ltb}
 use borrow.Author.Tests.{eq-eqb, ne-eqb, ltb-true, ltb-false}
-use Rattle.be.proofs.Bools.{by-cases}
+use Rattle.be.proofs.Bools.{by-cases, keep-append}
 use Rattle.be.specs.Lists.{every}
 use Rattle.be.specs.Bytes.{field}
 use Rattle.edition.specs.declared.Edition.{Edition}
 use Rattle.edition.specs.Edition.{entry-size}
-use Rattle.dir_block_rules.specs.Record.{Rec, size, is-gap, gap-start, gaps}
+use Rattle.dir_block_rules.specs.Record.{Rec, size, is-gap, gap-start, gaps, besides}
 use Rattle.dir_block_rules.specs.Block.{records, data-end}
 use Rattle.dir_block_rules.specs.Verdict.{Pair, pair}
 use Rattle.dir_block_rules.specs.Change.{best-of}
-use Rattle.dir_block_rules.proofs.CutJoin.{Laid, join, laid-front, laid-back}
+use Rattle.dir_block_rules.proofs.CutJoin.{Laid, join, join-append, laid-front, laid-back}
+use Rattle.dir_block_rules.proofs.InsertCases.{Touch, touch, real, unreal}
 use Rattle.dir_block_laws.specs.Tiled.{Tiled}
 use Rattle.dir_block_laws.specs.BestSoFar.{ins, ins-all}
-use Rattle.dir_block_laws.specs.JoinedTable.{empty-table}
-use Rattle.dir_block_laws.specs.Pass.{Place, Gaps-before, Gaps-behind, Next-place}
-use Rattle.dir_block_laws.proofs.BestGrows.{best-more, elsewhere}
+use Rattle.dir_block_laws.specs.Pass.{Place, Gaps-before, Gaps-up-to, Next-place, Scanned}
+use Rattle.dir_block_laws.proofs.BestGrows.{best-more, elsewhere, keep-all}
 use Rattle.dir_block_laws.proofs.RecordSteps.{Here, Next, next, over, place-start, laid-all, laid-elsewhere}
 use Rattle.dir_block_laws.proofs.RecordPass.{gaps-gap, gaps-entry, says-gap, says-entry}
 use Rattle.dir_block_laws.proofs.GapsBeside.{Prior, prior-at}
@@ -77,8 +78,7 @@ module _ (e : Edition) (b : List ℕ) (t : Tiled e b) where
 
   -- ---- from the front
 
-  pub front-start : Gaps-before e b (e .header) empty-table
-  unfolding best-of
+  pub front-start : Gaps-before e b (e .header) (best-of 4 [])
   front-start = record { spot = place-start e b; best = refl }
 
   is-next : (o n : ℕ) (w : Place e b o) (k : Next e b t o w) → size (k .this) ≡ n → Next-place e b o (o + n)
@@ -102,7 +102,7 @@ module _ (e : Edition) (b : List ℕ) (t : Tiled e b) where
         record {
           spot = over e b t o n w k n-is;
           best =
-              ap (best-of 3) (gaps-gap (w .before) y (v .gap-is ∙ gs)) ∙ best-more 3 (gaps (w .before)) y (omega (arith, v .is-whole .least)) el
+              ap (best-of 4) (gaps-gap (w .before) y (v .gap-is ∙ gs)) ∙ best-more 4 (gaps (w .before)) y (omega (arith, v .is-whole .least)) el
               ∙ ap₂ ins (ap₂ pair (v .off-is) n-is) (s .best);
         },
         is-next o n w k n-is,
@@ -116,72 +116,177 @@ module _ (e : Edition) (b : List ℕ) (t : Tiled e b) where
       let v : Here e b t (w .before) (k .this) (k .later) o = k .stands in
       let gs : gap-start (drop o b) ≡ false = ne-eqb (field o 2 b) 65535 g in
       let n-is : size (k .this) ≡ n = v .says-is ∙ says-entry e b o gs ∙ f in (
-        record { spot = over e b t o n w k n-is; best = ap (best-of 3) (gaps-entry (w .before) (k .this) (v .gap-is ∙ gs)) ∙ s .best },
+        record { spot = over e b t o n w k n-is; best = ap (best-of 4) (gaps-entry (w .before) (k .this) (v .gap-is ∙ gs)) ∙ s .best },
         is-next o n w k n-is,
       )
 
-  -- ---- from the end
+  -- ---- from place v back
 
-  pub back-start : Gaps-behind e b (data-end b) empty-table
-  unfolding best-of
-  back-start = record { spot = end-place e b t (data-end b) refl; best = refl }
+  -- as a place
+  abbrev pub spot-of : (v u : ℕ) (qs : List Pair) → Gaps-up-to e b v u qs → Place e b u
+  spot-of v u qs s = record { before = s .before; behind = s .between ++ s .beyond; all = s .all; place = s .place }
+
+  pub back-start : (v : ℕ) → Place e b v → Gaps-up-to e b v v (best-of 4 [])
+  back-start v w = record { before = w .before; between = []; beyond = w .behind; all = w .all; place = w .place; upto = add-zero v; best = refl }
 
   -- back over the record that ends at u, by its tag p, from behind a place o
-  module _ (o u p : ℕ) (qs : List Pair) (s : Gaps-behind e b u qs) (w : Place e b o) (h : o < u) (f : field (u - 2) 2 b ≡ p) where
-    tagged : Prior e b t u (s .spot) p
-    tagged = prior-at e b t u (s .spot) p (omega (arith, w .place)) f
+  module _ (o v u p : ℕ) (qs : List Pair) (s : Gaps-up-to e b v u qs) (w : Place e b o) (h : o < u) (f : field (u - 2) 2 b ≡ p) where
+    tagged : Prior e b t u (spot-of v u qs s) p
+    tagged = prior-at e b t u (spot-of v u qs s) p (omega (arith, w .place)) f
 
     pub back-fits : (o ≤ p) × (p + 8 ≤ u)
     back-fits =
-        let r : Prior e b t u (s .spot) p = tagged in (
+        let r : Prior e b t u (spot-of v u qs s) p = tagged in (
           by-cases (ltb p o)
-              (λ z. absurd (omega (arith, r .ends, behind-it p o (r .xs) (r .x) (s .spot .behind) (r .at-it) (r .from) w (ltb-true p o z))))
+              (λ z. absurd (omega (arith, r .ends, behind-it p o (r .xs) (r .x) (s .between ++ s .beyond) (r .at-it) (r .from) w (ltb-true p o z))))
               (λ z. ltb-false p o z),
           omega (arith, r .ends, r .at-it .is-whole .least),
         )
 
-    abbrev back : Place e b p
-    back = record { before = tagged .xs; behind = tagged .x ∷ s .spot .behind; all = tagged .at-it .is; place = tagged .from }
+    over-it : p + length (tagged .x .raw ++ join (s .between)) ≡ v
+    over-it = omega (arith, length-append (tagged .x .raw) (join (s .between)), tagged .ends, s .upto)
 
-    pub back-gap : field p 2 b ≡ 65535 → Gaps-behind e b p (ins-all qs (ins (pair p (u - p)) empty-table))
-    unfolding best-of
+    pub back-gap : field p 2 b ≡ 65535 → Gaps-up-to e b v p (ins-all qs (ins (pair p (u - p)) (best-of 4 [])))
     back-gap g =
         let n : size (tagged .x) ≡ u - p = omega (arith, tagged .ends) in
-        let l : Laid e (e .header + length (join (tagged .xs))) (tagged .x ∷ s .spot .behind) =
-        laid-back e (e .header) (tagged .xs) (tagged .x ∷ s .spot .behind) (laid-at (tagged .xs) (tagged .x ∷ s .spot .behind) (tagged .at-it .is)) in
+        let xs : List Rec = tagged .xs in
+        let ys : List Rec = tagged .x ∷ s .between in
+        let at : ℕ = e .header + length (join (tagged .xs)) in
+        let l : Laid e (e .header + length (join (tagged .xs))) (tagged .x ∷ s .between) =
+        laid-front e at ys (s .beyond) (laid-back e (e .header) xs (ys ++ s .beyond) (laid-at xs (ys ++ s .beyond) (tagged .at-it .is))) in
         record {
-          spot = back;
-          best = table-ahead 3 e (e .header + length (join (tagged .xs))) (tagged .x) (s .spot .behind) l (tagged .at-it .gap-is ∙ eq-eqb (field p 2 b) 65535 g)
-              ∙ ap₂ (λ (ts : List Pair) (q : Pair). ins-all ts (ins q empty-table)) (s .best) (ap₂ pair (tagged .at-it .off-is) n);
+          before = tagged .xs;
+          between = tagged .x ∷ s .between;
+          beyond = s .beyond;
+          all = tagged .at-it .is;
+          place = tagged .from;
+          upto = over-it;
+          best = table-ahead 4 e at (tagged .x) (s .between) l (tagged .at-it .gap-is ∙ eq-eqb (field p 2 b) 65535 g)
+              ∙ ap₂ (λ (ts : List Pair) (q : Pair). ins-all ts (ins q (best-of 4 []))) (s .best) (ap₂ pair (tagged .at-it .off-is) n);
         }
 
-    pub back-entry : (field p 2 b ≡ 65535 → ⊥) → Gaps-behind e b p qs
+    pub back-entry : (field p 2 b ≡ 65535 → ⊥) → Gaps-up-to e b v p qs
     back-entry g =
         let y : is-gap (tagged .x) ≡ false = tagged .at-it .gap-is ∙ ne-eqb (field p 2 b) 65535 g in
-        record { spot = back; best = ap (best-of 3) (no-gap (tagged .x) (s .spot .behind) y) ∙ s .best }
+        record {
+          before = tagged .xs;
+          between = tagged .x ∷ s .between;
+          beyond = s .beyond;
+          all = tagged .at-it .is;
+          place = tagged .from;
+          upto = over-it;
+          best = ap (best-of 4) (no-gap (tagged .x) (s .between) y) ∙ s .best;
+        }
 
   -- ---- where they meet
 
-  pub all-gaps : (o u : ℕ) (ps qs : List Pair) → Gaps-before e b o ps → Gaps-behind e b u qs → o ≤ u → u ≤ o → best-of 3 (gaps (records e b)) ≡ ins-all qs ps
-  all-gaps o u ps qs s r h k = go (m .0) (m .1) (m .2)
+  pub both-met : (o v u : ℕ) (ps qs : List Pair) → Gaps-before e b o ps → Gaps-up-to e b v u qs → o ≤ u → u ≤ o → Gaps-before e b v (ins-all qs ps)
+  both-met o v u ps qs s r h k = go (m .0) (m .1) (m .2)
     where
       w : Place e b o
       w = s .spot
 
-      v : Place e b u
-      v = r .spot
+      y : Place e b u
+      y = spot-of v u qs r
 
-      m : Between o u w v
-      m = places o u w v h
+      m : Between o u w y
+      m = places o u w y h
 
       la : Laid e (e .header) (w .before ++ w .behind)
       la = laid-at (w .before) (w .behind) (w .all)
 
-      go : (ms : List Rec) → w .behind ≡ ms ++ v .behind → o + length (join ms) ≡ u → best-of 3 (gaps (records e b)) ≡ ins-all qs ps
+      go : (ms : List Rec) → w .behind ≡ ms ++ (r .between ++ r .beyond) → o + length (join ms) ≡ u → Gaps-before e b v (ins-all qs ps)
       go [] q n =
-          ap (λ (l : List Rec). best-of 3 (gaps l)) (w .all) ∙ tables-joined 3 e (e .header) (w .before) (w .behind) la
-          ∙ ap₂ (λ (l : List Rec) (ts : List Pair). ins-all (best-of 3 (gaps l)) ts) q (s .best) ∙ ap (λ (ts : List Pair). ins-all ts ps) (r .best)
+          let lb : Laid e (e .header) (w .before ++ r .between) =
+          laid-front e (e .header) (w .before ++ r .between) (r .beyond)
+          (subst (λ (l : List Rec). Laid e (e .header) l) (ap (λ (l : List Rec). w .before ++ l) q ∙ sym (append-assoc (w .before) (r .between) (r .beyond))) la) in
+          record {
+            spot =
+                record {
+                  before = w .before ++ r .between;
+                  behind = r .beyond;
+                  all = w .all ∙ ap (λ (l : List Rec). w .before ++ l) q ∙ sym (append-assoc (w .before) (r .between) (r .beyond));
+                  place = omega (arith, ap length (join-append (w .before) (r .between)), length-append (join (w .before)) (join (r .between)), w .place, r .upto);
+                };
+            best =
+                tables-joined 4 e (e .header) (w .before) (r .between) lb ∙ ap₂ ins-all (r .best) (s .best);
+          }
       go (z ∷ ms) q n =
-          let l : Laid e (e .header + length (join (w .before))) (z ∷ (ms ++ v .behind)) =
+          let l : Laid e (e .header + length (join (w .before))) (z ∷ (ms ++ (r .between ++ r .beyond))) =
           subst (λ (rs : List Rec). Laid e (e .header + length (join (w .before))) rs) q (laid-back e (e .header) (w .before) (w .behind) la) in
           absurd (omega (arith, l .1 .least, length-append (z .raw) (join ms)))
+
+  -- ---- at the data's end, and at T
+
+  -- all gaps
+  pub all-gaps : (v : ℕ) (ps : List Pair) → v ≡ data-end b → Gaps-before e b v ps → best-of 4 (gaps (records e b)) ≡ ps
+  all-gaps v ps d s = go (m .0) (m .1) (m .2)
+    where
+      w : Place e b v
+      w = s .spot
+
+      y : Place e b v
+      y = end-place e b t v d
+
+      m : Between v v w y
+      m = places v v w y (le-refl v)
+
+      go : (ms : List Rec) → w .behind ≡ ms ++ [] → v + length (join ms) ≡ v → best-of 4 (gaps (records e b)) ≡ ps
+      go [] q n = ap (λ (l : List Rec). best-of 4 (gaps l)) (w .all ∙ ap (λ (l : List Rec). w .before ++ l) q ∙ append-nil (w .before)) ∙ s .best
+      go (z ∷ ms) q n =
+          let l : Laid e (e .header + length (join (w .before))) (z ∷ (ms ++ [])) =
+          subst (λ (rs : List Rec). Laid e (e .header + length (join (w .before))) rs) q (laid-back e (e .header) (w .before) (w .behind) (laid-at (w .before) (w .behind) (w .all))) in
+          absurd (omega (arith, l .1 .least, length-append (z .raw) (join ms)))
+
+  -- T, where there is one
+  place-of-t : (u : ℕ) (xs : List Rec) (x : Rec) → records e b ≡ xs ++ (x ∷ []) → x .off ≡ u → Place e b u
+  place-of-t u xs x q h =
+      record { before = xs; behind = x ∷ []; all = q; place = sym (laid-back e (e .header) xs (x ∷ []) (laid-at xs (x ∷ []) q) .0) ∙ h }
+
+  module _ (u k : ℕ) (s : Scanned e b [] u k) where
+    pub last-place : Place e b u
+    last-place = go (touch (data-end b) (records e b))
+      where
+        go : Touch (data-end b) (records e b) → Place e b u
+        go (real xs x q xp xq) = place-of-t u xs x q (sym (ap (λ (r : Rec). r .off) xq) ∙ s .touch-off)
+        go (unreal xq) = end-place e b t u (sym (s .touch-off) ∙ ap (λ (r : Rec). r .off) xq)
+
+    -- the gaps before T are those other than T
+    pub all-others : (ps : List Pair) → Gaps-before e b u ps → best-of 4 (besides u (gaps (records e b))) ≡ ps
+    unfolding place-of-t
+    all-others ps g = go (touch (data-end b) (records e b))
+      where
+        w : Place e b u
+        w = g .spot
+
+        lb : Laid e (e .header) (w .before)
+        lb = laid-front e (e .header) (w .before) (w .behind) (laid-at (w .before) (w .behind) (w .all))
+
+        stay : besides u (gaps (w .before)) ≡ gaps (w .before)
+        stay = keep-all (elsewhere u) (gaps (w .before)) (laid-elsewhere e (e .header) u is-gap (w .before) lb (omega (arith, w .place)))
+
+        -- where no other gap is behind
+        done : besides u (gaps (w .behind)) ≡ [] → best-of 4 (besides u (gaps (records e b))) ≡ ps
+        done z =
+            ap (λ (l : List Rec). best-of 4 (besides u l)) (ap gaps (w .all) ∙ keep-append is-gap (w .before) (w .behind))
+            ∙ ap (best-of 4) (keep-append (elsewhere u) (gaps (w .before)) (gaps (w .behind)) ∙ ap₂ (λ (l m : List Rec). l ++ m) stay z ∙ append-nil (gaps (w .before)))
+            ∙ g .best
+
+        same : (zs : List Rec) (y : Place e b u) → y .behind ≡ zs → besides u (gaps zs) ≡ [] → besides u (gaps (w .behind)) ≡ []
+        same zs y i z = at (m .0) (m .1) (m .2)
+          where
+            m : Between u u w y
+            m = places u u w y (le-refl u)
+
+            at : (ms : List Rec) → w .behind ≡ ms ++ y .behind → u + length (join ms) ≡ u → besides u (gaps (w .behind)) ≡ []
+            at [] q n = ap (λ (l : List Rec). besides u (gaps l)) (q ∙ i) ∙ z
+            at (x ∷ ms) q n =
+                let l : Laid e (e .header + length (join (w .before))) (x ∷ (ms ++ y .behind)) =
+                subst (λ (rs : List Rec). Laid e (e .header + length (join (w .before))) rs) q (laid-back e (e .header) (w .before) (w .behind) (laid-at (w .before) (w .behind) (w .all))) in
+                absurd (omega (arith, l .1 .least, length-append (x .raw) (join ms)))
+
+        go : Touch (data-end b) (records e b) → best-of 4 (besides u (gaps (records e b))) ≡ ps
+        go (real xs x q xp xq) =
+            let i : x .off ≡ u = sym (ap (λ (r : Rec). r .off) xq) ∙ s .touch-off in
+            done (same (x ∷ []) (place-of-t u xs x q i) refl (rw xp (rw (eq-eqb (x .off) u i))))
+        go (unreal xq) = done (same [] (end-place e b t u (sym (s .touch-off) ∙ ap (λ (r : Rec). r .off) xq)) refl refl)

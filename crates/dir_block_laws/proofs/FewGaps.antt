@@ -201,7 +201,7 @@ either-same : {A : Type 0} (t : Bool) (x y : A) → x ≡ y → cond t x y ≡ y
 either-same true x y q = q
 either-same false x y q = refl
 
-not-filled : (p : Pair) → filled p ≡ false → p .long ≡ 0
+pub not-filled : (p : Pair) → filled p ≡ false → p .long ≡ 0
 not-filled p h = omega (arith, ltb-false 0 (p .long) h)
 
 before-filled : (o : ℕ) (ps ts : List Pair) → ins-before o ps ts ≡ ins-before o (keep filled ps) ts

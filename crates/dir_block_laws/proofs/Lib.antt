@@ -5,14 +5,14 @@ pub mod RecordPass
 pub mod SlotSearch
 pub mod GapsBeside
 pub mod LastGap
-pub mod LongestGap
 pub mod StoresTiled
 pub mod FewGaps
 pub mod JoinedGaps
 pub mod TablesJoined
 pub mod BothEnds
 pub mod PairPlaced
-pub mod TwoPairs
+pub mod StoredOthers
+pub mod OtherGaps
 pub mod UsedGap
 pub mod EditAnswers
 pub mod FoundLegal

@@ -3,7 +3,7 @@
 use Prim.Native.Nat.{ℕ, _-_}
 use mathlib.Core.Bool.{cond}
 use mathlib.Core.List.{List, [], _∷_}
-use lib.Dec.{leb, ltb}
+use lib.Dec.{eqb, leb, ltb}
 use Rattle.dir_block_rules.specs.Verdict.{Pair, pair}
 use Rattle.dir_block_laws.specs.BestSoFar.{ins}
 
@@ -16,6 +16,11 @@ ins-before o (p ∷ ps) ts = ins-before o ps (cond (ltb (p .from) o) (ins p ts) 
 unfoldable pub ins-behind : ℕ → List Pair → List Pair → List Pair
 ins-behind u [] ts = ts
 ins-behind u (p ∷ ps) ts = ins-behind u ps (cond (leb u (p .from)) (ins p ts) ts)
+
+-- into the table ts those of the pairs that start elsewhere than at u
+unfoldable pub ins-besides : ℕ → List Pair → List Pair → List Pair
+ins-besides u [] ts = ts
+ins-besides u (p ∷ ps) ts = ins-besides u ps (cond (eqb (p .from) u) ts (ins p ts))
 
 -- no gaps
 abbrev pub empty-table : List Pair

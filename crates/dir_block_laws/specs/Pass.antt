@@ -3,10 +3,10 @@
 use Prim.Native.Nat.{ℕ, _+_, _%_, _≤_, _<_}
 use mathlib.Core.Path.{_≡_}
 use mathlib.Core.Bool.{false}
-use mathlib.Core.List.{List, _++_, _∷_}
+use mathlib.Core.List.{List, [], _++_, _∷_}
 use lib.ListN.{length}
 use Rattle.edition.specs.declared.Edition.{Edition}
-use Rattle.dir_block_rules.specs.Record.{Rec, size, gaps, is-gap, join}
+use Rattle.dir_block_rules.specs.Record.{Rec, size, gaps, besides, is-gap, join}
 use Rattle.dir_block_rules.specs.Block.{records, data-end}
 use Rattle.dir_block_rules.specs.Verdict.{Pair}
 use Rattle.dir.specs.declared.Step.{Step}
@@ -23,15 +23,20 @@ pub record Place (e : Edition) (b : List ℕ) (p : ℕ) : Type 0 where
   pub all : records e b ≡ before ++ behind
   pub place : e .header + length (join before) ≡ p
 
--- at place o: the table of the gaps before it is ps
+-- at place o: the four longest gaps before it are ps
 pub record Gaps-before (e : Edition) (b : List ℕ) (o : ℕ) (ps : List Pair) : Type 0 where
   pub spot : Place e b o
-  pub best : best-of 3 (gaps (spot .before)) ≡ ps
+  pub best : best-of 4 (gaps (spot .before)) ≡ ps
 
--- at place u: the table of the gaps behind it is qs
-pub record Gaps-behind (e : Edition) (b : List ℕ) (u : ℕ) (qs : List Pair) : Type 0 where
-  pub spot : Place e b u
-  pub best : best-of 3 (gaps (spot .behind)) ≡ qs
+-- at place u: the four longest gaps from there up to place v are qs
+pub record Gaps-up-to (e : Edition) (b : List ℕ) (v u : ℕ) (qs : List Pair) : Type 0 where
+  pub before : List Rec
+  pub between : List Rec
+  pub beyond : List Rec
+  pub all : records e b ≡ before ++ (between ++ beyond)
+  pub place : e .header + length (join before) ≡ u
+  pub upto : u + length (join between) ≡ v
+  pub best : best-of 4 (gaps between) ≡ qs
 
 -- p lies behind o, and no place between the two
 pub record Next-place (e : Edition) (b : List ℕ) (o p : ℕ) : Type 0 where
@@ -46,6 +51,11 @@ pub record Scanned (e : Edition) (b : List ℕ) (ps : List Pair) (u k : ℕ) : T
   pub touch-end : u + k ≡ data-end b
   pub touch-from : e .header ≤ u
   pub touch-mod : k % 8 ≡ 0
+
+-- what an insert asks of the gaps: T, k bytes at u, and the longest others, as many as there are pairs
+pub record Surveyed (e : Edition) (b : List ℕ) (ps : List Pair) (u k : ℕ) : Type 0 where
+  pub others : best-of (length ps) (besides u (gaps (records e b))) ≡ ps
+  pub last : Scanned e b [] u k
 
 -- an entry stands at offset o
 pub record Entry-at (e : Edition) (b : List ℕ) (o : ℕ) : Type 0 where

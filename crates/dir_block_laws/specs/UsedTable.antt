@@ -1,13 +1,12 @@
--- The best-gap table that an insert leaves, from the two pairs a and c that named all gaps before it, in offset order. A missing one is
--- an empty pair, and so stands first. n bytes are needed, s slots are stale, and the slots start at `end`.
+-- The best-gap table that an insert leaves, from T and the four longest other gaps before it.
 -- Assumes nothing.
 use Prim.Native.Nat.{ℕ, _+_, _-_, _*_}
-use mathlib.Core.Bool.{cond, _||_}
+use mathlib.Core.Bool.{cond, _&&_}
 use mathlib.Core.List.{List, [], _∷_}
-use lib.Dec.{eqb, leb}
+use lib.Dec.{leb}
+use lib.ListN.{take}
 use Rattle.dir_block_rules.specs.Verdict.{Pair, pair}
-use Rattle.dir_block_laws.specs.BestSoFar.{ins-all}
-use Rattle.dir_block_laws.specs.JoinedTable.{empty-table}
+use Rattle.dir_block_laws.specs.BestSoFar.{ins, ins-at}
 
 -- the gap p without its first n bytes
 abbrev pub less : ℕ → Pair → Pair
@@ -17,33 +16,24 @@ less n p = pair (p .from + n) (p .long - n)
 abbrev pub shorter : Pair → Pair
 shorter p = pair (p .from) (p .long - 8)
 
--- (a): the longer one is used, the first if they are as long
-unfoldable pub left-a : ℕ → Pair → Pair → List Pair
-left-a n a c = cond (leb (c .long) (a .long)) (less n a ∷ c ∷ []) (a ∷ less n c ∷ [])
+-- with the k bytes behind it
+abbrev pub longer : ℕ → Pair → Pair
+longer k p = pair (p .from) (p .long + k)
 
--- (b): k bytes of slots are used, behind c if it touches them
-unfoldable pub left-b : ℕ → ℕ → ℕ → Pair → Pair → List Pair
-left-b n k end a c =
-    cond (eqb (c .from + c .long) end) (a ∷ less n (pair (c .from) (c .long + k)) ∷ []) (a ∷ c ∷ less n (pair end k) ∷ [])
+-- the entry goes into the longest other gap, p; ps are the next ones, and t is what T is then
+abbrev pub into-other : ℕ → Pair → Pair → List Pair → List Pair
+into-other n t p ps = ins t (ins-at (less n p) ps)
 
--- (c): a is used, and c is T
-abbrev pub left-c : ℕ → Pair → Pair → List Pair
-left-c n a c = less n a ∷ shorter c ∷ []
+-- the entry goes into T, which is t then; ps are the longest other gaps
+abbrev pub into-last : ℕ → Pair → List Pair → List Pair
+into-last n t ps = ins (less n t) (take 3 ps)
 
--- (d): c is T, and is used
-abbrev pub left-d : ℕ → Pair → Pair → List Pair
-left-d n a c = a ∷ less n (shorter c) ∷ []
-
--- the gaps that are left, in offset order, where there is room: without stale slots T is then at least 8 long, and c is T. A pair of no
--- bytes changes no table
-unfoldable pub left-pairs : ℕ → ℕ → ℕ → List Pair → List Pair
-left-pairs n s end [] = []
-left-pairs n s end (a ∷ []) = []
-left-pairs n s end (a ∷ c ∷ ps) =
+-- by the room rule, where there is room for n bytes, s slots are stale and T is t: (a), where the longest gap is T only if it is longer than
+-- the others; (b); (c); (d)
+unfoldable pub used-table : ℕ → ℕ → Pair → List Pair → List Pair
+used-table n s t [] = []
+used-table n s t (p ∷ ps) =
     cond (leb 1 s)
-    (cond (leb n (a .long) || leb n (c .long)) (left-a n a c) (left-b n (8 * (s - 1)) end a c))
-    (cond (leb n (a .long)) (left-c n a c) (left-d n a c))
-
--- the table of what is left
-unfoldable pub used-table : ℕ → ℕ → ℕ → List Pair → List Pair
-used-table n s end ps = ins-all (left-pairs n s end ps) empty-table
+    (cond (leb (t .long) (p .long) && leb n (p .long)) (into-other n t p ps)
+    (cond (leb n (t .long)) (into-last n t (p ∷ ps)) (into-last n (longer (8 * (s - 1)) t) (p ∷ ps))))
+    (cond (leb n (p .long)) (into-other n (shorter t) p ps) (into-last n (shorter t) (p ∷ ps)))

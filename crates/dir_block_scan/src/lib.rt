@@ -1,25 +1,25 @@
-// One pass over the records of a block: its three longest gaps, and the gap at the slots. What is known of them without a pass. And the
-// best-gap table anew.
+// The gaps of a block: T, the longest others, and the best-gap table anew, by what the block stores where that names all gaps, else by one pass
+// over its records.
 ghost use mathlib.Core.Path.{_≡_};
 ghost use Prim.Native.Nat.{_+_, _-_, _≤_, _<_};
 ghost use mathlib.Core.Bool.{cond};
-ghost use mathlib.Core.List.{List, [], _∷_};
-ghost use lib.ListN.{length, drop};
+ghost use mathlib.Core.List.{[], _∷_};
+ghost use lib.ListN.{length};
 ghost use Rattle.be.specs.Bytes.{put};
 ghost use Rattle.edition.specs.Edition.{entry-size, Sane};
-ghost use Rattle.dir_block_rules.specs.Record.{gaps, says, size, besides};
+ghost use Rattle.dir_block_rules.specs.Record.{gaps, besides};
 ghost use Rattle.dir_block_rules.specs.Block.{records, data-end};
-ghost use Rattle.dir_block_rules.specs.Verdict.{Pair, pair, best-pairs};
-ghost use Rattle.dir_block_rules.specs.Change.{longest, best-of, with-best, pair-bytes};
+ghost use Rattle.dir_block_rules.specs.Verdict.{pair, best-pairs};
+ghost use Rattle.dir_block_rules.specs.Change.{best-of, with-best, pair-bytes};
 ghost use Rattle.dir_block_laws.specs.Tiled.{Tiled, Ready};
-ghost use Rattle.dir_block_laws.specs.BestSoFar.{ins, ins-all};
-ghost use Rattle.dir_block_laws.specs.JoinedTable.{empty-table, joined-table, in-order};
-ghost use Rattle.dir_block_laws.specs.UsedTable.{left-a, left-b, left-c, left-d, used-table};
-ghost use Rattle.dir_block_laws.specs.Pass.{Place, Gaps-before, Gaps-behind, Next-place, Scanned};
-ghost use Rattle.dir_block_scan.specs.Table.{table, top, first, Pairs-small};
+ghost use Rattle.dir_block_laws.specs.BestSoFar.{ins, ins-all, ins-at, ahead};
+ghost use Rattle.dir_block_laws.specs.JoinedTable.{empty-table, joined-table, in-order, ins-besides};
+ghost use Rattle.dir_block_laws.specs.UsedTable.{less, used-table};
+ghost use Rattle.dir_block_laws.specs.Pass.{Place, Gaps-before, Gaps-up-to, Next-place, Scanned, Surveyed};
+ghost use Rattle.dir_block_scan.specs.Table.{table, three, top, first};
 use edition::Edition;
 
-// Where a walk stands; three gaps as offset and length: after a pass the longest, else what the function says; and where that is asked for
+// Where a walk stands; four gaps as offset and length: after a pass the longest, else what the function says; and where that is asked for
 // the gap at the slots (none: the data's end, and 0).
 pub struct Scan {
     pub at: usize,
@@ -29,42 +29,91 @@ pub struct Scan {
     pub l2: usize,
     pub o3: usize,
     pub l3: usize,
+    pub o4: usize,
+    pub l4: usize,
     pub tat: usize,
     pub tlen: usize,
 }
 
-// A gap of l bytes at o goes into the table, behind those that are as long.
-fn with_pair(s: Scan, o: usize, l: usize) -> Scan
-    ensures { λ r. ⌜ table r ≡ ins (pair o l) (table s) ⌝ }
+// A gap of l bytes at o stands first, and the others move down by one.
+fn before_all(s: Scan, o: usize, l: usize) -> Scan
+    ensures { λ r. ⌜ (table r ≡ pair o l ∷ three s) × (three r ≡ pair o l ∷ top s) ⌝ }
 {
     let mut r = s;
+    r.o1 = o;
+    r.l1 = l;
+    r.o2 = s.o1;
+    r.l2 = s.l1;
+    r.o3 = s.o2;
+    r.l3 = s.l2;
+    r.o4 = s.o3;
+    r.l4 = s.l3;
+    r
+}
+
+// A gap of l bytes at o goes into the table, behind those that are as long.
+fn with_pair(s: Scan, o: usize, l: usize) -> Scan
+    ensures { λ r. ⌜ (table r ≡ ins (pair o l) (table s)) × (three r ≡ ins (pair o l) (three s)) ⌝ }
+{
     if s.l1 < l {
-        r.o1 = o;
-        r.l1 = l;
-        r.o2 = s.o1;
-        r.l2 = s.l1;
+        return before_all(s, o, l);
+    }
+    let mut r = s;
+    if s.l2 < l {
+        r.o2 = o;
+        r.l2 = l;
         r.o3 = s.o2;
         r.l3 = s.l2;
+        r.o4 = s.o3;
+        r.l4 = s.l3;
         return r;
     }
-    if s.l2 < l {
+    if s.l3 < l {
+        r.o3 = o;
+        r.l3 = l;
+        r.o4 = s.o3;
+        r.l4 = s.l3;
+        return r;
+    }
+    if s.l4 < l {
+        r.o4 = o;
+        r.l4 = l;
+    }
+    r
+}
+
+// Whether a gap of l bytes at o comes before one of k bytes at u: it is longer, or as long with a lower offset.
+fn ahead(o: usize, l: usize, u: usize, k: usize) -> bool
+    ensures { λ r. ⌜ r ≡ ahead (pair o l) (pair u k) ⌝ }
+{
+    (k < l) | ((k == l) & (o < u))
+}
+
+// A gap of l bytes at o goes into the first three pairs where it belongs, also among those that are as long.
+fn with_pair_at(s: Scan, o: usize, l: usize) -> Scan
+    ensures { λ r. ⌜ three r ≡ ins-at (pair o l) (three s) ⌝ }
+{
+    if ahead(o, l, s.o1, s.l1) {
+        return before_all(s, o, l);
+    }
+    let mut r = s;
+    if ahead(o, l, s.o2, s.l2) {
         r.o2 = o;
         r.l2 = l;
         r.o3 = s.o2;
         r.l3 = s.l2;
         return r;
     }
-    if s.l3 < l {
+    if ahead(o, l, s.o3, s.l3) {
         r.o3 = o;
         r.l3 = l;
-        return r;
     }
     r
 }
 
 // No gap, before a walk from o on.
 fn start(o: usize) -> Scan
-    ensures { λ r. ⌜ (table r ≡ empty-table) × (r .at ≡ o) ⌝ }
+    ensures { λ r. ⌜ (table r ≡ best-of 4 []) × (three r ≡ empty-table) × (r .at ≡ o) ⌝ }
 {
     Scan {
         at: o,
@@ -74,6 +123,8 @@ fn start(o: usize) -> Scan
         l2: 0,
         o3: 0,
         l3: 0,
+        o4: 0,
+        l4: 0,
         tat: 0,
         tlen: 0,
     }
@@ -85,7 +136,8 @@ fn merged(f: Scan, g: Scan) -> Scan
 {
     let r1 = with_pair(f, g.o1, g.l1);
     let r2 = with_pair(r1, g.o2, g.l2);
-    with_pair(r2, g.o3, g.l3)
+    let r3 = with_pair(r2, g.o3, g.l3);
+    with_pair(r3, g.o4, g.l4)
 }
 
 // The walk from the front, over one record.
@@ -109,12 +161,12 @@ fn forward(e: Edition, b: &[u8], f: Scan) -> Scan
     r
 }
 
-// The walk from the end, back over one record by its tag, unless the walk from the front, at o, has come as far. A gap comes before those
+// The walk from place v, back over one record by its tag, unless the walk from the front, at o, has come as far. A gap comes before those
 // passed, so their pairs go in after its own.
-fn backward(e: Edition, b: &[u8], g: Scan, o: usize) -> Scan
+fn backward(e: Edition, b: &[u8], v: usize, g: Scan, o: usize) -> Scan
     requires { ⌜ Sane e × Tiled e (now b) ⌝ }
-    requires { ⌜ Gaps-behind e (now b) (g .at) (table g) × (Place e (now b) o × (o ≤ g .at)) ⌝ }
-    ensures { λ r. ⌜ Gaps-behind e (now (b .entry)) (r .at) (table r) × ((o ≤ r .at) × (r .at ≤ g .at)) ⌝ }
+    requires { ⌜ Gaps-up-to e (now b) v (g .at) (table g) × (Place e (now b) o × (o ≤ g .at)) ⌝ }
+    ensures { λ r. ⌜ Gaps-up-to e (now (b .entry)) v (r .at) (table r) × ((o ≤ r .at) × (r .at ≤ g .at)) ⌝ }
 {
     if g.at <= o {
         return g;
@@ -156,41 +208,26 @@ fn last_gap(e: Edition, b: &[u8], end: usize) -> Gap
     r
 }
 
-// The pairs of s, with the gap at the slots.
-fn with_last(e: Edition, b: &[u8], end: usize, s: Scan) -> Scan
+// Over the records before place v, from both ends at once: each record's place waits for the one before, so two walks over half of them take
+// half the time. What the block's longest gaps are needs three; where one of them is used, the fourth is the third of those left.
+fn pass(e: Edition, b: &[u8], v: usize) -> Scan
     requires { ⌜ Sane e × Tiled e (now b) ⌝ }
-    requires { ⌜ end ≡ data-end (now b) ⌝ }
-    ensures { λ r. ⌜ (table r ≡ table s)
-        × ((ps : List Pair) → best-of (length ps) (gaps (records e (now (b .entry)))) ≡ ps → Scanned e (now (b .entry)) ps (r .tat) (r .tlen)) ⌝ }
-{
-    let t = last_gap(e, b, end);
-    let mut r = s;
-    r.tat = t.at;
-    r.tlen = t.len;
-    r
-}
-
-// Over all records, up to the data's end, from both ends at once: each record's place waits for the one before, so two walks over half of
-// them take half the time.
-pub fn pass(e: Edition, b: &[u8], end: usize) -> Scan
-    requires { ⌜ Sane e × Tiled e (now b) ⌝ }
-    requires { ⌜ end ≡ data-end (now b) ⌝ }
-    ensures { λ r. ⌜ Scanned e (now (b .entry)) (table r) (r .tat) (r .tlen) ⌝ }
+    requires { ⌜ Place e (now b) v ⌝ }
+    ensures { λ r. ⌜ Gaps-before e (now (b .entry)) v (table r) ⌝ }
 {
     let mut f = start(e.header);
-    let mut g = start(end);
+    let mut g = start(v);
     while f.at < g.at {
         f = forward(e, b, f);
-        g = backward(e, b, g, f.at);
+        g = backward(e, b, v, g, f.at);
     }
-    let s = merged(f, g);
-    with_last(e, b, end, s)
+    merged(f, g)
 }
 
 // The pairs that the block stores.
 pub fn stored(e: Edition, b: &[u8]) -> Scan
     requires { ⌜ Sane e × (e .header ≤ length (now b)) ⌝ }
-    ensures { λ r. ⌜ (table r ≡ best-pairs e (now (b .entry))) × Pairs-small r ⌝ }
+    ensures { λ r. ⌜ three r ≡ best-pairs e (now (b .entry)) ⌝ }
 {
     let o1 = be::be16(b, e.best);
     let l1 = be::be16(b, e.best + 2);
@@ -206,6 +243,8 @@ pub fn stored(e: Edition, b: &[u8]) -> Scan
         l2,
         o3,
         l3,
+        o4: 0,
+        l4: 0,
         tat: 0,
         tlen: 0,
     }
@@ -213,8 +252,7 @@ pub fn stored(e: Edition, b: &[u8]) -> Scan
 
 // The first two pairs in offset order.
 fn ordered(s: Scan) -> Scan
-    ensures { λ r. ⌜ (top r ≡ in-order (pair (s .o1) (s .l1)) (pair (s .o2) (s .l2)))
-        × ((r .o1 + r .o2 ≡ s .o1 + s .o2) × (r .l1 + r .l2 ≡ s .l1 + s .l2)) ⌝ }
+    ensures { λ r. ⌜ top r ≡ in-order (pair (s .o1) (s .l1)) (pair (s .o2) (s .l2)) ⌝ }
 {
     let mut r = s;
     if s.o2 < s.o1 {
@@ -226,136 +264,69 @@ fn ordered(s: Scan) -> Scan
     r
 }
 
-// The table of two gaps: l bytes at o, and behind it k bytes at u.
-fn two(o: usize, l: usize, u: usize, k: usize) -> Scan
-    ensures { λ r. ⌜ table r ≡ ins-all (pair o l ∷ pair u k ∷ []) empty-table ⌝ }
+// A gap of l bytes at o goes into the table, if it is to.
+fn with_some(s: Scan, put: bool, o: usize, l: usize) -> Scan
+    ensures { λ r. ⌜ (table r ≡ cond put (ins (pair o l) (table s)) (table s)) × (three r ≡ cond put (ins (pair o l) (three s)) (three s)) ⌝ }
 {
-    let t = with_pair(start(0), o, l);
-    with_pair(t, u, k)
+    if put {
+        return with_pair(s, o, l);
+    }
+    s
 }
 
-// How long the record at o is.
-fn record_len(e: Edition, b: &[u8], o: usize) -> usize
-    requires { ⌜ Sane e × (o + 8 < length (now b)) ⌝ }
-    ensures { λ r. ⌜ r ≡ says e (drop o (now (b .entry))) ⌝ }
+// The table of the first two pairs of s, but for one that starts at u.
+fn others(s: Scan, u: usize) -> Scan
+    ensures { λ r. ⌜ table r ≡ ins-besides u (in-order (pair (s .o1) (s .l1)) (pair (s .o2) (s .l2))) (best-of 4 []) ⌝ }
 {
-    if be::be16(b, o) == 65535 {
-        return be::be16(b, o + 2);
-    }
-    let c = be::be8(b, o + 8);
-    edition::entry_size(e, c)
+    let d = ordered(s);
+    let t = with_some(start(0), d.o1 != u, d.o1, d.l1);
+    with_some(t, d.o2 != u, d.o2, d.l2)
 }
 
-// Where the first gap of l bytes starts, but for one at x, if it starts before `stop`; else no place before that. l is the length of the
-// longest of these gaps.
-fn first_before(e: Edition, b: &[u8], stop: usize, x: usize, l: usize) -> usize
-    requires { ⌜ Sane e × Tiled e (now b) ⌝ }
-    requires { ⌜ (stop ≤ data-end (now b)) × (size (longest (besides x (gaps (records e (now b))))) ≡ l) ⌝ }
-    ensures { λ r. ⌜ (r < stop → r ≡ longest (besides x (gaps (records e (now (b .entry))))) .off) ⌝ }
-{
-    let mut o = e.header;
-    while o < stop {
-        let n = record_len(e, b, o);
-        if ((n == l) & (be::be16(b, o) == 65535)) & (o != x) {
-            return o;
-        }
-        o = o + n;
-    }
-    o
-}
-
-// Where it starts, wherever that is: by a walk over an eighth of the data, where it mostly ends, and then by a pass from both ends.
-fn first_of(e: Edition, b: &[u8], end: usize, x: usize, l: usize) -> usize
-    requires { ⌜ Sane e × Tiled e (now b) ⌝ }
-    requires { ⌜ end ≡ data-end (now b) ⌝ }
-    requires { ⌜ size (longest (besides x (gaps (records e (now b))))) ≡ l ⌝ }
-    ensures { λ r. ⌜ r ≡ longest (besides x (gaps (records e (now (b .entry))))) .off ⌝ }
-{
-    let stop = end / 8;
-    let o = first_before(e, b, stop, x, l);
-    if o < stop {
-        return o;
-    }
-    let p = pass(e, b, end);
-    if p.o1 != x {
-        return p.o1;
-    }
-    p.o2
-}
-
-// Where the longest gap starts, the first of those that are as long, by the stored pairs s. These may be in any order among equals, so
-// the lower offset counts where two are as long, and a walk is made where all three are: a gap that is not stored may be as long.
-fn longest_start(e: Edition, b: &[u8], end: usize, s: Scan) -> usize
+// The longest gaps other than T, which is t. Without a third pair the first two name all gaps, and no pass is made.
+fn others_of(e: Edition, b: &[u8], t: Gap) -> Scan
     requires { ⌜ Sane e × Ready e (now b) ⌝ }
-    requires { ⌜ (end ≡ data-end (now b)) × (table s ≡ best-pairs e (now b)) ⌝ }
-    ensures { λ r. ⌜ r ≡ longest (gaps (records e (now (b .entry)))) .off ⌝ }
-{
-    if s.l1 == 0 {
-        return s.o1;
-    }
-    if s.l2 < s.l1 {
-        return s.o1;
-    }
-    if s.l2 <= s.l3 {
-        // No gap starts at the end: none is left out.
-        return first_of(e, b, end, end, s.l1);
-    }
-    if s.o1 < s.o2 {
-        return s.o1;
-    }
-    s.o2
-}
-
-// The longest gap of an accepted block, as the first pair; the others say nothing. And the gap at the slots.
-pub fn longest(e: Edition, b: &[u8], end: usize) -> Scan
-    requires { ⌜ Sane e × Ready e (now b) ⌝ }
-    requires { ⌜ end ≡ data-end (now b) ⌝ }
-    ensures { λ r. ⌜ Scanned e (now (b .entry)) (first r) (r .tat) (r .tlen) ⌝ }
+    requires { ⌜ Scanned e (now b) [] (t .at) (t .len) ⌝ }
+    ensures { λ r. ⌜ best-of 4 (besides (t .at) (gaps (records e (now (b .entry))))) ≡ table r ⌝ }
 {
     let s = stored(e, b);
+    if s.l3 == 0 {
+        return others(s, t.at);
+    }
+    pass(e, b, t.at)
+}
+
+// T, and the longest gaps other than it.
+pub fn survey(e: Edition, b: &[u8], end: usize) -> Scan
+    requires { ⌜ Sane e × Ready e (now b) ⌝ }
+    requires { ⌜ end ≡ data-end (now b) ⌝ }
+    ensures { λ r. ⌜ Surveyed e (now (b .entry)) (table r) (r .tat) (r .tlen) ⌝ }
+{
     let t = last_gap(e, b, end);
-    let mut r = s;
-    r.o1 = longest_start(e, b, end, s);
+    let mut r = others_of(e, b, t);
     r.tat = t.at;
     r.tlen = t.len;
     r
 }
 
-// The longest gap besides the longest, which starts at x. By the stored pairs, where the first of them names that one: the second, or where
-// the third is as long the first gap of that length. Else another gap is as long as the longest, and a pass is made: not where that is T, which
-// has none of its length before it.
-pub fn next_longest(e: Edition, b: &[u8], end: usize, x: usize) -> Gap
+// The longest gap, as the first pair: T only if it is longer than the others, which lie before it.
+pub fn longest(e: Edition, b: &[u8], g: Scan) -> Scan
     requires { ⌜ Sane e × Ready e (now b) ⌝ }
-    requires { ⌜ (end ≡ data-end (now b)) × (longest (gaps (records e (now b))) .off ≡ x) ⌝ }
-    ensures { λ r. ⌜ (longest (besides x (gaps (records e (now (b .entry))))) .off ≡ r .at)
-        × (size (longest (besides x (gaps (records e (now (b .entry)))))) ≡ r .len) ⌝ }
+    requires { ⌜ Surveyed e (now b) (table g) (g .tat) (g .tlen) ⌝ }
+    ensures { λ r. ⌜ Scanned e (now (b .entry)) (first r) (r .tat) (r .tlen) × ((r .tat ≡ g .tat) × (r .tlen ≡ g .tlen)) ⌝ }
 {
-    let s = stored(e, b);
-    if s.o1 != x {
-        let p = pass(e, b, end);
-        return Gap {
-            at: p.o2,
-            len: p.l2,
-        };
+    let mut r = g;
+    if g.l1 < g.tlen {
+        r.o1 = g.tat;
+        r.l1 = g.tlen;
     }
-    let mut r = Gap {
-        at: s.o2,
-        len: s.l2,
-    };
-    if s.l2 == 0 {
-        return r;
-    }
-    if s.l3 < s.l2 {
-        return r;
-    }
-    r.at = first_of(e, b, end, x, s.l2);
     r
 }
 
-// Writes the table at o.
+// Writes the first three pairs at o.
 fn put_table(b: &mut [u8], o: usize, s: Scan)
     requires { ⌜ o + 12 ≤ length (now b) ⌝ }
-    ensures { λ _. ⌜ now (b .exit) ≡ put (now (b .entry)) o (pair-bytes (table s)) ⌝ }
+    ensures { λ _. ⌜ now (b .exit) ≡ put (now (b .entry)) o (pair-bytes (three s)) ⌝ }
 {
     be::put16(b, o, s.o1);
     be::put16(b, o + 2, s.l1);
@@ -376,20 +347,10 @@ pub fn best_table(e: Edition, b: &mut [u8])
     put_table(b, e.best, s);
 }
 
-// A gap of l bytes at o goes into the table, if it is to.
-fn with_some(s: Scan, put: bool, o: usize, l: usize) -> Scan
-    ensures { λ r. ⌜ table r ≡ cond put (ins (pair o l) (table s)) (table s) ⌝ }
-{
-    if put {
-        return with_pair(s, o, l);
-    }
-    s
-}
-
 // The table of the first two pairs of s, with one gap from o up to u in place of those that start there.
 fn joined(s: Scan, o: usize, u: usize) -> Scan
     requires { ⌜ o ≤ u ⌝ }
-    ensures { λ r. ⌜ table r ≡ joined-table o u (in-order (pair (s .o1) (s .l1)) (pair (s .o2) (s .l2))) ⌝ }
+    ensures { λ r. ⌜ three r ≡ joined-table o u (in-order (pair (s .o1) (s .l1)) (pair (s .o2) (s .l2))) ⌝ }
 {
     let d = ordered(s);
     let t1 = with_some(start(0), d.o1 < o, d.o1, d.l1);
@@ -425,80 +386,53 @@ fn minus(x: usize, y: usize) -> usize
     x - y
 }
 
-// What an insert that needs n bytes leaves of the first two pairs of d, where they name all gaps, in offset order. (a): the longer one is
-// used, the first if they are as long.
-fn left_a(d: Scan, n: usize) -> Scan
-    requires { ⌜ (d .o1 + d .o2 < 131072) × (n < 280) ⌝ }
-    ensures { λ r. ⌜ table r ≡ ins-all (left-a n (pair (d .o1) (d .l1)) (pair (d .o2) (d .l2))) empty-table ⌝ }
+// The three longest of the other gaps, where n bytes off the start of the longest are used.
+fn used_other(g: Scan, n: usize) -> Scan
+    requires { ⌜ (n ≤ g .l1) × (g .o1 + g .l1 ≤ 65536) ⌝ }
+    ensures { λ r. ⌜ three r ≡ ins-at (less n (pair (g .o1) (g .l1))) (pair (g .o2) (g .l2) ∷ pair (g .o3) (g .l3) ∷ pair (g .o4) (g .l4) ∷ []) ⌝ }
 {
-    if d.l2 <= d.l1 {
-        return two(d.o1 + n, minus(d.l1, n), d.o2, d.l2);
-    }
-    two(d.o1, d.l1, d.o2 + n, minus(d.l2, n))
+    let mut s = g;
+    s.o1 = g.o2;
+    s.l1 = g.l2;
+    s.o2 = g.o3;
+    s.l2 = g.l3;
+    s.o3 = g.o4;
+    s.l3 = g.l4;
+    with_pair_at(s, g.o1 + n, g.l1 - n)
 }
 
-// (b): k bytes of slots, which start at end, are used, behind the second pair if it touches them.
-fn left_b(d: Scan, n: usize, k: usize, end: usize) -> Scan
-    requires { ⌜ (d .o1 + d .o2 < 131072) × ((d .l1 + d .l2 < 131072) × (n < 280)) ⌝ }
-    requires { ⌜ (k < 65536) × (end ≤ 65536) ⌝ }
-    ensures { λ r. ⌜ table r ≡ ins-all (left-b n k end (pair (d .o1) (d .l1)) (pair (d .o2) (d .l2))) empty-table ⌝ }
+// The longest gaps that an insert leaves, which needs n bytes, by the room rule's cases, where there is room.
+fn used(g: Scan, n: usize, stale: usize) -> Scan
+    requires { ⌜ (0 < n) × ((n < 280) × (stale < 8192)) ⌝ }
+    requires { ⌜ (0 < g .l1 → g .o1 + g .l1 ≤ 65536) × (g .tat + g .tlen ≤ 65536) ⌝ }
+    ensures { λ r. ⌜ three r ≡ used-table n stale (pair (g .tat) (g .tlen)) (table g) ⌝ }
 {
-    if d.o2 + d.l2 == end {
-        return two(d.o1, d.l1, d.o2 + n, minus(d.l2 + k, n));
-    }
-    let t = two(d.o1, d.l1, d.o2, d.l2);
-    with_pair(t, end + n, minus(k, n))
-}
-
-// (c): the first pair is used, and the second, which is T, gives 8 bytes off its end to the index.
-fn left_c(d: Scan, n: usize) -> Scan
-    requires { ⌜ (d .o1 + d .o2 < 131072) × (n < 280) ⌝ }
-    ensures { λ r. ⌜ table r ≡ ins-all (left-c n (pair (d .o1) (d .l1)) (pair (d .o2) (d .l2))) empty-table ⌝ }
-{
-    two(d.o1 + n, minus(d.l1, n), d.o2, minus(d.l2, 8))
-}
-
-// (d): the second pair, which is T, is used, without the 8 bytes off its end.
-fn left_d(d: Scan, n: usize) -> Scan
-    requires { ⌜ (d .o1 + d .o2 < 131072) × (n < 280) ⌝ }
-    ensures { λ r. ⌜ table r ≡ ins-all (left-d n (pair (d .o1) (d .l1)) (pair (d .o2) (d .l2))) empty-table ⌝ }
-{
-    let l = minus(d.l2, 8);
-    two(d.o1, d.l1, d.o2 + n, minus(l, n))
-}
-
-// By the room rule, where there is room: without stale slots T is then at least 8 long, and is the second pair.
-fn used(s: Scan, n: usize, stale: usize, end: usize) -> Scan
-    requires { ⌜ Pairs-small s × ((n < 280) × ((stale < 8192) × (end ≤ 65536))) ⌝ }
-    ensures { λ r. ⌜ table r ≡ used-table n stale end (in-order (pair (s .o1) (s .l1)) (pair (s .o2) (s .l2))) ⌝ }
-{
-    let d = ordered(s);
-    if 0 < stale {
-        if (n <= d.l1) | (n <= d.l2) {
-            return left_a(d, n);
+    if stale == 0 {
+        // A slot takes 8 bytes off T's end.
+        let k = minus(g.tlen, 8);
+        if n <= g.l1 {
+            return with_pair(used_other(g, n), g.tat, k);
         }
-        return left_b(d, n, 8 * (stale - 1), end);
+        return with_pair(g, g.tat + n, minus(k, n));
     }
-    if n <= d.l1 {
-        return left_c(d, n);
+    if (g.tlen <= g.l1) & (n <= g.l1) {
+        return with_pair(used_other(g, n), g.tat, g.tlen);
     }
-    left_d(d, n)
+    if n <= g.tlen {
+        return with_pair(g, g.tat + n, g.tlen - n);
+    }
+    // T grows over the stale slots but one.
+    with_pair(g, g.tat + n, minus(g.tlen + 8 * (stale - 1), n))
 }
 
-// The best-gap table anew, after an entry with a name of n bytes went in. Before that the stored pairs were s, the slots started at end,
-// and so many of them were stale. Without a third pair the first two named all gaps, and no pass is made.
-pub fn used_table(e: Edition, b: &mut [u8], s: Scan, end: usize, stale: usize, n: usize)
+// The best-gap table anew, after an entry with a name of n bytes went in: before that so many slots were stale, and g was the survey.
+pub fn used_table(e: Edition, b: &mut [u8], g: Scan, stale: usize, n: usize)
     requires { ⌜ Sane e × Tiled e (now b) ⌝ }
-    requires { ⌜ Pairs-small s × ((n < 256) × ((stale < 8192) × (end ≤ 65536))) ⌝ }
-    requires { ⌜ (s .l3 ≡ 0 → best-of 3 (gaps (records e (now b)))
-        ≡ used-table (entry-size e n) stale end (in-order (pair (s .o1) (s .l1)) (pair (s .o2) (s .l2)))) ⌝ }
+    requires { ⌜ (n < 256) × (stale < 8192) ⌝ }
+    requires { ⌜ (0 < g .l1 → g .o1 + g .l1 ≤ 65536) × (g .tat + g .tlen ≤ 65536) ⌝ }
+    requires { ⌜ best-of 3 (gaps (records e (now b))) ≡ used-table (entry-size e n) stale (pair (g .tat) (g .tlen)) (table g) ⌝ }
     ensures { λ _. ⌜ now (b .exit) ≡ with-best e (now (b .entry)) ⌝ }
 {
-    if s.l3 == 0 {
-        let need = edition::entry_size(e, n);
-        let t = used(s, need, stale, end);
-        put_table(b, e.best, t);
-        return;
-    }
-    best_table(e, b);
+    let need = edition::entry_size(e, n);
+    put_table(b, e.best, used(g, need, stale));
 }

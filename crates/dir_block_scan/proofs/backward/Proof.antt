@@ -5,7 +5,7 @@ use borrow.Author.Needs.{needs}
 use mathlib.Core.Path.{sym, _∙_}
 use denote.Ref.{now}
 use Rattle.dir_block_laws.proofs.RecordSteps.{end-fits, place-within}
-use Rattle.dir_block_laws.proofs.BothEnds.{back-fits, back-gap, back-entry}
+use Rattle.dir_block_laws.proofs.BothEnds.{spot-of, back-fits, back-gap, back-entry}
 use Rattle.dir_block_scan.specs.Table.{table}
 use Rattle.dir_block_scan.proofs.backward.Statement.{statement}
 use Rattle.dir_block_scan.proofs.backward.Tie as tie
@@ -14,7 +14,7 @@ be16-requires : tie.Need-be16-requires
 be16-requires c κs =
     let p = c .before .before .before .before in
     let b = now (p .args .b) in
-    omega (arith, place-within _ b (p .pre .0 .1) (p .args .g .at) (p .pre .1 .0 .spot), end-fits _ b (p .pre .0 .1))
+    omega (arith, place-within _ b (p .pre .0 .1) (p .args .g .at) (spot-of _ b (p .pre .0 .1) (p .args .v) (p .args .g .at) (table (p .args .g)) (p .pre .1 .0)), end-fits _ b (p .pre .0 .1))
 
 be16-requires-2 : tie.Need-be16-requires-2
 be16-requires-2 c κs =
@@ -22,28 +22,28 @@ be16-requires-2 c κs =
     let b = now (p .args .b) in
     omega (
       arith,
-      place-within _ b (p .pre .0 .1) (p .args .g .at) (p .pre .1 .0 .spot),
+      place-within _ b (p .pre .0 .1) (p .args .g .at) (spot-of _ b (p .pre .0 .1) (p .args .v) (p .args .g .at) (table (p .args .g)) (p .pre .1 .0)),
       end-fits _ b (p .pre .0 .1),
-      back-fits _ b (p .pre .0 .1) (p .args .o) (p .args .g .at) (c .be16 .result) (table (p .args .g)) (p .pre .1 .0) (p .pre .1 .1 .0) (c .before .before .if1 .left) (sym (c .be16 .ensures .0)),
+      back-fits _ b (p .pre .0 .1) (p .args .o) (p .args .v) (p .args .g .at) (c .be16 .result) (table (p .args .g)) (p .pre .1 .0) (p .pre .1 .1 .0) (c .before .before .if1 .left) (sym (c .be16 .ensures .0)),
     )
 
 sub-with-pair : tie.Need-sub-with-pair
 sub-with-pair c =
     let p = c .before .before .before .before .before .before .before .before .before in
-    omega (arith, back-fits _ (now (p .args .b)) (p .pre .0 .1) (p .args .o) (p .args .g .at) (c .before .before .before .before .be16 .result) (table (p .args .g)) (p .pre .1 .0) (p .pre .1 .1 .0) (c .before .before .before .before .before .before .if1 .left) (sym (c .before .before .before .before .be16 .ensures .0)))
+    omega (arith, back-fits _ (now (p .args .b)) (p .pre .0 .1) (p .args .o) (p .args .v) (p .args .g .at) (c .before .before .before .before .be16 .result) (table (p .args .g)) (p .pre .1 .0) (p .pre .1 .1 .0) (c .before .before .before .before .before .before .if1 .left) (sym (c .before .before .before .before .be16 .ensures .0)))
 
 returns-2 : tie.Need-returns-2
 returns-2 c =
     let p = c .before .before .before .before .before .before .before .before .before .before .before in
-    let f = back-fits _ (now (p .args .b)) (p .pre .0 .1) (p .args .o) (p .args .g .at) (c .before .before .before .before .before .before .be16 .result) (table (p .args .g)) (p .pre .1 .0) (p .pre .1 .1 .0) (c .before .before .before .before .before .before .before .before .if1 .left) (sym (c .before .before .before .before .before .before .be16 .ensures .0)) in
-    let s = back-gap _ (now (p .args .b)) (p .pre .0 .1) (p .args .o) (p .args .g .at) (c .before .before .before .before .before .before .be16 .result) (table (p .args .g)) (p .pre .1 .0) (p .pre .1 .1 .0) (c .before .before .before .before .before .before .before .before .if1 .left) (sym (c .before .before .before .before .before .before .be16 .ensures .0)) (sym (c .before .before .before .before .before .be162 .ensures .0) ∙ c .before .before .before .before .if2 .taken) in
-    (rw (c .merged .ensures, c .before .with-pair .ensures, c .before .before .before .start .ensures .0) s, (f .0, omega (arith, f .1)))
+    let f = back-fits _ (now (p .args .b)) (p .pre .0 .1) (p .args .o) (p .args .v) (p .args .g .at) (c .before .before .before .before .before .before .be16 .result) (table (p .args .g)) (p .pre .1 .0) (p .pre .1 .1 .0) (c .before .before .before .before .before .before .before .before .if1 .left) (sym (c .before .before .before .before .before .before .be16 .ensures .0)) in
+    let s = back-gap _ (now (p .args .b)) (p .pre .0 .1) (p .args .o) (p .args .v) (p .args .g .at) (c .before .before .before .before .before .before .be16 .result) (table (p .args .g)) (p .pre .1 .0) (p .pre .1 .1 .0) (c .before .before .before .before .before .before .before .before .if1 .left) (sym (c .before .before .before .before .before .before .be16 .ensures .0)) (sym (c .before .before .before .before .before .be162 .ensures .0) ∙ c .before .before .before .before .if2 .taken) in
+    (rw (c .merged .ensures, c .before .with-pair .ensures .0, c .before .before .before .start .ensures .0) s, (f .0, omega (arith, f .1)))
 
 returns-3 : tie.Need-returns-3
 returns-3 c =
     let p = c .before .before .before .before .before .before .before in
-    let f = back-fits _ (now (p .args .b)) (p .pre .0 .1) (p .args .o) (p .args .g .at) (c .before .before .be16 .result) (table (p .args .g)) (p .pre .1 .0) (p .pre .1 .1 .0) (c .before .before .before .before .if1 .left) (sym (c .before .before .be16 .ensures .0)) in (
-      back-entry _ (now (p .args .b)) (p .pre .0 .1) (p .args .o) (p .args .g .at) (c .before .before .be16 .result) (table (p .args .g)) (p .pre .1 .0) (p .pre .1 .1 .0) (c .before .before .before .before .if1 .left) (sym (c .before .before .be16 .ensures .0)) (λ z. c .if2 .left (c .before .be162 .ensures .0 ∙ z)),
+    let f = back-fits _ (now (p .args .b)) (p .pre .0 .1) (p .args .o) (p .args .v) (p .args .g .at) (c .before .before .be16 .result) (table (p .args .g)) (p .pre .1 .0) (p .pre .1 .1 .0) (c .before .before .before .before .if1 .left) (sym (c .before .before .be16 .ensures .0)) in (
+      back-entry _ (now (p .args .b)) (p .pre .0 .1) (p .args .o) (p .args .v) (p .args .g .at) (c .before .before .be16 .result) (table (p .args .g)) (p .pre .1 .0) (p .pre .1 .1 .0) (c .before .before .before .before .if1 .left) (sym (c .before .before .be16 .ensures .0)) (λ z. c .if2 .left (c .before .be162 .ensures .0 ∙ z)),
       (f .0, omega (arith, f .1)),
     )
 

@@ -41,7 +41,7 @@ returns : tie.Need-returns
 returns c =
     let p = c .before .before .before .before .before in
     let s = front-gap _ (now (p .args .b)) (p .pre .0 .1) (p .args .f .at) (c .before .be162 .result) (table (p .args .f)) (p .pre .1 .0) (p .pre .1 .1) (sym (c .before .before .before .be16 .ensures .0) ∙ c .before .before .if1 .taken) (sym (c .before .be162 .ensures .0)) in
-    (rw (c .with-pair .ensures) (s .0), s .1)
+    (rw (c .with-pair .ensures .0) (s .0), s .1)
 
 add-be8 : tie.Need-add-be8
 add-be8 c =

@@ -10,8 +10,8 @@ returns c =
     let c₅ = c₄ .before in
     let c₇ = c₅ .before .before in
     let c₉ = c₇ .before .before in
-    table-joined _ _ _ _ _ _ _ _ _ _ _ (c₉ .before .ordered .ensures .0) (c₉ .start .ensures .0) (c₇ .with-some .ensures) (c₅ .with-some2 .ensures)
-    (c₄ .with-pair .ensures) (c₂ .with-some3 .ensures) (c .with-some4 .ensures)
+    table-joined _ _ _ _ _ _ _ _ _ _ _ (c₉ .before .ordered .ensures) (c₉ .start .ensures .1) (c₇ .with-some .ensures .1) (c₅ .with-some2 .ensures .1)
+    (c₄ .with-pair .ensures .1) (c₂ .with-some3 .ensures .1) (c .with-some4 .ensures .1)
 
 pub joined-spec : {M : Type 1} → statement M
 joined-spec =

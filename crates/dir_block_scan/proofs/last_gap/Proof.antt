@@ -4,7 +4,7 @@ use mathlib.Core.List.{[]}
 use denote.Ref.{now}
 use Rattle.dir_block_laws.proofs.RecordSteps.{head-end, end-fits}
 use Rattle.dir_block_laws.proofs.LastGap.{last-at, last-fits, last-none, last-gap, last-entry}
-use Rattle.dir_block_laws.proofs.LongestGap.{none-best}
+use Rattle.dir_block_laws.proofs.OtherGaps.{none-best}
 use Rattle.dir_block_scan.proofs.last_gap.Statement.{statement}
 use Rattle.dir_block_scan.proofs.last_gap.Tie as tie
 

@@ -11,11 +11,9 @@ returns c =
     let c₃ = c₄ .before .before in
     let c₂ = c₃ .before .before in
     let c₁ = c₂ .before .before in
-    let p = c₁ .before .before in (
-      pairs-read _ (now (p .args .b)) _ _ _ _ _ _ (c₁ .be16 .ensures .0) (c₂ .be162 .ensures .0) (c₃ .be163 .ensures .0)
-          (c₄ .be164 .ensures .0) (c₅ .be165 .ensures .0) (c .be166 .ensures .0),
-      (c₁ .be16 .ensures .1, c₂ .be162 .ensures .1, c₃ .be163 .ensures .1, c₄ .be164 .ensures .1),
-    )
+    let p = c₁ .before .before in
+    pairs-read _ (now (p .args .b)) _ _ _ _ _ _ (c₁ .be16 .ensures .0) (c₂ .be162 .ensures .0) (c₃ .be163 .ensures .0)
+    (c₄ .be164 .ensures .0) (c₅ .be165 .ensures .0) (c .be166 .ensures .0)
 
 pub stored-spec : {M : Type 1} → statement M
 stored-spec =
