@@ -16,8 +16,8 @@ ghost use Rattle.dir_block_rules.specs.Room.{has-room, room-of, other-gaps};
 ghost use Rattle.dir_block_rules.specs.Change.{longest, gap-start-before, gap-end-after, changed, remove-writes, remove-code, remove-bytes, index-writes, insert-slot, entry-writes, insert-code, insert-bytes};
 ghost use Rattle.dir_block_laws.specs.Tiled.{Ready, Tiled};
 ghost use Rattle.dir_block_laws.specs.SlotIndex.{Spot};
-ghost use Rattle.dir_block_laws.specs.Pass.{Entry-at, Inside, Scanned};
-ghost use Rattle.dir_block_scan.specs.Table.{first};
+ghost use Rattle.dir_block_laws.specs.Pass.{Entry-at, Inside, Scanned, Surveyed};
+ghost use Rattle.dir_block_scan.specs.Table.{table, first};
 ghost use Rattle.dir_block_edit.specs.Chosen.{chosen};
 ghost use Rattle.dir_block_edit.specs.Refusal.{asked-of};
 use dir::Target;
@@ -350,33 +350,31 @@ fn choose_ab(
     false
 }
 
-// The room rule: an entry and its slot, with the hash h, are put in, if there is room.
+// The room rule: an entry and its slot, with the hash h, are put in, if there is room. g is the survey of the gaps.
 fn choose(
     e: Edition,
     b: &mut [u8],
     end: usize,
     count: usize,
     stale: usize,
+    g: dir_block_scan::Scan,
     to: Target,
     name: &[u8],
     h: usize,
 ) -> bool
     requires { ⌜ Sane e × Ready e (now b) ⌝ }
     requires { ⌜ (end ≡ data-end (now b)) × ((count ≡ count-of (now b)) × (stale ≡ stale-of (now b))) ⌝ }
+    requires { ⌜ Surveyed e (now b) (table g) (g .tat) (g .tlen) ⌝ }
     requires { ⌜ (h ≡ hash-of e (now name)) × (length (now name) < 256) ⌝ }
     ensures { λ r. ⌜ (r ≡ has-room e (now (b .entry)) (now (name .entry))) × (now (b .exit) ≡ chosen e r (now (b .entry)) (now (name .entry)) to) ⌝ }
 {
     let need = edition::entry_size(e, name.len());
     let p = dir_block_index::spot(e, &b[..], end, count, h);
-    let g = dir_block_scan::longest(e, &b[..], end);
+    let m = dir_block_scan::longest(e, &b[..], g);
     if 0 < stale {
-        return choose_ab(e, b, end, count, stale, p, g, h, need, to, name);
+        return choose_ab(e, b, end, count, stale, p, m, h, need, to, name);
     }
-    if g.o1 == g.tat {
-        let t = dir_block_scan::next_longest(e, &b[..], end, g.o1);
-        return choose_cd(e, b, end, count, p, g, t.at, t.len, h, need, to, name);
-    }
-    choose_cd(e, b, end, count, p, g, g.o1, g.l1, h, need, to, name)
+    choose_cd(e, b, end, count, p, m, g.o1, g.l1, h, need, to, name)
 }
 
 // The insert of a legal name other than "." and "..", whose hash is h, with a legal number and type: 0, or 14 if it is there, or 15 if
@@ -397,10 +395,10 @@ fn insert_ready(e: Edition, b: &mut [u8], to: Target, name: &[u8], h: usize) -> 
     if hit {
         return refusal::EXISTS;
     }
-    let t = dir_block_scan::stored(e, &b[..]);
-    let done = choose(e, b, end, c, s, to, name, h);
+    let g = dir_block_scan::survey(e, &b[..], end);
+    let done = choose(e, b, end, c, s, g, to, name, h);
     if done {
-        dir_block_scan::used_table(e, b, t, end, s, name.len());
+        dir_block_scan::used_table(e, b, g, s, name.len());
         return 0;
     }
     refusal::NOROOM

@@ -1,8 +1,8 @@
-use Prim.Native.Nat.{ℕ, _≤_, _<_}
+use Prim.Native.Nat.{ℕ, suc, _<_}
 use native.Mathlib.Omega.{arith}
-use mathlib.Core.Path.{_≡_, sym, _∙_, ap, ap₂, subst}
+use mathlib.Core.Path.{_≡_, refl, sym, _∙_, ap, ap₂, subst}
 use mathlib.Core.Bool.{Bool, true, false}
-use mathlib.Core.List.{List, [], _∷_}
+use mathlib.Core.List.{List, _∷_}
 use lib.ListN.{length}
 use denote.Ref.{now}
 use Rattle.be.specs.Bytes.{bytes, written}
@@ -11,20 +11,21 @@ use Rattle.edition.specs.Edition.{entry-size, Sane}
 use Rattle.name.specs.Name.{legal-name, fixed-name}
 use Rattle.dir.specs.declared.Target.{Target}
 use Rattle.dir.specs.Target.{legal-target}
-use Rattle.dir_block_rules.specs.Record.{gaps}
-use Rattle.dir_block_rules.specs.Block.{records, stale-of, data-end}
+use Rattle.dir_block_rules.specs.Record.{gaps, besides}
+use Rattle.dir_block_rules.specs.Block.{records, stale-of}
 use Rattle.dir_block_rules.specs.Room.{has-room}
 use Rattle.dir_block_rules.specs.Lookup.{Sought, sought}
-use Rattle.dir_block_rules.specs.Verdict.{Pair, best-pairs}
+use Rattle.dir_block_rules.specs.Verdict.{Pair, pair}
 use Rattle.dir_block_rules.specs.Change.{best-of, insert-writes}
 use Rattle.dir_block_rules.proofs.EachCall.{name-lt}
 use Rattle.dir_block_rules.proofs.LookupFinds.{hit-of}
 use Rattle.dir_block_laws.specs.Tiled.{Tiled, Ready}
-use Rattle.dir_block_laws.specs.JoinedTable.{in-order}
 use Rattle.dir_block_laws.specs.UsedTable.{used-table}
-use Rattle.dir_block_laws.proofs.RecordSteps.{count-read, stale-read, end-read, head-end, end-fits}
+use Rattle.dir_block_laws.specs.Pass.{Surveyed}
+use Rattle.dir_block_laws.proofs.RecordSteps.{count-read, stale-read, end-read}
 use Rattle.dir_block_laws.proofs.SlotSearch.{slots-room, stale-within, tiled}
-use Rattle.dir_block_laws.proofs.UsedGap.{from-pairs}
+use Rattle.dir_block_laws.proofs.UsedGap.{from-others}
+use Rattle.dir_block_laws.proofs.OtherGaps.{survey-small}
 use Rattle.dir_block_laws.proofs.InsertStores.{insert-tiled}
 use Rattle.dir_block_laws.proofs.StoresTiled.{stores-changed}
 use Rattle.dir_block_edit.specs.Chosen.{chosen}
@@ -33,26 +34,29 @@ use borrow.Author.Needs.{needs}
 use Rattle.dir_block_edit.proofs.insert_ready.Statement.{statement}
 use Rattle.dir_block_edit.proofs.insert_ready.Tie as tie
 
-index-small : (e : Edition) → Sane e → (b : List ℕ) → Ready e b → (st end : ℕ) → st ≡ stale-of b → end ≡ data-end b → (st < 8192) × (end ≤ 65536)
-index-small e sane b r st end q d =
+stale-small : (e : Edition) → Sane e → (b : List ℕ) → Ready e b → (st : ℕ) → st ≡ stale-of b → st < 8192
+stale-small e sane b r st q =
     let z = slots-room e b sane r in
-    (omega (arith, stale-within e b r), omega arith)
+    omega (arith, stale-within e b r)
 
--- what the code knows of the block c that an insert leaves, from the pairs stored in b
+-- what the code knows of the block c that an insert leaves, from the survey of b
 module _ (e : Edition) (sane : Sane e) (b n : List ℕ) (i : Target) (r : Ready e b) (nb : bytes n ≡ true) (ln : legal-name e n ≡ true)
     (li : legal-target e i ≡ true) (fx : fixed-name n ≡ false) (ht : sought e b n .hit ≡ false) (rm : has-room e b n ≡ true)
     (c : List ℕ) (w : c ≡ written b (insert-writes e b n i)) where
   left-tiled : Tiled e c
   left-tiled = subst (λ (l : List ℕ). Tiled e l) (sym w) (insert-tiled e sane b n i r nb ln li fx ht rm)
 
-  left-best : (st end : ℕ) (p q t : Pair) → st ≡ stale-of b → end ≡ data-end b → p ∷ q ∷ t ∷ [] ≡ best-pairs e b → t .long ≡ 0
-      → best-of 3 (gaps (records e c)) ≡ used-table (entry-size e (length n)) st end (in-order p q)
-  left-best st end p q t a d s z =
+  left-best : (st u k : ℕ) (p : Pair) (ps : List Pair) → st ≡ stale-of b → length ps ≡ 3 → Surveyed e b (p ∷ ps) u k
+      → best-of 3 (gaps (records e c)) ≡ used-table (entry-size e (length n)) st (pair u k) (p ∷ ps)
+  left-best st u k p ps a m v =
       ap (λ (l : List ℕ). best-of 3 (gaps (records e l))) w
-      ∙ from-pairs e sane b n i r
+      ∙ from-others e sane b n i r
       (record { name-bytes = nb; name-legal = ln; number-legal = li; not-fixed = fx; absent = sym (hit-of e sane b (r .are-bytes) (r .ok) n) ∙ ht })
-      rm p q t s z
-      ∙ sym (ap₂ (λ (x y : ℕ). used-table (entry-size e (length n)) x y (in-order p q)) a d)
+      rm p ps
+      (ap (λ (x : ℕ). best-of 4 (besides x (gaps (records e b)))) (v .last .touch-off)
+      ∙ ap (λ (j : ℕ). best-of (suc j) (besides u (gaps (records e b)))) (sym m) ∙ v .others)
+      ∙ ap₂ (λ (x y : ℕ). used-table (entry-size e (length n)) (stale-of b) (pair x y) (p ∷ ps)) (v .last .touch-off) (v .last .touch-size)
+      ∙ ap (λ (x : ℕ). used-table (entry-size e (length n)) x (pair u k) (p ∷ ps)) (sym a)
 
 sub-be32 : tie.Need-sub-be32
 sub-be32 c =
@@ -96,11 +100,11 @@ returns c =
     let p = c .before .before .before .before .before .before .before .before .before in
     insert-there _ (p .pre .0 .0) (now (p .args .b)) (now (p .args .name)) (p .args .to) (p .pre .0 .1) (p .pre .1 .0 .0) (p .pre .1 .0 .1 .0) (p .pre .1 .0 .1 .1 .0) (ap (λ (s : Sought). s .hit) (c .before .seek .ensures) ∙ c .if1 .taken)
 
-stored-requires : tie.Need-stored-requires
-stored-requires c κs =
-    let p = c .before .before .before .before .before .before .before .before .before .before in
-    let t = tiled _ (now (p .args .b)) (p .pre .0 .1) in
-    (p .pre .0 .0, omega (arith, head-end _ (now (p .args .b)) t, end-fits _ (now (p .args .b)) t))
+survey-requires : tie.Need-survey-requires
+survey-requires c κs =
+    let c₆ = c .before .before .before .before .before .before in
+    let p = c₆ .before .before .before .before in
+    (p .pre .0, end-read (now (p .args .b)) (c₆ .be32 .result) (count-read (now (p .args .b)) (c₆ .be32 .result) (c₆ .be32 .ensures .0)))
 
 choose-requires : tie.Need-choose-requires
 choose-requires c κs =
@@ -111,7 +115,7 @@ choose-requires c κs =
       p .pre .0,
       (
         (end-read (now (p .args .b)) (c₈ .be32 .result) n, (n, stale-read (now (p .args .b)) (c₆ .be322 .result) (c₆ .be322 .ensures .0))),
-        (p .pre .1 .1, name-lt _ (now (p .args .name)) (p .pre .1 .0 .0)),
+        (c .before .survey .ensures, (p .pre .1 .1, name-lt _ (now (p .args .name)) (p .pre .1 .0 .0))),
       ),
     )
 
@@ -120,22 +124,22 @@ used-table-requires c κs =
     let c₄ = c .before .before .before .before in
     let c₆ = c₄ .before .before in
     let c₈ = c₆ .before .before in
-    let c₉ = c₈ .before in
-    let c₁₁ = c₉ .before .before in
-    let c₁₃ = c₁₁ .before .before in
-    let p = c₁₃ .before .before .before .before in
+    let c₁₁ = c₈ .before .before .before in
+    let p = c₁₁ .before .before .before .before .before .before in
     let b = now (p .args .b) in
     let n = now (p .args .name) in
-    let h = ap (λ (s : Sought). s .hit) (c₉ .seek .ensures) ∙ c₈ .if1 .left in
+    let h = ap (λ (s : Sought). s .hit) (c₈ .before .seek .ensures) ∙ c₈ .if1 .left in
     let rm = sym (c₄ .choose .ensures .0) ∙ c .before .if2 .taken in
     let w = c₄ .choose .ensures .1 ∙ ap (λ (t : Bool). chosen (p .args .e) t b n (p .args .to)) (c .before .if2 .taken) in
     let st = stale-read b (c₁₁ .be322 .result) (c₁₁ .be322 .ensures .0) in
-    let d = end-read b (c₁₃ .be32 .result) (count-read b (c₁₃ .be32 .result) (c₁₃ .be32 .ensures .0)) in (
-      (p .pre .0 .0, left-tiled _ (p .pre .0 .0) b n (p .args .to) (p .pre .0 .1) (p .pre .1 .0 .1 .1 .1) (p .pre .1 .0 .0) (p .pre .1 .0 .1 .0) (p .pre .1 .0 .1 .1 .0) h rm _ w),
+    let q = p .pre .1 .0 in (
+      (p .pre .0 .0, left-tiled _ (p .pre .0 .0) b n (p .args .to) (p .pre .0 .1) (q .1 .1 .1) (q .0) (q .1 .0) (q .1 .1 .0) h rm _ w),
       (
-        (c₆ .stored .ensures .1, (name-lt _ n (p .pre .1 .0 .0), index-small _ (p .pre .0 .0) b (p .pre .0 .1) _ _ st d)),
-        left-best _ (p .pre .0 .0) b n (p .args .to) (p .pre .0 .1) (p .pre .1 .0 .1 .1 .1) (p .pre .1 .0 .0) (p .pre .1 .0 .1 .0) (p .pre .1 .0 .1 .1 .0) h rm _ w
-            _ _ _ _ _ st d (c₆ .stored .ensures .0),
+        (name-lt _ n (q .0), stale-small _ (p .pre .0 .0) b (p .pre .0 .1) _ st),
+        (
+          survey-small _ b (tiled _ b (p .pre .0 .1)) _ _ _ _ _ (c₆ .survey .ensures),
+          left-best _ (p .pre .0 .0) b n (p .args .to) (p .pre .0 .1) (q .1 .1 .1) (q .0) (q .1 .0) (q .1 .1 .0) h rm _ w _ _ _ _ _ st refl (c₆ .survey .ensures),
+        ),
       ),
     )
 
@@ -175,7 +179,7 @@ insert-ready-spec =
     seek-requires
     (λ c. search needs)
     returns
-    stored-requires
+    survey-requires
     choose-requires
     used-table-requires
     (λ c. search needs)

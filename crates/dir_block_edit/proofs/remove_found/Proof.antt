@@ -56,7 +56,7 @@ joined-table-requires c κs =
       (
         f .1 .0,
         left-best _ (p .pre .0 .0) b n (p .pre .0 .1) (p .pre .1 .1 .0 .0) (p .pre .1 .1 .1) _ (f .0) (p .args .at) _ _ _ _ _
-            (p .pre .1 .1 .0 .1 .1) (c₅ .stored .ensures .0) (f .1 .1 .0) (f .1 .1 .1),
+            (p .pre .1 .1 .0 .1 .1) (c₅ .stored .ensures) (f .1 .1 .0) (f .1 .1 .1),
       ),
     )
 
