@@ -1,5 +1,6 @@
 pub mod SlotList
 pub mod TwinWalk
+pub mod SeenKeys
 pub mod TwinKeys
 pub mod NameOrder
 pub mod SortedSlots

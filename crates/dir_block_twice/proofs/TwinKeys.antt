@@ -4,12 +4,11 @@ use Prim.Native.Nat.{ℕ, zero, suc, _+_, _-_, _*_, _/_, _≤_, _<_}
 use native.Mathlib.Omega.{arith}
 use native.Mathlib.Numerals.{add-one}
 use mathlib.Core.Bool.{Bool, true, false, not, _&&_, _||_, false≢true}
-use mathlib.Core.Path.{_≡_, refl, sym, _∙_, ap, ap₂, subst}
+use mathlib.Core.Path.{_≡_, refl, sym, _∙_, ap, subst}
 use mathlib.Core.List.{List}
-use lib.Bits.{bitAnd, and-le-r}
+use lib.Bits.{bitAnd, bitOr}
 use lib.Dec.{eqb, ltb}
-use lib.ListN.{length, getD, set, length-set}
-use lib.Seq.{getD-set-same, getD-set-other}
+use lib.ListN.{length, getD, set}
 use borrow.Author.Tests.{eqb-true, eqb-false, eq-eqb, lt-ltb, le-ltb}
 use Rattle.be.proofs.Bools.{by-cases, and-both, and-false, neither, clash}
 use Rattle.edition.specs.declared.Edition.{Edition}
@@ -17,18 +16,10 @@ use Rattle.name.specs.Name.{same-name}
 use Rattle.name.proofs.Same.{same-eq}
 use Rattle.name_words.specs.Words.{key-of}
 use Rattle.dir_block_rules.specs.Lookup.{name-at}
-use Rattle.dir_block_twice.specs.Twice.{second-key, clash-from, runs-on, follows, Each-marked, Marked, Noted, twin-at, once-in, slots-from, hash-at, addr-at}
+use Rattle.dir_block_twice.specs.Twice.{key-bits, Has-key, clash-from, runs-on, follows, Marked, Noted, twin-at, once-in, slots-from, hash-at, addr-at}
+use Rattle.dir_block_twice.proofs.SeenKeys.{noted-long, key-kept, key-noted}
 use Rattle.dir_block_twice.proofs.SlotList.{slots-next, slots-end}
 use Rattle.dir_block_twice.proofs.TwinWalk.{apart, twin-stale}
-
-pub cell-lt : (x k : ℕ) → 0 < k → bitAnd x (k - 1) < k
-cell-lt x k h = omega (arith, and-le-r x (k - 1))
-
-pub noted-long : (S R : List ℕ) (x v : ℕ) → R ≡ set S x v → length R ≡ length S
-noted-long S R x v h = ap length h ∙ length-set S x v
-
-pub noted-lt : (S R : List ℕ) (x v y : ℕ) → R ≡ set S x v → 0 < length S → bitAnd y (length S - 1) < length R
-noted-lt S R x v y h l = rw (noted-long S R x v h) (cell-lt y (length S) l)
 
 -- the slot before slot i
 module _ (b : List ℕ) (t i : ℕ) where
@@ -46,45 +37,53 @@ either-first x f g h z = sym (rw (sym h ∙ z))
 pub either-second : (x y f g : Bool) → x ≡ f → x ≡ false → y ≡ g → y ≡ (f || g)
 either-second x y f g h z k = k ∙ sym (rw (sym h ∙ z))
 
--- one number of a name
-module _ (b : List ℕ) (t n : ℕ) (f : List ℕ → ℕ) where
-  -- the cell of slot j's name, in a table of so many
-  abbrev cell-at : ℕ → ℕ → ℕ
-  cell-at k j = bitAnd (f (name-at b (8 * addr-at b t j))) (k - 1)
+module _ (b : List ℕ) (t n : ℕ) where
+  -- the key of slot j's name
+  abbrev key-at : ℕ → ℕ
+  key-at j = key-of (name-at b (8 * addr-at b t j))
 
-  -- a 1 more
-  each-kept : (i : ℕ) (S R : List ℕ) (x : ℕ) → x < length S → R ≡ set S x 1 → Each-marked b t n f i S → Each-marked b t n f i R
-  each-kept i S R x lx rs k j l u g a =
-      ap₂ (λ (T : List ℕ) (m : ℕ). getD T (cell-at m j) 0) rs (noted-long S R x 1 rs)
-      ∙ by-cases (eqb (cell-at (length S) j) x)
-      (λ q. ap (λ (y : ℕ). getD (set S x 1) y 0) (eqb-true (cell-at (length S) j) x q) ∙ getD-set-same S x 1 0 lx)
-      (λ q. getD-set-other S x (cell-at (length S) j) 1 0 (eqb-false (cell-at (length S) j) x q) ∙ k j l u g a)
+  marked-start : (S : List ℕ) → 0 < length S → Marked b t n n S
+  marked-start S h = record { some = h; each = λ j l u g a. absurd (omega arith) }
 
-  module _ (i : ℕ) (S : List ℕ) (k : Each-marked b t n f (i + 1) S) where
+  module _ (i : ℕ) (S : List ℕ) (k : Marked b t n (i + 1) S) where
     lt-of : (j : ℕ) → i ≤ j → (i ≡ j → ⊥) → i + 1 ≤ j
     lt-of j u v = omega arith
 
-    each-stale : addr-at b t i ≡ 0 → Each-marked b t n f i S
-    each-stale z j l u g a = k j (lt-of j l (λ (q : i ≡ j). a (ap (addr-at b t) (sym q) ∙ z))) u g a
+    marked-stale : addr-at b t i ≡ 0 → Marked b t n i S
+    marked-stale z = record {
+      some = k .some;
+      each = λ j l u g a. k .each j (lt-of j l (λ (q : i ≡ j). a (ap (addr-at b t) (sym q) ∙ z))) u g a;
+    }
 
-    each-skip : follows b t i ≡ false → Each-marked b t n f i S
-    each-skip z j l u g a = k j (lt-of j l (λ (q : i ≡ j). clash (ap (follows b t) q ∙ g) z)) u g a
+    marked-skip : follows b t i ≡ false → Marked b t n i S
+    marked-skip z = record {
+      some = k .some;
+      each = λ j l u g a. k .each j (lt-of j l (λ (q : i ≡ j). clash (ap (follows b t) q ∙ g) z)) u g a;
+    }
 
-    each-note : (x : ℕ) (R : List ℕ) → x ≡ cell-at (length S) i → x < length S → R ≡ set S x 1 → Each-marked b t n f i R
-    each-note x R xs lx rs j l u g a =
-        by-cases (eqb i j)
-        (λ q. let here : cell-at (length S) j ≡ x = sym (xs ∙ ap (cell-at (length S)) (eqb-true i j q)) in
-        ap₂ (λ (T : List ℕ) (m : ℕ). getD T (cell-at m j) 0) rs (noted-long S R x 1 rs)
-        ∙ ap (λ (y : ℕ). getD (set S x 1) y 0) here ∙ getD-set-same S x 1 0 lx)
-        (λ q. each-kept (i + 1) S R x lx rs k j (lt-of j l (eqb-false i j q)) u g a)
+    pub noted-apart : (r : Bool) → r ≡ (follows b t i || runs-on (hash-at b t i) (slots-from b t n (i + 1))) → r ≡ false → Noted b t n i S false
+    noted-apart r h z =
+        let y = neither (follows b t i) (runs-on (hash-at b t i) (slots-from b t n (i + 1))) (sym h ∙ z) in
+        record {
+          marks = marked-skip (y .0);
+          live = λ q. absurd (false≢true q);
+          alone = λ q e. rw (apart e b (hash-at b t i) (addr-at b t i) (slots-from b t n (i + 1)) (y .1)) (and-false (not (eqb (addr-at b t i) 0)));
+        }
 
-    -- a name whose cell has no 1 is not among the later ones
-    module _ (e : Edition) (h : ℕ) (hs : h ≡ hash-at b t i) (c : ℕ) (new : getD S (bitAnd (f (name-at b (8 * c))) (length S - 1)) 0 ≡ 0) where
+    pub noted-stale : (a : ℕ) → a ≡ addr-at b t i → a ≡ 0 → Noted b t n i S false
+    noted-stale a ea z = record {
+      marks = marked-stale (sym ea ∙ z);
+      live = λ q. absurd (false≢true q);
+      alone = λ q e. twin-stale e b t n i (sym ea ∙ z);
+    }
+
+    -- a name whose key the table doesn't have is not among the later ones
+    module _ (e : Edition) (h : ℕ) (hs : h ≡ hash-at b t i) (c : ℕ) (new : Has-key S (key-of (name-at b (8 * c))) → ⊥) where
       unlike : (j : ℕ) → i < j → j < n → follows b t j ≡ true → (addr-at b t j ≡ 0 → ⊥) → same-name e (name-at b (8 * c)) (name-at b (8 * addr-at b t j)) ≡ false
       unfolding same-name
       unlike j l u g a =
           by-cases (same-name e (name-at b (8 * c)) (name-at b (8 * addr-at b t j)))
-          (λ q. absurd (let z : 0 ≡ 1 = sym new ∙ ap (λ (m : List ℕ). getD S (bitAnd (f m) (length S - 1)) 0) (same-eq _ _ q) ∙ k j (omega arith) u g a in omega arith))
+          (λ q. absurd (new (subst (λ (m : List ℕ). Has-key S (key-of m)) (sym (same-eq _ _ q)) (k .each j (omega arith) u g a))))
           (λ q. q)
 
       none-from : (d j : ℕ) → j + d ≡ n → i < j → hash-at b t (j - 1) ≡ h → clash-from e b h c (slots-from b t n j) ≡ false
@@ -104,81 +103,28 @@ module _ (b : List ℕ) (t n : ℕ) (f : List ℕ → ℕ) where
       none : i < n → clash-from e b h c (slots-from b t n (i + 1)) ≡ false
       none l = let m : i + 1 - 1 ≡ i = omega arith in none-from (n - (i + 1)) (i + 1) (omega arith) (omega arith) (ap (hash-at b t) m ∙ sym hs)
 
-    each-new : (e : Edition) (x : ℕ) (s : Bool) → i < n → x ≡ cell-at (length S) i → s ≡ not (eqb (getD S x 0) 0) → s ≡ false
-        → twin-at e b t n i ≡ false
-    each-new e x s l xs ss z =
-        let g : getD S x 0 ≡ 0 = by-cases (eqb (getD S x 0) 0) (λ q. eqb-true (getD S x 0) 0 q) (λ q. absurd (clash (ss ∙ rw q) z)) in
-        let new : getD S (cell-at (length S) i) 0 ≡ 0 = ap (λ (y : ℕ). getD S y 0) (sym xs) ∙ g in
-        rw (none e (hash-at b t i) refl (addr-at b t i) new l) (and-false (not (eqb (addr-at b t i) 0)))
-
--- both
-module _ (b : List ℕ) (t n : ℕ) where
-  marked-start : (S : List ℕ) → 0 < length S → Marked b t n n S
-  marked-start S h = record { some = h; first = λ j l u f a. absurd (omega arith); second = λ j l u f a. absurd (omega arith) }
-
-  module _ (i : ℕ) (S : List ℕ) (k : Marked b t n (i + 1) S) where
-    marked-stale : addr-at b t i ≡ 0 → Marked b t n i S
-    marked-stale z = record { some = k .some; first = each-stale b t n key-of i S (k .first) z; second = each-stale b t n second-key i S (k .second) z }
-
-    marked-skip : follows b t i ≡ false → Marked b t n i S
-    marked-skip z = record { some = k .some; first = each-skip b t n key-of i S (k .first) z; second = each-skip b t n second-key i S (k .second) z }
-
-    pub noted-apart : (r : Bool) → r ≡ (follows b t i || runs-on (hash-at b t i) (slots-from b t n (i + 1))) → r ≡ false → Noted b t n i S false
-    noted-apart r h z =
-        let y = neither (follows b t i) (runs-on (hash-at b t i) (slots-from b t n (i + 1))) (sym h ∙ z) in
-        record {
-          marks = marked-skip (y .0);
-          live = λ q. absurd (false≢true q);
-          alone = λ q e. rw (apart e b (hash-at b t i) (addr-at b t i) (slots-from b t n (i + 1)) (y .1)) (and-false (not (eqb (addr-at b t i) 0)));
-        }
-
-    pub noted-stale : (a : ℕ) → a ≡ addr-at b t i → a ≡ 0 → Noted b t n i S false
-    noted-stale a ea z = record {
-      marks = marked-stale (sym ea ∙ z);
-      live = λ q. absurd (false≢true q);
-      alone = λ q e. twin-stale e b t n i (sym ea ∙ z);
-    }
-
-    -- two cells noted one after the other, for slot i at address a
-    module _ (a v x y : ℕ) (R Q : List ℕ) (ea : a ≡ addr-at b t i) (ev : v ≡ key-of (name-at b (8 * a)))
-        (ex : x ≡ bitAnd v (length S - 1)) (ey : y ≡ bitAnd (v / 65536) (length S - 1)) (rs : R ≡ set S x 1) (qs : Q ≡ set R y 1) where
-      long : length R ≡ length S
-      long = noted-long S R x 1 rs
-
-      key-is : v ≡ key-of (name-at b (8 * addr-at b t i))
+    -- the key v of slot i's name noted, for its address a
+    module _ (a v m x : ℕ) (R : List ℕ) (r : Bool) (ea : a ≡ addr-at b t i) (ev : v ≡ key-of (name-at b (8 * a))) (em : m ≡ key-bits v)
+        (ex : x ≡ bitAnd (v / 4096) (length S - 1)) (er : r ≡ eqb (bitAnd (getD S x 0) m) m) (rs : R ≡ set S x (bitOr (getD S x 0) m)) where
+      key-is : v ≡ key-at i
       key-is = ev ∙ ap (λ (w : ℕ). key-of (name-at b (8 * w))) ea
 
-      one : x ≡ bitAnd (key-of (name-at b (8 * addr-at b t i))) (length S - 1)
-      one = ex ∙ ap (λ (w : ℕ). bitAnd w (length S - 1)) key-is
-
-      two : y ≡ bitAnd (second-key (name-at b (8 * addr-at b t i))) (length R - 1)
-      two = ey ∙ ap₂ (λ (w m : ℕ). bitAnd (w / 65536) (m - 1)) key-is (sym long)
-
-      low : x < length S
-      low = rw ex (cell-lt v (length S) (k .some))
-
-      low-2 : y < length R
-      low-2 = rw (ey, long) (cell-lt (v / 65536) (length S) (k .some))
-
-      second-kept : Each-marked b t n second-key (i + 1) R
-      second-kept = each-kept b t n second-key (i + 1) S R x low rs (k .second)
-
-      marked-note : Marked b t n i Q
+      marked-note : Marked b t n i R
       marked-note = record {
-        some = omega (arith, k .some, long, noted-long R Q y 1 qs);
-        first = each-kept b t n key-of i R Q y low-2 qs (each-note b t n key-of i S (k .first) x R one low rs);
-        second = each-note b t n second-key i R second-kept y Q two low-2 qs;
+        some = omega (arith, k .some, noted-long S R v x m (k .some) ex em rs);
+        each = λ j l u g f.
+            by-cases (eqb i j)
+            (λ q. subst (Has-key R) (key-is ∙ ap key-at (eqb-true i j q)) (key-noted S R v x m (k .some) ex em rs))
+            (λ q. key-kept S R v x m (k .some) ex em rs (key-at j) (k .each j (lt-of j l (eqb-false i j q)) u g f));
       }
 
-      twin-new : (e : Edition) (s r : Bool) → i < n → s ≡ not (eqb (getD S x 0) 0) → r ≡ not (eqb (getD R y 0) 0) → (s && r) ≡ false
-          → twin-at e b t n i ≡ false
-      twin-new e s r l ss es z =
-          by-cases s
-          (λ q. each-new b t n second-key i R second-kept e y r l two es (subst (λ (w : Bool). (w && r) ≡ false) q z))
-          (λ q. each-new b t n key-of i S (k .first) e x s l one ss q)
+      twin-new : (e : Edition) → i < n → r ≡ false → twin-at e b t n i ≡ false
+      twin-new e l z =
+          let new : Has-key S (key-at i) → ⊥ = λ h. clash (er ∙ eq-eqb (bitAnd (getD S x 0) m) m (rw (ex, em, key-is) h)) z in
+          rw (none e (hash-at b t i) refl (addr-at b t i) new l) (and-false (not (eqb (addr-at b t i) 0)))
 
-      pub noted-new : (a ≡ 0 → ⊥) → (s r : Bool) → i < n → s ≡ not (eqb (getD S x 0) 0) → r ≡ not (eqb (getD R y 0) 0) → Noted b t n i Q (s && r)
-      noted-new u s r l ss es = record { marks = marked-note; live = λ q z. u (ea ∙ z); alone = λ q e. twin-new e s r l ss es q }
+      pub noted-new : (a ≡ 0 → ⊥) → i < n → Noted b t n i R r
+      noted-new u l = record { marks = marked-note; live = λ q z. u (ea ∙ z); alone = λ q e. twin-new e l q }
 
 -- the slots from i on
 pub record Downing (e : Edition) (b : List ℕ) (t n i : ℕ) (S : List ℕ) : Type 0 where

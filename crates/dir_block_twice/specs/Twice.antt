@@ -1,10 +1,10 @@
 -- TWICE over the slots: names compared within runs of one hash, and names in order.
 -- Assumes nothing.
-use Prim.Native.Nat.{ℕ, _+_, _-_, _*_, _/_, _≤_, _<_}
+use Prim.Native.Nat.{ℕ, _+_, _-_, _*_, _/_, _%_, _^_, _≤_, _<_}
 use mathlib.Core.Bool.{Bool, true, false, not, _&&_, _||_}
 use mathlib.Core.Path.{_≡_}
 use mathlib.Core.List.{List, [], _∷_}
-use lib.Bits.{bitAnd}
+use lib.Bits.{bitAnd, bitOr}
 use lib.Dec.{eqb, ltb}
 use lib.ListN.{length, drop, getD}
 use Rattle.be.specs.Bytes.{byte, field}
@@ -42,20 +42,18 @@ runs-on h (s ∷ ss) = eqb (s .hash) h
 unfoldable pub follows : List ℕ → ℕ → ℕ → Bool
 follows b t i = ltb 0 i && eqb (hash-at b t (i - 1)) (hash-at b t i)
 
--- a second number for a name
-abbrev pub second-key : List ℕ → ℕ
-second-key n = key-of n / 65536
+-- two bits of a word, for a key
+unfoldable pub key-bits : ℕ → ℕ
+key-bits k = bitOr (2 ^ (k % 64)) (2 ^ (k / 64 % 64))
 
--- the name of each live slot from i on that follows one of its hash has a 1 in its cell, by the number f
-abbrev pub Each-marked : List ℕ → ℕ → ℕ → (List ℕ → ℕ) → ℕ → List ℕ → Type 0
-Each-marked b t n f i S =
-    (j : ℕ) → i ≤ j → j < n → follows b t j ≡ true → (addr-at b t j ≡ 0 → ⊥) → getD S (bitAnd (f (name-at b (8 * addr-at b t j))) (length S - 1)) 0 ≡ 1
+-- both are set in the key's cell
+abbrev pub Has-key : List ℕ → ℕ → Type 0
+Has-key S k = bitAnd (getD S (bitAnd (k / 4096) (length S - 1)) 0) (key-bits k) ≡ key-bits k
 
--- and by both numbers
+-- the table has the key of each live slot's name, from slot i on, that follows one of its hash
 pub record Marked (b : List ℕ) (t n i : ℕ) (S : List ℕ) : Type 0 where
   pub some : 0 < length S
-  pub first : Each-marked b t n key-of i S
-  pub second : Each-marked b t n second-key i S
+  pub each : (j : ℕ) → i ≤ j → j < n → follows b t j ≡ true → (addr-at b t j ≡ 0 → ⊥) → Has-key S (key-of (name-at b (8 * addr-at b t j)))
 
 -- slot i is live, and a later one of its hash has its name
 abbrev pub twin-at : Edition → List ℕ → ℕ → ℕ → ℕ → Bool

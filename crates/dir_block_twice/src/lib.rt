@@ -1,15 +1,16 @@
 // TWICE, test 10 of a block directory: no name is stored twice. Names are compared only within runs of one hash, and there only where a
 // second hash agrees too; where that still happens often, the names are sorted, and their order is tested.
 ghost use mathlib.Core.Path.{_≡_};
-ghost use mathlib.Core.Bool.{true, false, not, _||_};
+ghost use mathlib.Core.Bool.{true, false, _||_};
 ghost use Prim.Native.Nat.{_+_, _*_, _≤_, _<_};
+ghost use lib.Bits.{bitAnd, bitOr};
 ghost use lib.Dec.{eqb};
 ghost use lib.ListN.{length, getD, set};
 ghost use Rattle.be.specs.Bytes.{byte};
 ghost use Rattle.name.specs.Name.{same-name};
 ghost use Rattle.name_words.specs.Words.{key-of};
 ghost use Rattle.dir_block_rules.specs.Lookup.{name-at};
-ghost use Rattle.dir_block_twice.specs.Twice.{slots-from, hash-at, addr-at, clash-from, runs-on, follows, Marked, Noted, once-in, Reach, lex, Undecided, live-at, sorts-before, Ascends, Placed, Ranked, most-slots};
+ghost use Rattle.dir_block_twice.specs.Twice.{slots-from, hash-at, addr-at, clash-from, runs-on, follows, key-bits, Marked, Noted, once-in, Reach, lex, Undecided, live-at, sorts-before, Ascends, Placed, Ranked, most-slots};
 use edition::Edition;
 
 // The hash of slot i, of those at t.
@@ -108,19 +109,27 @@ fn name_key(b: &[u8], p: usize) -> usize
     name_words::key(b, i, end)
 }
 
-// Stores a 1 in cell k; whether one stood there.
-fn note(seen: &mut [u8], k: usize) -> bool
-    requires { ⌜ k < length (now seen) ⌝ }
-    ensures { λ r. ⌜ (r ≡ not (eqb (getD (now (seen .entry)) k 0) 0)) × (now (seen .exit) ≡ set (now (seen .entry)) k 1) ⌝ }
+// The two bits of a key, in a word.
+fn bits(k: usize) -> u64
+    ensures { λ r. ⌜ r ≡ key-bits k ⌝ }
 {
-    let was = seen[k];
-    seen[k] = 1;
-    was != 0
+    (1u64 << (k % 64) as u32) | (1u64 << (k / 64 % 64) as u32)
 }
 
-// Whether slot i has to be compared with later ones: it is live and in a run, and later names have noted both of its name's cells. So many
-// names of one hash are seldom compared.
-fn suspect<'a, 'b>(b: &'a [u8], t: usize, n: usize, i: usize, seen: &'b mut [u8]) -> bool
+// Sets the bits m of cell k; whether all of them were set.
+fn note(seen: &mut [u64], k: usize, m: u64) -> bool
+    requires { ⌜ k < length (now seen) ⌝ }
+    ensures { λ r. ⌜ (r ≡ eqb (bitAnd (getD (now (seen .entry)) k 0) m) m)
+        × (now (seen .exit) ≡ set (now (seen .entry)) k (bitOr (getD (now (seen .entry)) k 0) m)) ⌝ }
+{
+    let was = seen[k];
+    seen[k] = was | m;
+    was & m == m
+}
+
+// Whether slot i has to be compared with later ones: it is live and in a run, and later names have set both of its name's bits. So many
+// names of one hash are seldom compared. The table is a Bloom filter in which a name has one word, by the key above the 12 bits of `bits`.
+fn suspect<'a, 'b>(b: &'a [u8], t: usize, n: usize, i: usize, seen: &'b mut [u64]) -> bool
     requires { ⌜ (t + 8 * n ≤ length (now b)) × (i < n) × Reach (now b) t n × Marked (now b) t n (i + 1) (now seen) ⌝ }
     ensures { λ r. ⌜ Noted (now (b .entry)) t n i (now (seen .exit)) r ⌝ }
 {
@@ -133,9 +142,7 @@ fn suspect<'a, 'b>(b: &'a [u8], t: usize, n: usize, i: usize, seen: &'b mut [u8]
     }
     let cells = seen.len();
     let k = name_key(b, 8 * a);
-    let one = note(seen, k & (cells - 1));
-    let two = note(seen, (k / 65536) & (cells - 1));
-    one & two
+    note(seen, (k / 4096) & (cells - 1), bits(k))
 }
 
 // What a way to the answer shows: whether it came to one, and then whether no name is stored twice.
@@ -159,14 +166,14 @@ fn known(once: bool) -> Finding
     Finding { known: true, once }
 }
 
-// Whether no name is stored twice, from the last slot down; what the table holds at first doesn't matter. Names that have both cells in
+// Whether no name is stored twice, from the last slot down; what the table holds at first doesn't matter. Names that have their bits in
 // common can be made on purpose: no more than `turns` slots are compared with later ones.
 fn once_with<'a, 'b>(
     e: Edition,
     b: &'a [u8],
     t: usize,
     n: usize,
-    seen: &'b mut [u8],
+    seen: &'b mut [u64],
     turns: usize,
 ) -> Finding
     requires { ⌜ (t + 8 * n ≤ length (now b)) × Reach (now b) t n × (0 < length (now seen)) ⌝ }
@@ -190,10 +197,13 @@ fn once_with<'a, 'b>(
     known(true)
 }
 
-// How much is cleared for the names seen follows where the data ends.
+// Where the data ends by here, the names are few.
 const FEW: usize = 4096;
 
-const MANY: usize = 32768;
+// The words of the table: what is cleared for the names seen follows how many there can be.
+const WORDS_FOR_FEW: usize = 128;
+
+const WORDS_FOR_MANY: usize = 1024;
 
 // With a table of the names seen.
 fn by_tables(e: Edition, b: &[u8], t: usize, n: usize, turns: usize) -> Finding
@@ -202,10 +212,10 @@ fn by_tables(e: Edition, b: &[u8], t: usize, n: usize, turns: usize) -> Finding
         × (n ≤ turns → r .known ≡ true) ⌝ }
 {
     if t <= FEW {
-        let mut seen = [0u8; FEW];
+        let mut seen = [0u64; WORDS_FOR_FEW];
         return once_with(e, b, t, n, &mut seen, turns);
     }
-    let mut seen = [0u8; MANY];
+    let mut seen = [0u64; WORDS_FOR_MANY];
     once_with(e, b, t, n, &mut seen, turns)
 }
 
@@ -498,7 +508,7 @@ fn sorted_with<'a, 'b, 'c>(
     judge(e, b, t, n, &order[..], &rank[..], m)
 }
 
-// By sorting the names, however many have both cells in common. The arrays have a cell for each slot that a block can have, and are made
+// By sorting the names, however many have their bits in common. The arrays have a cell for each slot that a block can have, and are made
 // only here.
 fn sorted(e: Edition, b: &[u8], t: usize, n: usize) -> Finding
     requires { ⌜ (t + 8 * n ≤ length (now b)) × Reach (now b) t n × (n ≤ most-slots) ⌝ }
@@ -510,7 +520,7 @@ fn sorted(e: Edition, b: &[u8], t: usize, n: usize) -> Finding
 }
 
 // How many slots are compared with later ones before the names are sorted: a number, so that all of them pass a few times the slots at most.
-// By chance some ten of 2,000 names of one hash share their cells in the largest block, and hardly one in a small one.
+// By chance some four of 2,000 names of one hash find their bits set in the largest block, and hardly one in a small one.
 fn turns(t: usize) -> usize
     ensures { λ r. ⌜ r < 25 ⌝ }
 {
