@@ -1,29 +1,20 @@
 -- The best-gap table that an accepted block stores: what its pairs say of the gaps.
 -- Assumes nothing.
-use Prim.Native.Nat.{ℕ, _≤_}
+
 use native.Mathlib.Omega.{arith}
-use mathlib.Core.Bool.{Bool, true, _&&_, false≢true}
-use mathlib.Core.Path.{_≡_, refl, sym, ap₂}
-use mathlib.Core.List.{List, [], _∷_}
+use mathlib.Core.Bool.{Bool, true, _&&_}
+use mathlib.Core.Path.{_≡_, sym, ap₂}
+use mathlib.Core.List.{List, _∷_}
 use lib.Dec.{eqb, leb, ltb}
 use borrow.Author.Tests.{eqb-true, leb-true, ltb-true}
 use Rattle.be.specs.Lists.{every, some-of}
-use Rattle.be.proofs.Bools.{and-left, and-right, or-cases, every-head, every-tail}
+use Rattle.be.proofs.Bools.{and-left, and-right, every-head}
 use Rattle.dir_block_rules.specs.Record.{Rec, size, besides}
 use Rattle.dir_block_rules.specs.Verdict.{Pair, pair, best-ok, zero-pair, is-gap-of}
 
 -- has bytes
 abbrev pub solid : Rec → Bool
 solid r = ltb 0 (size r)
-
--- a bound on all gaps is one on the gap that a pair names
-pub named-most : (p : Pair) (n : ℕ) (gs : List Rec) → some-of (is-gap-of p) gs ≡ true → every (λ r. leb (size r) n) gs ≡ true → p .long ≤ n
-named-most p n [] h m = absurd (false≢true h)
-named-most p n (g ∷ gs) h m =
-    or-cases (is-gap-of p g) (some-of (is-gap-of p) gs) h
-    (λ z. let l : size g ≡ p .long = eqb-true (size g) (p .long) (and-right (eqb (g .off) (p .from)) (eqb (size g) (p .long)) z) in
-    omega (arith, l, leb-true (size g) n (every-head (λ r. leb (size r) n) g gs m)))
-    (λ z. named-most p n gs z (every-tail (λ r. leb (size r) n) g gs m))
 
 -- what BEST says of the first pair
 module _ (p : Pair) (ps : List Pair) (g : Rec) (gs : List Rec) (h : best-ok (p ∷ ps) (g ∷ gs) ≡ true) where
@@ -44,11 +35,6 @@ module _ (p : Pair) (ps : List Pair) (g : Rec) (gs : List Rec) (h : best-ok (p �
   pub ok-rest : best-ok ps (besides (p .from) (g ∷ gs)) ≡ true
   unfolding best-ok
   ok-rest = and-right (named && most) (best-ok ps (besides (p .from) (g ∷ gs))) h
-
--- no gap is longer than the first pair
-pub ok-bound : (p : Pair) (ps : List Pair) (gs : List Rec) → best-ok (p ∷ ps) gs ≡ true → every (λ r. leb (size r) (p .long)) gs ≡ true
-ok-bound p ps [] h = refl
-ok-bound p ps (g ∷ gs) h = ok-most p ps g gs h
 
 -- where no gap is longer than 0, there is none
 pub none-long : (p : Pair) (ps : List Pair) (g : Rec) (gs : List Rec) → every solid (g ∷ gs) ≡ true → best-ok (p ∷ ps) (g ∷ gs) ≡ true → p .long ≡ 0 → ⊥

@@ -2,12 +2,12 @@
 -- Assumes nothing.
 use Prim.Native.Nat.{ℕ, zero, suc, _+_, _-_, _*_, _/_, _%_, _≤_, _<_}
 use native.Mathlib.Omega.{arith}
-use mathlib.Core.Bool.{Bool, true, false, not, cond, _&&_, _||_}
+use mathlib.Core.Bool.{Bool, true, false, cond, _&&_, _||_}
 use mathlib.Core.Path.{_≡_, refl, sym, _∙_, ap, ap₂, subst}
 use mathlib.Core.List.{List, [], _∷_, _++_, append-assoc}
 use lib.Dec.{eqb, leb}
 use lib.ListN.{length}
-use borrow.Author.Tests.{eqb-false, eq-eqb, ne-eqb, leb-true, leb-false, le-leb, lt-leb, not-true}
+use borrow.Author.Tests.{eqb-false, eq-eqb, ne-eqb, le-leb, lt-leb, not-true}
 use Rattle.be.specs.Lists.{some-of, keep, without-first}
 use Rattle.be.specs.Bytes.{bytes, put, to-be, Write, written}
 use Rattle.edition.specs.declared.Edition.{Edition}
@@ -85,77 +85,16 @@ index-first b c d L ss st ws h p q =
 pair-from : {p q : Pair} {ps qs : List Pair} → p ∷ ps ≡ q ∷ qs → p ≡ q
 pair-from {p} {q} {ps} {qs} h = cc
 
-pair-rest : {p q : Pair} {ps qs : List Pair} → p ∷ ps ≡ q ∷ qs → ps ≡ qs
-pair-rest {p} {q} {ps} {qs} h = cc
-
 best-head : (k : ℕ) (gs : List Rec) → (qs : List Pair) × (best-of (suc k) gs ≡ pair (longest gs .off) (size (longest gs)) ∷ qs)
 unfolding best-of longest
 best-head k [] = (best-of k [], refl)
 best-head k (g ∷ gs) = (best-of k (besides (longest (g ∷ gs) .off) (g ∷ gs)), refl)
-
-best-tail : (k : ℕ) (gs : List Rec) → best-of (suc k) gs ≡ pair (longest gs .off) (size (longest gs)) ∷ best-of k (besides (longest gs .off) gs)
-unfolding best-of longest
-best-tail k [] = refl
-best-tail k (g ∷ gs) = refl
 
 pub first-best : (k : ℕ) (gs : List Rec) (o l : ℕ) (ps : List Pair) → best-of (suc k) gs ≡ pair o l ∷ ps → (longest gs .off ≡ o) × (size (longest gs) ≡ l)
 first-best k gs o l ps q =
     let w = best-head k gs in
     let z : pair (longest gs .off) (size (longest gs)) ≡ pair o l = pair-from (sym (w .1) ∙ q) in
     (ap (λ (p : Pair). p .from) z, ap (λ (p : Pair). p .long) z)
-
--- the longest of what is left
-longest-step : (x : Rec) (xs : List Rec) → longest (x ∷ xs) ≡ cond (leb (size (longest xs)) (size x)) x (longest xs)
-unfolding longest
-longest-step x xs = refl
-
-longest-top : (x : Rec) (xs : List Rec) → (size x ≤ size (longest (x ∷ xs))) × (size (longest xs) ≤ size (longest (x ∷ xs)))
-longest-top x xs =
-    by-cases (leb (size (longest xs)) (size x))
-    (λ q. let z : longest (x ∷ xs) ≡ x = longest-step x xs ∙ rw q in let y : size (longest (x ∷ xs)) ≡ size x = ap (λ (r : Rec). size r) z in (omega arith, omega (arith, leb-true (size (longest xs)) (size x) q)))
-    (λ q. let z : longest (x ∷ xs) ≡ longest xs = longest-step x xs ∙ rw q in let y : size (longest (x ∷ xs)) ≡ size (longest xs) = ap (λ (r : Rec). size r) z in (omega (arith, leb-false (size (longest xs)) (size x) q), omega arith))
-
-longest-under : (x : Rec) (xs : List Rec) (n : ℕ) → size x ≤ n → size (longest xs) ≤ n → size (longest (x ∷ xs)) ≤ n
-longest-under x xs n h k =
-    by-cases (leb (size (longest xs)) (size x))
-    (λ q. let z : longest (x ∷ xs) ≡ x = longest-step x xs ∙ rw q in let y : size (longest (x ∷ xs)) ≡ size x = ap (λ (r : Rec). size r) z in omega arith)
-    (λ q. let z : longest (x ∷ xs) ≡ longest xs = longest-step x xs ∙ rw q in let y : size (longest (x ∷ xs)) ≡ size (longest xs) = ap (λ (r : Rec). size r) z in omega arith)
-
-kept-shorter : (p : Rec → Bool) (gs : List Rec) → size (longest (keep p gs)) ≤ size (longest gs)
-kept-shorter p [] = omega arith
-kept-shorter p (x ∷ xs) =
-    let t = longest-top x xs in
-    by-cases (p x)
-    (λ q. rw q (longest-under x (keep p xs) (size (longest (x ∷ xs))) (t .0) (omega (arith, kept-shorter p xs, t .1))))
-    (λ q. rw q (omega (arith, kept-shorter p xs, t .1)))
-
-pub longest-besides : (o : ℕ) (gs : List Rec) → (longest gs .off ≡ o → ⊥) → longest (besides o gs) ≡ longest gs
-longest-besides o [] h = refl
-longest-besides o (x ∷ xs) h =
-    by-cases (leb (size (longest xs)) (size x))
-    (λ q.
-    let z : longest (x ∷ xs) ≡ x = longest-step x xs ∙ rw q in
-    let nx : eqb (x .off) o ≡ false = ne-eqb (x .off) o (λ w. h (ap (λ (r : Rec). r .off) z ∙ w)) in
-    let sh : leb (size (longest (besides o xs))) (size x) ≡ true = le-leb (size (longest (besides o xs))) (size x) (omega (arith, kept-shorter (λ r. not (eqb (r .off) o)) xs, leb-true (size (longest xs)) (size x) q)) in
-    let be : besides o (x ∷ xs) ≡ x ∷ besides o xs = rw nx in
-    ap longest be ∙ longest-step x (besides o xs) ∙ rw sh (sym z))
-    (λ q.
-    let z : longest (x ∷ xs) ≡ longest xs = longest-step x xs ∙ rw q in
-    let ih : longest (besides o xs) ≡ longest xs = longest-besides o xs (λ w. h (ap (λ (r : Rec). r .off) z ∙ w)) in
-    by-cases (eqb (x .off) o)
-    (λ w. let be : besides o (x ∷ xs) ≡ besides o xs = rw w in ap longest be ∙ ih ∙ sym z)
-    (λ w. let be : besides o (x ∷ xs) ≡ x ∷ besides o xs = rw w in
-    ap longest be ∙ longest-step x (besides o xs) ∙ ap (λ (m : Rec). cond (leb (size m) (size x)) x m) ih ∙ rw q (sym z)))
-
-pub second-best : (k : ℕ) (gs : List Rec) (p : Pair) (o l : ℕ) (ps : List Pair) → best-of (suc (suc k)) gs ≡ p ∷ pair o l ∷ ps
-    → (longest (besides (longest gs .off) gs) .off ≡ o) × (size (longest (besides (longest gs .off) gs)) ≡ l)
-second-best k gs p o l ps q = first-best k (besides (longest gs .off) gs) o l ps (rest gs q)
-  where
-    rest : (hs : List Rec) → best-of (suc (suc k)) hs ≡ p ∷ pair o l ∷ ps → best-of (suc k) (besides (longest hs .off) hs) ≡ pair o l ∷ ps
-    rest hs h = pair-rest (sym (step hs) ∙ h)
-      where
-        step : (hs : List Rec) → best-of (suc (suc k)) hs ≡ pair (longest hs .off) (size (longest hs)) ∷ best-of (suc k) (besides (longest hs .off) hs)
-        step hs = best-tail (suc k) hs
 
 -- from the longest gap o₁, l₁ and those of ps
 module _ (e : Edition) (b n : List ℕ) (i : Target) (o₁ l₁ : ℕ) (ps : List Pair) (u k s E : ℕ) (sc : Scanned e b (pair o₁ l₁ ∷ ps) u k)
@@ -165,14 +104,6 @@ module _ (e : Edition) (b n : List ℕ) (i : Target) (o₁ l₁ : ℕ) (ps : Lis
 
   one : (longest (gaps (records e b)) .off ≡ o₁) × (size (longest (gaps (records e b))) ≡ l₁)
   one = first-best (length ps) (gaps (records e b)) o₁ l₁ ps (sc .best)
-
-  -- the longest gap other than T
-  pub other-same : (o₁ ≡ u → ⊥) → (longest (other-gaps (room-of e b n)) .off ≡ o₁) × (size (longest (other-gaps (room-of e b n))) ≡ l₁)
-  unfolding room-of
-  other-same h =
-      let z : longest (besides (touching (data-end b) (records e b) .off) (gaps (records e b))) ≡ longest (gaps (records e b)) =
-      longest-besides (touching (data-end b) (records e b) .off) (gaps (records e b)) (λ w. h (sym (one .0) ∙ w ∙ sc .touch-off)) in
-      (ap (λ (r : Rec). r .off) z ∙ one .0, ap (λ (r : Rec). size r) z ∙ one .1)
 
   holds-longest : (hs : List Rec) → some-of (λ g. leb (entry-size e (length n)) (size g)) hs ≡ leb (entry-size e (length n)) (size (longest hs))
   holds-longest hs = longest-holds (entry-size e (length n)) hs (omega (arith, entry-size-least e (length n)))
@@ -280,15 +211,6 @@ module _ (e : Edition) (b n : List ℕ) (i : Target) (o₁ l₁ : ℕ) (ps : Lis
         let v : case-c (room-of e b n) ≡ false = need-c l ol ∙ by-cases (leb 8 k) (λ q. rw (eq-eqb s 0 z, q, lt-leb E l h)) (λ q. rw (eq-eqb s 0 z, q)) in
         let w : case-d (room-of e b n) ≡ false = need-d ∙ rw (eq-eqb s 0 z, lt-leb (E + 8) k m) in
         ap₂ (λ (p q : Bool). p || q || case-c (room-of e b n) || case-d (room-of e b n)) not-a not-b ∙ ap₂ (λ (p q : Bool). p || q) v w
-
--- T is the gap at o, and the longest besides it is known
-pub other-next : (e : Edition) (b n : List ℕ) (ps : List Pair) (o u k : ℕ) → Scanned e b ps u k → o ≡ u → (p l : ℕ)
-    → longest (besides o (gaps (records e b))) .off ≡ p → size (longest (besides o (gaps (records e b)))) ≡ l
-    → (longest (other-gaps (room-of e b n)) .off ≡ p) × (size (longest (other-gaps (room-of e b n))) ≡ l)
-unfolding room-of
-other-next e b n ps o u k sc h p l q r =
-    let z : touching (data-end b) (records e b) .off ≡ o = sc .touch-off ∙ sym h in
-    (ap (λ (x : ℕ). longest (besides x (gaps (records e b))) .off) z ∙ q, ap (λ (x : ℕ). size (longest (besides x (gaps (records e b))))) z ∙ r)
 
 -- ---- where a gap lies
 

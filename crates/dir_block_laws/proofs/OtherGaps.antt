@@ -10,7 +10,7 @@ use lib.ListN.{length}
 use borrow.Author.Tests.{lt-ltb, le-ltb}
 use Rattle.be.proofs.Bools.{keep-append}
 use Rattle.edition.specs.declared.Edition.{Edition}
-use Rattle.dir_block_rules.specs.Record.{Rec, rec, size, is-gap, gaps, besides, join}
+use Rattle.dir_block_rules.specs.Record.{Rec, size, is-gap, gaps, besides, join}
 use Rattle.dir_block_rules.specs.Block.{records, data-end}
 use Rattle.dir_block_rules.specs.Room.{room-of, other-gaps, touching}
 use Rattle.dir_block_rules.specs.Verdict.{Pair, pair}
@@ -19,7 +19,7 @@ use Rattle.dir_block_rules.proofs.CutJoin.{Laid, laid-front, laid-back}
 use Rattle.dir_block_rules.proofs.InsertCases.{Touch, touch, real, unreal}
 use Rattle.dir_block_laws.specs.Tiled.{Tiled}
 use Rattle.dir_block_laws.specs.Pass.{Scanned, Surveyed}
-use Rattle.dir_block_laws.proofs.BestGrows.{elsewhere, keep-all, best-step, longest-more}
+use Rattle.dir_block_laws.proofs.BestGrows.{elsewhere, keep-all, longest-more}
 use Rattle.dir_block_laws.proofs.RecordSteps.{laid-all, laid-elsewhere, end-is, end-fits}
 use Rattle.dir_block_laws.proofs.RecordPass.{gaps-gap}
 use Rattle.dir_block_laws.proofs.FewGaps.{Rising, rising-laid, besides-it}
@@ -120,8 +120,7 @@ module _ (e : Edition) (b : List ℕ) (tl : Tiled e b) where
         (ap (λ (m : List Rec). longest m .off) f ∙ most .0, ap (λ (m : List Rec). size (longest m)) f ∙ most .1)
 
     pub survey-small : (0 < l → o + l ≤ 65536) × (u + k ≤ 65536)
-    survey-small =
-        (
-          λ h. let w = survey-next [] in let i = other-inside e b [] tl o l h (w .0) (w .1) in omega (arith, i .upto, end-fits e b tl, tl .short),
-          omega (arith, s .last .touch-end, end-fits e b tl, tl .short),
-        )
+    survey-small = (
+      λ h. let w = survey-next [] in let i = other-inside e b [] tl o l h (w .0) (w .1) in omega (arith, i .upto, end-fits e b tl, tl .short),
+      omega (arith, s .last .touch-end, end-fits e b tl, tl .short),
+    )

@@ -157,18 +157,12 @@ past-into p (v ∷ vs) ts h =
     (λ z. absurd (omega (arith, l, ltb-true (p .long) (size v) z))) (λ z. ltb-true (p .from) (v .off) z) in
     ap (into vs) (past p (named-by v) k ts) ∙ past-into p vs (ins (named-by v) ts) (every-tail (clear p) v vs h)
 
+-- between the gaps before it and those behind, or into the table of both
 placed : (k : ℕ) (p : Pair) (us vs : List Rec) → every (before (p .from)) us ≡ true → every (clear p) vs ≡ true
     → into vs (ins p (into us (best-of k []))) ≡ ins-at p (into (us ++ vs) (best-of k []))
 placed k p us vs a b =
     ap (into vs) (at-low p (into us (best-of k [])) (low-into (p .from) us (best-of k []) a (low-empty (p .from) k)))
     ∙ past-into p vs (into us (best-of k [])) b ∙ ap (ins-at p) (sym (into-append us vs (best-of k [])))
-
--- between the gaps before it and those behind, or into the table of both
-pub placed-into : (k : ℕ) (p : Pair) (us vs : List Rec) → every (λ r. ltb (r .off) (p .from)) us ≡ true → every (λ r. ltb (p .from) (r .off)) vs ≡ true
-    → into vs (ins p (into us (best-of k []))) ≡ ins-at p (into (us ++ vs) (best-of k []))
-placed-into k p us vs a b =
-    placed k p us vs a
-    (every-from (λ r. ltb (p .from) (r .off)) (clear p) (λ x y. or-right (ltb (p .long) (size x)) (ltb (p .from) (x .off)) y) vs b)
 
 -- ---- the longest gap, and the others
 

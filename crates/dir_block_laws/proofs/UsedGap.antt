@@ -5,7 +5,7 @@ use native.Mathlib.Omega.{arith}
 use mathlib.Core.Bool.{Bool, true, false, cond, _&&_, false≢true}
 use mathlib.Core.Path.{_≡_, refl, sym, _∙_, ap, ap₂, subst}
 use mathlib.Core.List.{List, [], _∷_, _++_, append-assoc, append-nil}
-use lib.Dec.{eqb, leb, ltb}
+use lib.Dec.{eqb, leb}
 use lib.ListN.{length, take, drop, length-append, length-take, length-drop}
 use borrow.Author.Tests.{le-leb, lt-leb, leb-true, leb-false, lt-ltb, le-ltb, eq-eqb, ne-eqb}
 use Rattle.be.specs.Lists.{some-of, keep, without-first}
@@ -23,7 +23,6 @@ use Rattle.dir_block_rules.specs.Block.{records, Slot, slots, slot, slot-bytes,
 use Rattle.dir_block_rules.specs.Room.{room-of, touching, case-a, case-b, case-c, case-d, has-room}
 use Rattle.dir_block_rules.specs.Verdict.{Pair, pair}
 use Rattle.dir_block_rules.specs.Change.{longest, best-of, changed, insert-writes, writes-a, writes-b, writes-c, writes-d, entry-writes, index-writes, insert-slot}
-use Rattle.dir_block_rules.proofs.CutJoin.{Laid, join-append, laid-front}
 use Rattle.dir_block_rules.proofs.BlockParts.{length-slot-bytes}
 use Rattle.dir_block_rules.proofs.AcceptedParts.{keep-find, Found-in, index-bytes, place-of, end-of-data}
 use Rattle.dir_block_rules.proofs.BestTable.{longest-holds}
