@@ -10,6 +10,8 @@ use lib.Bits.{bitAnd, bitOr}
 use lib.Dec.{eqb, ltb}
 use lib.ListN.{length, getD, set}
 use borrow.Author.Tests.{eqb-true, eqb-false, eq-eqb, lt-ltb, le-ltb}
+use Rattle.be.specs.Bytes.{byte, part}
+use Rattle.be.specs.Words.{le}
 use Rattle.be.proofs.Bools.{by-cases, and-both, and-false, neither, clash}
 use Rattle.edition.specs.declared.Edition.{Edition}
 use Rattle.name.specs.Name.{same-name}
@@ -18,7 +20,7 @@ use Rattle.name_words.specs.Words.{key-of}
 use Rattle.dir_block_rules.specs.Lookup.{name-at}
 use Rattle.dir_block_twice.specs.Twice.{key-bits, Has-key, clash-from, runs-on, follows, Marked, Noted, twin-at, once-in, slots-from, hash-at, addr-at}
 use Rattle.dir_block_twice.proofs.SeenKeys.{noted-long, key-kept, key-noted}
-use Rattle.dir_block_twice.proofs.SlotList.{slots-next, slots-end}
+use Rattle.dir_block_twice.proofs.SlotList.{slots-next, slots-end, same-fields}
 use Rattle.dir_block_twice.proofs.TwinWalk.{apart, twin-stale}
 
 -- the slot before slot i
@@ -27,9 +29,11 @@ module _ (b : List ℕ) (t i : ℕ) where
   unfolding follows
   follows-first h = sym (rw (le-ltb 0 i h))
 
-  pub follows-next : (x y : ℕ) → 0 < i → x ≡ hash-at b t (i - 1) → y ≡ hash-at b t i → eqb x y ≡ follows b t i
+  pub follows-next : ((k : ℕ) → byte k b < 256) → t + 8 * i + 8 ≤ length b → (w u : ℕ) → 0 < i
+      → w ≡ le (part (t + 8 * (i - 1)) 4 b) → u ≡ le (part (t + 8 * i) 4 b) → eqb w u ≡ follows b t i
   unfolding follows
-  follows-next x y l xs ys = rw (xs, ys, lt-ltb 0 i l)
+  follows-next known r w u l ew eu =
+      same-fields b known 4 (t + 8 * (i - 1)) (t + 8 * i) (omega arith) (omega arith) w u ew eu ∙ sym (rw (lt-ltb 0 i l))
 
 pub either-first : (x f g : Bool) → x ≡ f → x ≡ true → true ≡ (f || g)
 either-first x f g h z = sym (rw (sym h ∙ z))

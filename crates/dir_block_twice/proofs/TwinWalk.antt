@@ -8,12 +8,14 @@ use mathlib.Core.List.{List, [], _∷_}
 use lib.Dec.{eqb}
 use lib.ListN.{length, getD}
 use borrow.Author.Tests.{eq-eqb, ne-eqb}
+use Rattle.be.specs.Bytes.{byte, part}
+use Rattle.be.specs.Words.{le}
 use Rattle.edition.specs.declared.Edition.{Edition}
 use Rattle.name.specs.Name.{same-name}
 use Rattle.dir_block_rules.specs.Block.{Slot}
 use Rattle.dir_block_rules.specs.Lookup.{name-at}
 use Rattle.dir_block_twice.specs.Twice.{clash-from, runs-on, slots-from, hash-at, addr-at, twin-at, Reach}
-use Rattle.dir_block_twice.proofs.SlotList.{slots-next, slots-end}
+use Rattle.dir_block_twice.proofs.SlotList.{slots-next, slots-end, same-fields}
 
 -- a run so far
 pub record Clashing (e : Edition) (b : List ℕ) (t n h c i j : ℕ) : Type 0 where
@@ -75,9 +77,11 @@ module _ (b : List ℕ) (t n i : ℕ) where
   unfolding runs-on
   runs-last l = sym (rw (slots-end b t n (i + 1) l))
 
-  pub runs-next : (x y : ℕ) → i + 1 < n → x ≡ hash-at b t (i + 1) → y ≡ hash-at b t i → eqb x y ≡ runs-on (hash-at b t i) (slots-from b t n (i + 1))
+  pub runs-next : ((k : ℕ) → byte k b < 256) → t + 8 * n ≤ length b → (w u : ℕ) → i + 1 < n
+      → w ≡ le (part (t + 8 * (i + 1)) 4 b) → u ≡ le (part (t + 8 * i) 4 b) → eqb w u ≡ runs-on (hash-at b t i) (slots-from b t n (i + 1))
   unfolding runs-on
-  runs-next x y l xs ys = rw (xs, ys, slots-next b t n (i + 1) l) refl
+  runs-next known r w u l ew eu =
+      same-fields b known 4 (t + 8 * (i + 1)) (t + 8 * i) (omega arith) (omega arith) w u ew eu ∙ sym (rw (slots-next b t n (i + 1) l))
 
 -- a run that ends at once has no twin
 pub apart : (e : Edition) (b : List ℕ) (h c : ℕ) (ss : List Slot) → runs-on h ss ≡ false → clash-from e b h c ss ≡ false

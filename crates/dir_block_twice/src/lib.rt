@@ -65,14 +65,14 @@ fn clash(e: Edition, b: &[u8], t: usize, n: usize, i: usize) -> bool
     false
 }
 
-// Whether the slot after slot i has the same hash.
+// Whether the slot after slot i has the same hash. Hashes are compared as words: equal bytes are an equal number either way.
 fn runs_on(b: &[u8], t: usize, n: usize, i: usize) -> bool
     requires { ⌜ (t + 8 * n ≤ length (now b)) × (i < n) ⌝ }
     ensures { λ r. ⌜ r ≡ runs-on (hash-at (now (b .entry)) t i) (slots-from (now (b .entry)) t n (i + 1)) ⌝ }
 {
     let j = i + 1;
     if j < n {
-        return slot_hash(b, t, j) == slot_hash(b, t, i);
+        return be::le32(b, t + 8 * j) == be::le32(b, t + 8 * i);
     }
     false
 }
@@ -83,7 +83,7 @@ fn follows(b: &[u8], t: usize, i: usize) -> bool
     ensures { λ r. ⌜ r ≡ follows (now (b .entry)) t i ⌝ }
 {
     if 0 < i {
-        return slot_hash(b, t, i - 1) == slot_hash(b, t, i);
+        return be::le32(b, t + 8 * (i - 1)) == be::le32(b, t + 8 * i);
     }
     false
 }
