@@ -1,15 +1,16 @@
--- The second hash of a name: a turn of its loop, and the end.
+-- The second hash of a name: a turn of its loop, and the end; both at once.
 -- Assumes nothing.
 use Prim.Native.Nat.{ℕ, suc, _+_, _-_, _*_, _/_, _%_, _^_, _≤_, _<_}
 use mathlib.Core.Path.{_≡_, sym, ap, ap₂, _∙_}
-use mathlib.Core.Bool.{false}
+use mathlib.Core.Bool.{true, false, _&&_}
 use mathlib.Core.List.{List}
 use native.Mathlib.Omega.{arith}
-use lib.Dec.{eqb}
+use lib.Dec.{eqb, leb, ltb}
 use lib.ListN.{length, take, drop}
-use borrow.Author.Tests.{eq-eqb, ne-eqb}
+use borrow.Author.Tests.{eq-eqb, ne-eqb, ltb-true, leb-true}
 use Rattle.be.specs.Bytes.{byte, part}
 use Rattle.be.specs.Words.{le, to-le}
+use Rattle.be.proofs.Bools.{and-left, and-right}
 use Rattle.be.proofs.Parts.{part-length, take-part, drop-part}
 use Rattle.name_words.specs.Words.{mix, key-from, key-of}
 use Rattle.name_words.proofs.WordWalk.{end-word}
@@ -38,8 +39,18 @@ module _ (b : List ℕ) (known : (k : ℕ) → byte k b < 256) (i end : ℕ) (fi
       er ∙ ap (mix k) (ev ∙ ap₂ (λ (x : List ℕ) (y : ℕ). le x * 2 ^ (64 - 8 * y)) (end-word b i end known fits w ew (omega arith) q) (sym l))
       ∙ ap (λ (x : ℕ). key-from x k (left i)) (sym f)
 
+-- one turn and the end: 9 to 16 bytes
+pub two-range : (n : ℕ) → (ltb 8 n && leb n 16) ≡ true → (8 < n) × (n ≤ 16)
+two-range n h = (ltb-true 8 n (and-left (ltb 8 n) (leb n 16) h), leb-true n 16 (and-right (ltb 8 n) (leb n 16) h))
+
+pub two-keys : (b : List ℕ) → ((k : ℕ) → byte k b < 256) → (i end : ℕ) → end + 8 ≤ length b → i + 8 < end → end ≤ i + 16 → (k w u v x r : ℕ)
+    → w ≡ le (part i 8 b) → x ≡ mix k w → u ≡ le (part (i + 8) 8 b) → v ≡ le (to-le (end - (i + 8)) u) * 2 ^ (64 - 8 * (end - (i + 8))) → r ≡ mix x v
+    → r ≡ key-from ((end - i - 1) / 8) k (part i (end - i) b)
+two-keys b known i end fits p q k w u v x r ew ex eu ev er =
+    key-end b known (i + 8) end fits u eu x v r p (omega arith) ev er ∙ sym (key-turn b known i end fits w ew k x (omega arith) ex)
+
 -- the whole key
-module _ (b : List ℕ) (i end : ℕ) (p : i ≤ end) (q : end ≤ length b) where
+module _ (b : List ℕ) (i end : ℕ) (p : i ≤ end) (q : end + 8 ≤ length b) where
   long : length (part i (end - i) b) ≡ end - i
   long = part-length i (end - i) b (omega arith)
 

@@ -341,6 +341,18 @@ fn key_words(b: &[u8], i0: usize, end: usize, k0: u64) -> u64
     mixed(k, moved(be::le64(b, i), (end - i) as u32))
 }
 
+// The same of 9 to 16 bytes, as many names have, without a loop.
+fn two_keys(b: &[u8], i: usize, end: usize, k: u64) -> u64
+    requires { ⌜ (i + 8 < end) × (end ≤ i + 16) × (end + 8 ≤ length (now b)) ⌝ }
+    ensures { λ r. ⌜ r ≡ key-from ((end - i - 1) / 8) k (part i (end - i) (now (b .entry))) ⌝ }
+{
+    let j = i + 8;
+    mixed(
+        mixed(k, be::le64(b, i)),
+        moved(be::le64(b, j), (end - j) as u32),
+    )
+}
+
 // The key made of k: its high half once more over its low half.
 fn finished(k: u64) -> usize
     ensures { λ r. ⌜ (r ≡ mix k (k / 4294967296) / 131072 % 4294967296) × (r < 4294967296) ⌝ }
@@ -356,5 +368,9 @@ pub fn key(b: &[u8], i: usize, end: usize) -> usize
     if end <= i {
         return 0;
     }
-    finished(key_words(b, i, end, (end - i) as u64))
+    let n = end - i;
+    if (8 < n) & (n <= 16) {
+        return finished(two_keys(b, i, end, n as u64));
+    }
+    finished(key_words(b, i, end, n as u64))
 }

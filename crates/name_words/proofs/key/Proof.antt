@@ -1,25 +1,30 @@
-use Prim.Native.Nat.{_≤_}
+use Prim.Native.Nat.{_-_}
 use native.Mathlib.Omega.{arith}
-use denote.Ref.{now}
-use lib.ListN.{length}
 use borrow.Author.Needs.{needs}
-use Rattle.name_words.proofs.Keys.{key-none, key-some}
+use Rattle.name_words.proofs.Keys.{two-range, key-none, key-some}
 use Rattle.name_words.proofs.key.Statement.{statement}
 use Rattle.name_words.proofs.key.Tie as tie
 
 returns : tie.Need-returns
 returns c =
-    let a = c .before .before .args in
-    let p : a .i ≤ a .end = omega arith in
-    let q : a .end ≤ length (now (a .b)) = omega arith in
-    (key-none _ _ _ p q (c .if1 .taken), omega arith)
+    let p = c .before .before .pre in
+    (key-none _ _ _ (p .0) (p .1) (c .if1 .taken), omega arith)
+
+two-keys-requires : tie.Need-two-keys-requires
+two-keys-requires c κs =
+    let a = c .before .before .before .args in
+    let r = two-range (a .end - a .i) (c .if2 .taken) in
+    (omega (arith, r .0), omega (arith, r .1), search needs)
 
 returns-2 : tie.Need-returns-2
 returns-2 c =
-    let a = c .before .before .before .before .args in
-    let p : a .i ≤ a .end = omega arith in
-    let q : a .end ≤ length (now (a .b)) = omega arith in
-    (key-some _ _ _ p q _ _ (c .before .before .if1 .left) (c .before .key-words .ensures) (c .finished .ensures .0), c .finished .ensures .1)
+    let p = c .before .before .before .before .before .pre in
+    (key-some _ _ _ (p .0) (p .1) _ _ (c .before .before .before .if1 .left) (c .before .two-keys .ensures) (c .finished .ensures .0), c .finished .ensures .1)
+
+returns-3 : tie.Need-returns-3
+returns-3 c =
+    let p = c .before .before .before .before .before .pre in
+    (key-some _ _ _ (p .0) (p .1) _ _ (c .before .before .before .if1 .left) (c .before .key-words .ensures) (c .finished2 .ensures .0), c .finished2 .ensures .1)
 
 pub key-spec : {M : Type 1} → statement M
 key-spec =
@@ -27,6 +32,9 @@ key-spec =
     (tie.spec
     returns
     (λ c. search needs)
+    two-keys-requires
+    (λ c κs. search needs)
+    returns-2
     (λ c κs. search needs)
     (λ c κs. search needs)
-    returns-2)
+    returns-3)
