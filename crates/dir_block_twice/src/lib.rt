@@ -197,28 +197,6 @@ fn once_with<'a, 'b>(
     known(true)
 }
 
-// Where the data ends by here, the names are few.
-const FEW: usize = 4096;
-
-// The words of the table: what is cleared for the names seen follows how many there can be.
-const WORDS_FOR_FEW: usize = 128;
-
-const WORDS_FOR_MANY: usize = 1024;
-
-// With a table of the names seen.
-fn by_tables(e: Edition, b: &[u8], t: usize, n: usize, turns: usize) -> Finding
-    requires { ⌜ (t + 8 * n ≤ length (now b)) × Reach (now b) t n ⌝ }
-    ensures { λ r. ⌜ (r .known ≡ true → r .once ≡ once-in e (now (b .entry)) (slots-from (now (b .entry)) t n 0))
-        × (n ≤ turns → r .known ≡ true) ⌝ }
-{
-    if t <= FEW {
-        let mut seen = [0u64; WORDS_FOR_FEW];
-        return once_with(e, b, t, n, &mut seen, turns);
-    }
-    let mut seen = [0u64; WORDS_FOR_MANY];
-    once_with(e, b, t, n, &mut seen, turns)
-}
-
 // Whether slot i is one of the n, and live.
 fn live(b: &[u8], t: usize, n: usize, i: usize) -> bool
     requires { ⌜ t + 8 * n ≤ length (now b) ⌝ }
@@ -519,31 +497,58 @@ fn sorted(e: Edition, b: &[u8], t: usize, n: usize) -> Finding
     sorted_with(e, b, t, n, &mut order, &mut rank)
 }
 
-// How many slots are compared with later ones before the names are sorted: a number, so that all of them pass a few times the slots at most.
-// By chance some four of 2,000 names of one hash find their bits set in the largest block, and hardly one in a small one.
-fn turns(t: usize) -> usize
-    ensures { λ r. ⌜ r < 25 ⌝ }
-{
-    if t <= FEW {
-        return 2;
-    }
-    24
-}
-
-// Whether no name is stored twice. The order of the sort is not proved, so a last way stands behind it; in a block that has passed INDEX it
-// is not met.
-pub fn once(e: Edition, b: &[u8], t: usize, n: usize) -> bool
+// By sorting, and were the order wrong, which it is not in a block that has passed INDEX, by comparing names with each other. Both ways that
+// come before it call this one, so that its arrays are in no test's frame that does not need them: a frame's pages are touched one by one.
+fn once_slow(e: Edition, b: &[u8], t: usize, n: usize) -> bool
     requires { ⌜ (t + 8 * n ≤ length (now b)) × Reach (now b) t n × (n ≤ most-slots) ⌝ }
     ensures { λ r. ⌜ r ≡ once-in e (now (b .entry)) (slots-from (now (b .entry)) t n 0) ⌝ }
 {
-    let few = by_tables(e, b, t, n, turns(t));
-    if few.known {
-        return few.once;
-    }
     let all = sorted(e, b, t, n);
     if all.known {
         return all.once;
     }
-    let last = by_tables(e, b, t, n, n);
+    let mut seen = [0u64; 256];
+    let last = once_with(e, b, t, n, &mut seen, n);
     last.once
+}
+
+// Few names, by a table of the names seen. What is cleared for it, and how many slots are compared with later ones before the names are
+// sorted, follow how many names there can be. Hardly one of 125 names of one hash finds its bits set by chance.
+fn once_few(e: Edition, b: &[u8], t: usize, n: usize) -> bool
+    requires { ⌜ (t + 8 * n ≤ length (now b)) × Reach (now b) t n × (n ≤ most-slots) ⌝ }
+    ensures { λ r. ⌜ r ≡ once-in e (now (b .entry)) (slots-from (now (b .entry)) t n 0) ⌝ }
+{
+    let mut seen = [0u64; 256];
+    let few = once_with(e, b, t, n, &mut seen, 2);
+    if few.known {
+        return few.once;
+    }
+    once_slow(e, b, t, n)
+}
+
+// Many names, of which two or three in 2,000 find their bits set by chance.
+fn once_many(e: Edition, b: &[u8], t: usize, n: usize) -> bool
+    requires { ⌜ (t + 8 * n ≤ length (now b)) × Reach (now b) t n × (n ≤ most-slots) ⌝ }
+    ensures { λ r. ⌜ r ≡ once-in e (now (b .entry)) (slots-from (now (b .entry)) t n 0) ⌝ }
+{
+    let mut seen = [0u64; 1024];
+    let few = once_with(e, b, t, n, &mut seen, 24);
+    if few.known {
+        return few.once;
+    }
+    once_slow(e, b, t, n)
+}
+
+// Where the data ends by here, the names are few.
+const FEW: usize = 4096;
+
+// Whether no name is stored twice.
+pub fn once(e: Edition, b: &[u8], t: usize, n: usize) -> bool
+    requires { ⌜ (t + 8 * n ≤ length (now b)) × Reach (now b) t n × (n ≤ most-slots) ⌝ }
+    ensures { λ r. ⌜ r ≡ once-in e (now (b .entry)) (slots-from (now (b .entry)) t n 0) ⌝ }
+{
+    if t <= FEW {
+        return once_few(e, b, t, n);
+    }
+    once_many(e, b, t, n)
 }

@@ -1,7 +1,7 @@
 -- The second hash of a name: a turn of its loop, and the end; both at once.
 -- Assumes nothing.
 use Prim.Native.Nat.{ℕ, suc, _+_, _-_, _*_, _/_, _%_, _^_, _≤_, _<_}
-use mathlib.Core.Path.{_≡_, sym, ap, ap₂, _∙_}
+use mathlib.Core.Path.{_≡_, sym, ap, ap₂, _∙_, subst}
 use mathlib.Core.Bool.{true, false, _&&_}
 use mathlib.Core.List.{List}
 use native.Mathlib.Omega.{arith}
@@ -43,11 +43,15 @@ module _ (b : List ℕ) (known : (k : ℕ) → byte k b < 256) (i end : ℕ) (fi
 pub two-range : (n : ℕ) → (ltb 8 n && leb n 16) ≡ true → (8 < n) × (n ≤ 16)
 two-range n h = (ltb-true 8 n (and-left (ltb 8 n) (leb n 16) h), leb-true n 16 (and-right (ltb 8 n) (leb n 16) h))
 
-pub two-keys : (b : List ℕ) → ((k : ℕ) → byte k b < 256) → (i end : ℕ) → end + 8 ≤ length b → i + 8 < end → end ≤ i + 16 → (k w u v x r : ℕ)
-    → w ≡ le (part i 8 b) → x ≡ mix k w → u ≡ le (part (i + 8) 8 b) → v ≡ le (to-le (end - (i + 8)) u) * 2 ^ (64 - 8 * (end - (i + 8))) → r ≡ mix x v
-    → r ≡ key-from ((end - i - 1) / 8) k (part i (end - i) b)
-two-keys b known i end fits p q k w u v x r ew ex eu ev er =
-    key-end b known (i + 8) end fits u eu x v r p (omega arith) ev er ∙ sym (key-turn b known i end fits w ew k x (omega arith) ex)
+pub two-keys : (b : List ℕ) → ((k : ℕ) → byte k b < 256) → (i n : ℕ) → 8 < n → n ≤ 16 → i + n + 8 ≤ length b → (k w u v x r : ℕ)
+    → w ≡ le (part i 8 b) → x ≡ mix k w → u ≡ le (part (i + 8) 8 b) → v ≡ le (to-le (n - 8) u) * 2 ^ (64 - 8 * (n - 8)) → r ≡ mix x v
+    → r ≡ key-from ((n - 1) / 8) k (part i n b)
+two-keys b known i n p q fits k w u v x r ew ex eu ev er =
+    let e : i + n - i ≡ n = omega arith in
+    let f : n - 8 ≡ i + n - (i + 8) = omega arith in
+    let g : v ≡ le (to-le (i + n - (i + 8)) u) * 2 ^ (64 - 8 * (i + n - (i + 8))) = ev ∙ ap (λ (m : ℕ). le (to-le m u) * 2 ^ (64 - 8 * m)) f in
+    subst (λ (m : ℕ). r ≡ key-from ((m - 1) / 8) k (part i m b)) e
+    (key-end b known (i + 8) (i + n) fits u eu x v r (omega arith) (omega arith) g er ∙ sym (key-turn b known i (i + n) fits w ew k x (omega arith) ex))
 
 -- the whole key
 module _ (b : List ℕ) (i end : ℕ) (p : i ≤ end) (q : end + 8 ≤ length b) where

@@ -341,15 +341,14 @@ fn key_words(b: &[u8], i0: usize, end: usize, k0: u64) -> u64
     mixed(k, moved(be::le64(b, i), (end - i) as u32))
 }
 
-// The same of 9 to 16 bytes, as many names have, without a loop.
-fn two_keys(b: &[u8], i: usize, end: usize, k: u64) -> u64
-    requires { ⌜ (i + 8 < end) × (end ≤ i + 16) × (end + 8 ≤ length (now b)) ⌝ }
-    ensures { λ r. ⌜ r ≡ key-from ((end - i - 1) / 8) k (part i (end - i) (now (b .entry))) ⌝ }
+// The same of n bytes, 9 to 16 as many names have, from the key n: without a loop.
+fn two_keys(b: &[u8], i: usize, n: usize) -> u64
+    requires { ⌜ (8 < n) × (n ≤ 16) × (i + n + 8 ≤ length (now b)) ⌝ }
+    ensures { λ r. ⌜ r ≡ key-from ((n - 1) / 8) n (part i n (now (b .entry))) ⌝ }
 {
-    let j = i + 8;
     mixed(
-        mixed(k, be::le64(b, i)),
-        moved(be::le64(b, j), (end - j) as u32),
+        mixed(n as u64, be::le64(b, i)),
+        moved(be::le64(b, i + 8), (n - 8) as u32),
     )
 }
 
@@ -370,7 +369,7 @@ pub fn key(b: &[u8], i: usize, end: usize) -> usize
     }
     let n = end - i;
     if (8 < n) & (n <= 16) {
-        return finished(two_keys(b, i, end, n as u64));
+        return finished(two_keys(b, i, n));
     }
     finished(key_words(b, i, end, n as u64))
 }

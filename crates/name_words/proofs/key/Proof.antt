@@ -14,7 +14,7 @@ two-keys-requires : tie.Need-two-keys-requires
 two-keys-requires c κs =
     let a = c .before .before .before .args in
     let r = two-range (a .end - a .i) (c .if2 .taken) in
-    (omega (arith, r .0), omega (arith, r .1), search needs)
+    (r .0, r .1, omega arith)
 
 returns-2 : tie.Need-returns-2
 returns-2 c =

@@ -7,16 +7,16 @@ returns : tie.Need-returns
 returns c =
     let s = c .before .before .before .before .before in
     let p = s .before .pre in
-    two-keys _ (λ k. s .shared-slice-known .given k .fits) _ _ (p .2) (p .0) (p .1) _ _ _ _ _ _
+    two-keys _ (λ k. s .shared-slice-known .given k .fits) _ _ (p .0) (p .1) (p .2) _ _ _ _ _ _
     (c .before .before .before .before .le64 .ensures) (c .before .before .before .mixed .ensures) (c .before .before .le642 .ensures) (c .before .moved .ensures) (c .mixed2 .ensures)
 
 pub two-keys-spec : {M : Type 1} → statement M
 two-keys-spec =
     tie.close
     (tie.spec
+    (λ c κs. search needs)
+    (λ c κs. search needs)
     (λ c. search needs)
-    (λ c κs. search needs)
-    (λ c κs. search needs)
     (λ c κs. search needs)
     (λ c. search needs)
     (λ c. search needs)
