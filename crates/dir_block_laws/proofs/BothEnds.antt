@@ -21,14 +21,16 @@ use Rattle.dir_block_rules.specs.Change.{best-of}
 use Rattle.dir_block_rules.proofs.CutJoin.{Laid, join, join-append, laid-front, laid-back}
 use Rattle.dir_block_rules.proofs.InsertCases.{Touch, touch, real, unreal}
 use Rattle.dir_block_laws.specs.Tiled.{Tiled}
-use Rattle.dir_block_laws.specs.BestSoFar.{ins, ins-all}
+use Rattle.dir_block_laws.specs.BestSoFar.{ins, ins-all, ins-at}
 use Rattle.dir_block_laws.specs.Pass.{Place, Gaps-before, Gaps-up-to, Next-place, Scanned}
 use Rattle.dir_block_laws.proofs.BestGrows.{best-more, elsewhere, keep-all}
 use Rattle.dir_block_laws.proofs.RecordSteps.{Here, Next, next, over, place-start, laid-all, laid-elsewhere}
 use Rattle.dir_block_laws.proofs.RecordPass.{gaps-gap, gaps-entry, says-gap, says-entry}
 use Rattle.dir_block_laws.proofs.GapsBeside.{Prior, prior-at}
 use Rattle.dir_block_laws.proofs.LastGap.{end-place}
-use Rattle.dir_block_laws.proofs.TablesJoined.{tables-joined, table-ahead}
+use Rattle.dir_block_laws.proofs.TablesJoined.{tables-joined}
+use Rattle.dir_block_laws.proofs.FewGaps.{Rising, rising-laid}
+use Rattle.dir_block_laws.proofs.PairPlaced.{best-ahead}
 
 -- what lies between two cuts of the same records
 between : (e : Edition) (o : ℕ) (xs ys us vs : List Rec) → Laid e o (xs ++ ys) → xs ++ ys ≡ us ++ vs → length (join xs) ≤ length (join us)
@@ -43,6 +45,9 @@ between e o (x ∷ xs) ys (u ∷ us) vs l q h =
     let c : length (u .raw ++ join us) ≡ size u + length (join us) = length-append (u .raw) (join us) in
     let w = between e (o + size x) xs ys us vs (l .2) r (omega arith) in
     (w .0, w .1, omega (arith, w .2))
+
+with-gap : (x : Rec) (ys : List Rec) → is-gap x ≡ true → gaps (x ∷ ys) ≡ x ∷ gaps ys
+with-gap x ys h = rw h
 
 no-gap : (x : Rec) (ys : List Rec) → is-gap x ≡ false → gaps (x ∷ ys) ≡ gaps ys
 no-gap x ys h = rw h
@@ -146,9 +151,10 @@ module _ (e : Edition) (b : List ℕ) (t : Tiled e b) where
     over-it : p + length (tagged .x .raw ++ join (s .between)) ≡ v
     over-it = omega (arith, length-append (tagged .x .raw) (join (s .between)), tagged .ends, s .upto)
 
-    pub back-gap : field p 2 b ≡ 65535 → Gaps-up-to e b v p (ins-all qs (ins (pair p (u - p)) (best-of 4 [])))
+    pub back-gap : field p 2 b ≡ 65535 → Gaps-up-to e b v p (ins-at (pair p (u - p)) qs)
     back-gap g =
         let n : size (tagged .x) ≡ u - p = omega (arith, tagged .ends) in
+        let y : is-gap (tagged .x) ≡ true = tagged .at-it .gap-is ∙ eq-eqb (field p 2 b) 65535 g in
         let xs : List Rec = tagged .xs in
         let ys : List Rec = tagged .x ∷ s .between in
         let at : ℕ = e .header + length (join (tagged .xs)) in
@@ -161,8 +167,8 @@ module _ (e : Edition) (b : List ℕ) (t : Tiled e b) where
           all = tagged .at-it .is;
           place = tagged .from;
           upto = over-it;
-          best = table-ahead 4 e at (tagged .x) (s .between) l (tagged .at-it .gap-is ∙ eq-eqb (field p 2 b) 65535 g)
-              ∙ ap₂ (λ (ts : List Pair) (q : Pair). ins-all ts (ins q (best-of 4 []))) (s .best) (ap₂ pair (tagged .at-it .off-is) n);
+          best = ap (best-of 4) (with-gap (tagged .x) (s .between) y) ∙ best-ahead 4 at (tagged .x) (gaps (s .between)) (subst (Rising at) (with-gap (tagged .x) (s .between) y) (rising-laid e at ys l))
+              ∙ ap₂ ins-at (ap₂ pair (tagged .at-it .off-is) n) (s .best);
         }
 
     pub back-entry : (field p 2 b ≡ 65535 → ⊥) → Gaps-up-to e b v p qs

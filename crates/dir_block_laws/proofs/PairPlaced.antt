@@ -202,6 +202,16 @@ best-rest k o us vs g r i =
     ∙ ap (λ (x : Rec). named-by x ∷ best-of k (besides (x .off) (us ++ (g ∷ vs)))) i
     ∙ ap (λ (l : List Rec). named-by g ∷ best-of k l) others
 
+-- a gap before the others
+pub best-ahead : (k o : ℕ) (g : Rec) (gs : List Rec) → Rising o (g ∷ gs) → best-of k (g ∷ gs) ≡ ins-at (named-by g) (best-of k gs)
+best-ahead k o g gs r =
+    let p : Pair = named-by g in
+    let b : every (clear (named-by g)) gs ≡ true =
+    rising-each (clear (named-by g)) (g .off + size g) gs
+    (λ v h n. or-right (ltb (size g) (size v)) (ltb (g .off) (v .off)) (lt-ltb (g .off) (v .off) (omega (arith, r .1)))) (r .2) in
+    best-into k o [] (g ∷ gs) refl r ∙ placed k (named-by g) [] gs refl b
+    ∙ ap (ins-at (named-by g)) (sym (best-into k (g .off + size g) [] gs refl (r .2)))
+
 -- the table that the longest gap leaves without its first n bytes
 pub best-placed : (k o n : ℕ) (us vs : List Rec) (g : Rec) → Rising o (us ++ (g ∷ vs)) → longest (us ++ (g ∷ vs)) ≡ g → n ≤ size g
     → (q : Pair) (qs : List Pair) → best-of (suc k) (us ++ (g ∷ vs)) ≡ q ∷ qs

@@ -3,7 +3,6 @@
 use Prim.Native.Nat.{ℕ, zero, suc, _+_, _≤_, _<_}
 use native.Mathlib.Nat.{le-refl}
 use native.Mathlib.Omega.{arith}
-use mathlib.Core.Bool.{true}
 use mathlib.Core.Path.{_≡_, refl, sym, _∙_, ap, ap₂, subst}
 use mathlib.Core.List.{List, [], _∷_, _++_}
 use lib.ListN.{length, take, length-take}
@@ -208,11 +207,3 @@ tables-joined k e o xs ys l =
     ∙ ap (into (gaps ys)) (sym (all-empty k ts))
     ∙ joins 0 (gaps ys) (best-of k []) ts (length-best k (gaps xs) ∙ sym (length-best k [])) (falling-empty k)
     ∙ ap (λ (l : List Pair). ins-all l ts) (sym (table-into k e p ys ly))
-
--- one gap before the others
-pub table-ahead : (k : ℕ) (e : Edition) (o : ℕ) (x : Rec) (ys : List Rec) → Laid e o (x ∷ ys) → is-gap x ≡ true
-    → best-of k (gaps (x ∷ ys)) ≡ ins-all (best-of k (gaps ys)) (ins (named-by x) (best-of k []))
-table-ahead k e o x ys l g =
-    let h : gaps (x ∷ []) ≡ x ∷ [] = rw g in
-    tables-joined k e o (x ∷ []) ys l
-    ∙ ap (ins-all (best-of k (gaps ys))) (table-into k e o (x ∷ []) (l .0, l .1, tt) ∙ ap (λ (gs : List Rec). into gs (best-of k [])) h)

@@ -89,9 +89,9 @@ fn ahead(o: usize, l: usize, u: usize, k: usize) -> bool
     (k < l) | ((k == l) & (o < u))
 }
 
-// A gap of l bytes at o goes into the first three pairs where it belongs, also among those that are as long.
+// A gap of l bytes at o goes into the table where it belongs, also among those that are as long.
 fn with_pair_at(s: Scan, o: usize, l: usize) -> Scan
-    ensures { λ r. ⌜ three r ≡ ins-at (pair o l) (three s) ⌝ }
+    ensures { λ r. ⌜ (table r ≡ ins-at (pair o l) (table s)) × (three r ≡ ins-at (pair o l) (three s)) ⌝ }
 {
     if ahead(o, l, s.o1, s.l1) {
         return before_all(s, o, l);
@@ -102,11 +102,20 @@ fn with_pair_at(s: Scan, o: usize, l: usize) -> Scan
         r.l2 = l;
         r.o3 = s.o2;
         r.l3 = s.l2;
+        r.o4 = s.o3;
+        r.l4 = s.l3;
         return r;
     }
     if ahead(o, l, s.o3, s.l3) {
         r.o3 = o;
         r.l3 = l;
+        r.o4 = s.o3;
+        r.l4 = s.l3;
+        return r;
+    }
+    if ahead(o, l, s.o4, s.l4) {
+        r.o4 = o;
+        r.l4 = l;
     }
     r
 }
@@ -161,8 +170,7 @@ fn forward(e: Edition, b: &[u8], f: Scan) -> Scan
     r
 }
 
-// The walk from place v, back over one record by its tag, unless the walk from the front, at o, has come as far. A gap comes before those
-// passed, so their pairs go in after its own.
+// The walk from place v, back over one record by its tag, unless the walk from the front, at o, has come as far.
 fn backward(e: Edition, b: &[u8], v: usize, g: Scan, o: usize) -> Scan
     requires { ⌜ Sane e × Tiled e (now b) ⌝ }
     requires { ⌜ Gaps-up-to e (now b) v (g .at) (table g) × (Place e (now b) o × (o ≤ g .at)) ⌝ }
@@ -174,8 +182,7 @@ fn backward(e: Edition, b: &[u8], v: usize, g: Scan, o: usize) -> Scan
     let p = be::be16(b, g.at - 2);
     let k = be::be16(b, p);
     if k == 65535 {
-        let t = with_pair(start(p), p, g.at - p);
-        let mut r = merged(t, g);
+        let mut r = with_pair_at(g, p, g.at - p);
         r.at = p;
         return r;
     }

@@ -27,17 +27,25 @@ be16-requires-2 c κs =
       back-fits _ b (p .pre .0 .1) (p .args .o) (p .args .v) (p .args .g .at) (c .be16 .result) (table (p .args .g)) (p .pre .1 .0) (p .pre .1 .1 .0) (c .before .before .if1 .left) (sym (c .be16 .ensures .0)),
     )
 
-sub-with-pair : tie.Need-sub-with-pair
-sub-with-pair c =
-    let p = c .before .before .before .before .before .before .before .before .before in
-    omega (arith, back-fits _ (now (p .args .b)) (p .pre .0 .1) (p .args .o) (p .args .v) (p .args .g .at) (c .before .before .before .before .be16 .result) (table (p .args .g)) (p .pre .1 .0) (p .pre .1 .1 .0) (c .before .before .before .before .before .before .if1 .left) (sym (c .before .before .before .before .be16 .ensures .0)))
+sub-with-pair-at : tie.Need-sub-with-pair-at
+sub-with-pair-at c =
+    let c₃ = c .before .before .before in
+    let c₅ = c₃ .before .before in
+    let p = c₅ .before .before .before in
+    omega (arith, back-fits _ (now (p .args .b)) (p .pre .0 .1) (p .args .o) (p .args .v) (p .args .g .at) (c₃ .be16 .result) (table (p .args .g)) (p .pre .1 .0) (p .pre .1 .1 .0) (c₅ .if1 .left) (sym (c₃ .be16 .ensures .0)))
 
 returns-2 : tie.Need-returns-2
 returns-2 c =
-    let p = c .before .before .before .before .before .before .before .before .before .before .before in
-    let f = back-fits _ (now (p .args .b)) (p .pre .0 .1) (p .args .o) (p .args .v) (p .args .g .at) (c .before .before .before .before .before .before .be16 .result) (table (p .args .g)) (p .pre .1 .0) (p .pre .1 .1 .0) (c .before .before .before .before .before .before .before .before .if1 .left) (sym (c .before .before .before .before .before .before .be16 .ensures .0)) in
-    let s = back-gap _ (now (p .args .b)) (p .pre .0 .1) (p .args .o) (p .args .v) (p .args .g .at) (c .before .before .before .before .before .before .be16 .result) (table (p .args .g)) (p .pre .1 .0) (p .pre .1 .1 .0) (c .before .before .before .before .before .before .before .before .if1 .left) (sym (c .before .before .before .before .before .before .be16 .ensures .0)) (sym (c .before .before .before .before .before .be162 .ensures .0) ∙ c .before .before .before .before .if2 .taken) in
-    (rw (c .merged .ensures, c .before .with-pair .ensures .0, c .before .before .before .start .ensures .0) s, (f .0, omega (arith, f .1)))
+    let c₂ = c .before .before in
+    let c₄ = c₂ .before .before in
+    let c₆ = c₄ .before .before in
+    let p = c₆ .before .before .before in
+    let b = now (p .args .b) in
+    let q = sym (c₄ .be16 .ensures .0) in
+    let f = back-fits _ b (p .pre .0 .1) (p .args .o) (p .args .v) (p .args .g .at) (c₄ .be16 .result) (table (p .args .g)) (p .pre .1 .0) (p .pre .1 .1 .0) (c₆ .if1 .left) q in
+    let s = back-gap _ b (p .pre .0 .1) (p .args .o) (p .args .v) (p .args .g .at) (c₄ .be16 .result) (table (p .args .g)) (p .pre .1 .0) (p .pre .1 .1 .0) (c₆ .if1 .left) q
+    (sym (c₂ .before .be162 .ensures .0) ∙ c₂ .if2 .taken) in
+    (rw (c .with-pair-at .ensures .0) s, (f .0, omega (arith, f .1)))
 
 returns-3 : tie.Need-returns-3
 returns-3 c =
@@ -55,9 +63,7 @@ backward-spec =
     (λ c. search needs)
     be16-requires
     be16-requires-2
-    (λ c κs. search needs)
-    sub-with-pair
-    (λ c κs. search needs)
+    sub-with-pair-at
     (λ c κs. search needs)
     returns-2
     returns-3)
