@@ -1,6 +1,5 @@
 -- The best-gap table that an accepted block stores: what its pairs say of the gaps.
 -- Assumes nothing.
-
 use native.Mathlib.Omega.{arith}
 use mathlib.Core.Bool.{Bool, true, _&&_}
 use mathlib.Core.Path.{_≡_, sym, ap₂}

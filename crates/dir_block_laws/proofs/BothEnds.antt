@@ -65,6 +65,21 @@ module _ (e : Edition) (b : List ℕ) (t : Tiled e b) where
       let m = between e (e .header) (w .before) (w .behind) (v .before) (v .behind) (laid-at (w .before) (w .behind) (w .all)) (sym (w .all) ∙ v .all) (omega (arith, w .place, v .place)) in
       (m .0, m .1, omega (arith, w .place, v .place, m .2))
 
+  -- two places at one offset: the same records lie behind them
+  same-behind : (o : ℕ) (w y : Place e b o) → w .behind ≡ y .behind
+  same-behind o w y = go (m .0) (m .1) (m .2)
+    where
+      m : Between o o w y
+      m = places o o w y (le-refl o)
+
+      go : (ms : List Rec) → w .behind ≡ ms ++ y .behind → o + length (join ms) ≡ o → w .behind ≡ y .behind
+      go [] q n = q
+      go (z ∷ ms) q n =
+          let l : Laid e (e .header + length (join (w .before))) (z ∷ (ms ++ y .behind)) =
+          subst (λ (rs : List Rec). Laid e (e .header + length (join (w .before))) rs) q
+          (laid-back e (e .header) (w .before) (w .behind) (laid-at (w .before) (w .behind) (w .all))) in
+          absurd (omega (arith, l .1 .least, length-append (z .raw) (join ms)))
+
   -- no place lies within a record
   behind-it : (o u : ℕ) (xs : List Rec) (y : Rec) (ys : List Rec) → Here e b t xs y ys o → e .header + length (join xs) ≡ o → Place e b u → o < u → o + size y ≤ u
   behind-it o u xs y ys s p v h = go (m .0) (m .1) (m .2)
@@ -187,62 +202,30 @@ module _ (e : Edition) (b : List ℕ) (t : Tiled e b) where
   -- ---- where they meet
 
   pub both-met : (o v u : ℕ) (ps qs : List Pair) → Gaps-before e b o ps → Gaps-up-to e b v u qs → o ≤ u → u ≤ o → Gaps-before e b v (ins-all qs ps)
-  both-met o v u ps qs s r h k = go (m .0) (m .1) (m .2)
-    where
-      w : Place e b o
-      w = s .spot
-
-      y : Place e b u
-      y = spot-of v u qs r
-
-      m : Between o u w y
-      m = places o u w y h
-
-      la : Laid e (e .header) (w .before ++ w .behind)
-      la = laid-at (w .before) (w .behind) (w .all)
-
-      go : (ms : List Rec) → w .behind ≡ ms ++ (r .between ++ r .beyond) → o + length (join ms) ≡ u → Gaps-before e b v (ins-all qs ps)
-      go [] q n =
-          let lb : Laid e (e .header) (w .before ++ r .between) =
-          laid-front e (e .header) (w .before ++ r .between) (r .beyond)
-          (subst (λ (l : List Rec). Laid e (e .header) l) (ap (λ (l : List Rec). w .before ++ l) q ∙ sym (append-assoc (w .before) (r .between) (r .beyond))) la) in
-          record {
-            spot =
-                record {
-                  before = w .before ++ r .between;
-                  behind = r .beyond;
-                  all = w .all ∙ ap (λ (l : List Rec). w .before ++ l) q ∙ sym (append-assoc (w .before) (r .between) (r .beyond));
-                  place = omega (arith, ap length (join-append (w .before) (r .between)), length-append (join (w .before)) (join (r .between)), w .place, r .upto);
-                };
-            best =
-                tables-joined 4 e (e .header) (w .before) (r .between) lb ∙ ap₂ ins-all (r .best) (s .best);
-          }
-      go (z ∷ ms) q n =
-          let l : Laid e (e .header + length (join (w .before))) (z ∷ (ms ++ (r .between ++ r .beyond))) =
-          subst (λ (rs : List Rec). Laid e (e .header + length (join (w .before))) rs) q (laid-back e (e .header) (w .before) (w .behind) la) in
-          absurd (omega (arith, l .1 .least, length-append (z .raw) (join ms)))
+  both-met o v u ps qs s r h k =
+      let w : Place e b o = s .spot in
+      let y : Place e b o = record { before = r .before; behind = r .between ++ r .beyond; all = r .all; place = omega (arith, r .place) } in
+      let q : records e b ≡ (w .before ++ r .between) ++ r .beyond =
+      w .all ∙ ap (λ (l : List Rec). w .before ++ l) (same-behind o w y) ∙ sym (append-assoc (w .before) (r .between) (r .beyond)) in
+      let l : Laid e (e .header) (w .before ++ r .between) = laid-front e (e .header) (w .before ++ r .between) (r .beyond) (laid-at (w .before ++ r .between) (r .beyond) q) in
+      record {
+        spot =
+            record {
+              before = w .before ++ r .between;
+              behind = r .beyond;
+              all = q;
+              place = omega (arith, ap length (join-append (w .before) (r .between)), length-append (join (w .before)) (join (r .between)), w .place, r .upto);
+            };
+        best = tables-joined 4 e (e .header) (w .before) (r .between) l ∙ ap₂ ins-all (r .best) (s .best);
+      }
 
   -- ---- at the data's end, and at T
 
   -- all gaps
   pub all-gaps : (v : ℕ) (ps : List Pair) → v ≡ data-end b → Gaps-before e b v ps → best-of 4 (gaps (records e b)) ≡ ps
-  all-gaps v ps d s = go (m .0) (m .1) (m .2)
-    where
-      w : Place e b v
-      w = s .spot
-
-      y : Place e b v
-      y = end-place e b t v d
-
-      m : Between v v w y
-      m = places v v w y (le-refl v)
-
-      go : (ms : List Rec) → w .behind ≡ ms ++ [] → v + length (join ms) ≡ v → best-of 4 (gaps (records e b)) ≡ ps
-      go [] q n = ap (λ (l : List Rec). best-of 4 (gaps l)) (w .all ∙ ap (λ (l : List Rec). w .before ++ l) q ∙ append-nil (w .before)) ∙ s .best
-      go (z ∷ ms) q n =
-          let l : Laid e (e .header + length (join (w .before))) (z ∷ (ms ++ [])) =
-          subst (λ (rs : List Rec). Laid e (e .header + length (join (w .before))) rs) q (laid-back e (e .header) (w .before) (w .behind) (laid-at (w .before) (w .behind) (w .all))) in
-          absurd (omega (arith, l .1 .least, length-append (z .raw) (join ms)))
+  all-gaps v ps d s =
+      let w : Place e b v = s .spot in
+      ap (λ (l : List Rec). best-of 4 (gaps l)) (w .all ∙ ap (λ (l : List Rec). w .before ++ l) (same-behind v w (end-place e b t v d)) ∙ append-nil (w .before)) ∙ s .best
 
   -- T, where there is one
   place-of-t : (u : ℕ) (xs : List Rec) (x : Rec) → records e b ≡ xs ++ (x ∷ []) → x .off ≡ u → Place e b u
@@ -278,21 +261,9 @@ module _ (e : Edition) (b : List ℕ) (t : Tiled e b) where
             ∙ ap (best-of 4) (keep-append (elsewhere u) (gaps (w .before)) (gaps (w .behind)) ∙ ap₂ (λ (l m : List Rec). l ++ m) stay z ∙ append-nil (gaps (w .before)))
             ∙ g .best
 
-        same : (zs : List Rec) (y : Place e b u) → y .behind ≡ zs → besides u (gaps zs) ≡ [] → besides u (gaps (w .behind)) ≡ []
-        same zs y i z = at (m .0) (m .1) (m .2)
-          where
-            m : Between u u w y
-            m = places u u w y (le-refl u)
-
-            at : (ms : List Rec) → w .behind ≡ ms ++ y .behind → u + length (join ms) ≡ u → besides u (gaps (w .behind)) ≡ []
-            at [] q n = ap (λ (l : List Rec). besides u (gaps l)) (q ∙ i) ∙ z
-            at (x ∷ ms) q n =
-                let l : Laid e (e .header + length (join (w .before))) (x ∷ (ms ++ y .behind)) =
-                subst (λ (rs : List Rec). Laid e (e .header + length (join (w .before))) rs) q (laid-back e (e .header) (w .before) (w .behind) (laid-at (w .before) (w .behind) (w .all))) in
-                absurd (omega (arith, l .1 .least, length-append (x .raw) (join ms)))
-
         go : Touch (data-end b) (records e b) → best-of 4 (besides u (gaps (records e b))) ≡ ps
         go (real xs x q xp xq) =
             let i : x .off ≡ u = sym (ap (λ (r : Rec). r .off) xq) ∙ s .touch-off in
-            done (same (x ∷ []) (place-of-t u xs x q i) refl (rw xp (rw (eq-eqb (x .off) u i))))
-        go (unreal xq) = done (same [] (end-place e b t u (sym (s .touch-off) ∙ ap (λ (r : Rec). r .off) xq)) refl refl)
+            done (ap (λ (l : List Rec). besides u (gaps l)) (same-behind u w (place-of-t u xs x q i)) ∙ rw xp (rw (eq-eqb (x .off) u i)))
+        go (unreal xq) =
+            done (ap (λ (l : List Rec). besides u (gaps l)) (same-behind u w (end-place e b t u (sym (s .touch-off) ∙ ap (λ (r : Rec). r .off) xq))))

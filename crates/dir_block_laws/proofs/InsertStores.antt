@@ -1,4 +1,4 @@
--- An insert: writes that may change places, and the room rule's case from what a pass found.
+-- An insert: writes that may change places, and the room rule's case from the longest gap and T.
 -- Assumes nothing.
 use Prim.Native.Nat.{ℕ, zero, suc, _+_, _-_, _*_, _/_, _%_, _≤_, _<_}
 use native.Mathlib.Omega.{arith}
@@ -80,7 +80,7 @@ index-first b c d L ss st ws h p q =
     ∙ written-comm b (L - 8 - 8 * length ss) (slot-bytes ss ++ (to-be 4 (length ss) ++ to-be 4 st)) ws h
     ∙ sym (written-append b ws (index-writes L ss st))
 
--- ---- the room rule from what a pass found
+-- ---- the room rule from the longest gap and T
 
 pair-from : {p q : Pair} {ps qs : List Pair} → p ∷ ps ≡ q ∷ qs → p ≡ q
 pair-from {p} {q} {ps} {qs} h = cc

@@ -186,7 +186,7 @@ rising-each f o [] h r = refl
 rising-each f o (g ∷ gs) h r =
     every-cons f g gs (h g (r .0) (r .1)) (rising-each f (g .off + size g) gs (λ x l s. h x (omega (arith, r .0)) s) (r .2))
 
-pub best-rest : (k o : ℕ) (us vs : List Rec) (g : Rec) → Rising o (us ++ (g ∷ vs)) → longest (us ++ (g ∷ vs)) ≡ g
+best-rest : (k o : ℕ) (us vs : List Rec) (g : Rec) → Rising o (us ++ (g ∷ vs)) → longest (us ++ (g ∷ vs)) ≡ g
     → best-of (suc k) (us ++ (g ∷ vs)) ≡ named-by g ∷ best-of k (us ++ vs)
 best-rest k o us vs g r i =
     let w : Rising o (g ∷ vs) = rising-back o us (g ∷ vs) r in
@@ -205,7 +205,6 @@ best-rest k o us vs g r i =
 -- a gap before the others
 pub best-ahead : (k o : ℕ) (g : Rec) (gs : List Rec) → Rising o (g ∷ gs) → best-of k (g ∷ gs) ≡ ins-at (named-by g) (best-of k gs)
 best-ahead k o g gs r =
-    let p : Pair = named-by g in
     let b : every (clear (named-by g)) gs ≡ true =
     rising-each (clear (named-by g)) (g .off + size g) gs
     (λ v h n. or-right (ltb (size g) (size v)) (ltb (g .off) (v .off)) (lt-ltb (g .off) (v .off) (omega (arith, r .1)))) (r .2) in

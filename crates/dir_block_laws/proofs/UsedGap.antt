@@ -254,9 +254,6 @@ module _ (e : Edition) (sane : Sane e) (b n : List ℕ) (i : Target) (r : Ready 
       abbrev at : (s : Split gs) × (s .here ≡ longest gs)
       at = longest-in gs (omega (arith, some-need, long))
 
-      abbrev g : Rec
-      g = at .0 .here
-
       fits : E ≤ size (at .0 .here)
       fits = omega (arith, ap size (at .1), long)
 

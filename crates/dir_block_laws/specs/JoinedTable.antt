@@ -1,4 +1,4 @@
--- The best-gap table of pairs in offset order, where a gap takes the place of some.
+-- The best-gap table of pairs in offset order: where a gap takes the place of some, and but for one.
 -- Assumes nothing.
 use Prim.Native.Nat.{ℕ, _-_}
 use mathlib.Core.Bool.{cond}

@@ -43,7 +43,7 @@ pub record Next-place (e : Edition) (b : List ℕ) (o p : ℕ) : Type 0 where
   pub on : o < p
   pub first : (u : ℕ) → Place e b u → o < u → p ≤ u
 
--- what a pass shows: the longest gaps, as many as there are pairs, and T
+-- what is known of the gaps: the longest, as many as there are pairs, and T
 pub record Scanned (e : Edition) (b : List ℕ) (ps : List Pair) (u k : ℕ) : Type 0 where
   pub best : best-of (length ps) (gaps (records e b)) ≡ ps
   pub touch-off : touching (data-end b) (records e b) .off ≡ u

@@ -120,7 +120,7 @@ fn with_pair_at(s: Scan, o: usize, l: usize) -> Scan
     r
 }
 
-// No gap, before a walk from o on.
+// No gap; a walk stands at o.
 fn start(o: usize) -> Scan
     ensures { λ r. ⌜ (table r ≡ best-of 4 []) × (three r ≡ empty-table) × (r .at ≡ o) ⌝ }
 {

@@ -1,5 +1,5 @@
-// TWICE, test 10 of a block directory: no name is stored twice. Names are compared only within runs of one hash, and there only where a
-// second hash agrees too; where that still happens often, the names are sorted, and their order is tested.
+// TWICE, test 10 of a block directory: no name is stored twice. Names are compared only within runs of one hash, and there only where the
+// bits of a second hash are set already; where that still happens often, the names are sorted, and their order is tested.
 ghost use mathlib.Core.Path.{_≡_};
 ghost use mathlib.Core.Bool.{true, false, _||_};
 ghost use Prim.Native.Nat.{_+_, _*_, _≤_, _<_};
@@ -497,7 +497,7 @@ fn sorted(e: Edition, b: &[u8], t: usize, n: usize) -> Finding
     sorted_with(e, b, t, n, &mut order, &mut rank)
 }
 
-// By sorting, and were the order wrong, which it is not in a block that has passed INDEX, by comparing names with each other. Both ways that
+// By sorting, and were the order wrong, which it is not in a block that has passed INDEX, by the table with as many comparisons as it takes. Both ways that
 // come before it call this one, so that its arrays are in no test's frame that does not need them: a frame's pages are touched one by one.
 fn once_slow(e: Edition, b: &[u8], t: usize, n: usize) -> bool
     requires { ⌜ (t + 8 * n ≤ length (now b)) × Reach (now b) t n × (n ≤ most-slots) ⌝ }
@@ -526,7 +526,7 @@ fn once_few(e: Edition, b: &[u8], t: usize, n: usize) -> bool
     once_slow(e, b, t, n)
 }
 
-// Many names, of which two or three in 2,000 find their bits set by chance.
+// Many names, of which some four in 2,000 find their bits set by chance.
 fn once_many(e: Edition, b: &[u8], t: usize, n: usize) -> bool
     requires { ⌜ (t + 8 * n ≤ length (now b)) × Reach (now b) t n × (n ≤ most-slots) ⌝ }
     ensures { λ r. ⌜ r ≡ once-in e (now (b .entry)) (slots-from (now (b .entry)) t n 0) ⌝ }

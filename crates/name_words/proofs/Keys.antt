@@ -43,10 +43,10 @@ module _ (b : List ℕ) (known : (k : ℕ) → byte k b < 256) (i end : ℕ) (fi
 pub two-range : (n : ℕ) → (ltb 8 n && leb n 16) ≡ true → (8 < n) × (n ≤ 16)
 two-range n h = (ltb-true 8 n (and-left (ltb 8 n) (leb n 16) h), leb-true n 16 (and-right (ltb 8 n) (leb n 16) h))
 
-pub two-keys : (b : List ℕ) → ((k : ℕ) → byte k b < 256) → (i n : ℕ) → 8 < n → n ≤ 16 → i + n + 8 ≤ length b → (k w u v x r : ℕ)
+pub key-of-two : (b : List ℕ) → ((k : ℕ) → byte k b < 256) → (i n : ℕ) → 8 < n → n ≤ 16 → i + n + 8 ≤ length b → (k w u v x r : ℕ)
     → w ≡ le (part i 8 b) → x ≡ mix k w → u ≡ le (part (i + 8) 8 b) → v ≡ le (to-le (n - 8) u) * 2 ^ (64 - 8 * (n - 8)) → r ≡ mix x v
     → r ≡ key-from ((n - 1) / 8) k (part i n b)
-two-keys b known i n p q fits k w u v x r ew ex eu ev er =
+key-of-two b known i n p q fits k w u v x r ew ex eu ev er =
     let e : i + n - i ≡ n = omega arith in
     let f : n - 8 ≡ i + n - (i + 8) = omega arith in
     let g : v ≡ le (to-le (i + n - (i + 8)) u) * 2 ^ (64 - 8 * (i + n - (i + 8))) = ev ∙ ap (λ (m : ℕ). le (to-le m u) * 2 ^ (64 - 8 * m)) f in

@@ -342,7 +342,7 @@ fn key_words(b: &[u8], i0: usize, end: usize, k0: u64) -> u64
 }
 
 // The same of n bytes, 9 to 16 as many names have, from the key n: without a loop.
-fn two_keys(b: &[u8], i: usize, n: usize) -> u64
+fn key_of_two(b: &[u8], i: usize, n: usize) -> u64
     requires { ⌜ (8 < n) × (n ≤ 16) × (i + n + 8 ≤ length (now b)) ⌝ }
     ensures { λ r. ⌜ r ≡ key-from ((n - 1) / 8) n (part i n (now (b .entry))) ⌝ }
 {
@@ -369,7 +369,7 @@ pub fn key(b: &[u8], i: usize, end: usize) -> usize
     }
     let n = end - i;
     if (8 < n) & (n <= 16) {
-        return finished(two_keys(b, i, n));
+        return finished(key_of_two(b, i, n));
     }
     finished(key_words(b, i, end, n as u64))
 }

@@ -30,7 +30,7 @@ loop-holds c =
       ),
     )
 
--- the walk from v on stands at a place
+-- the walk from the front goes on only before a place, that of the other walk
 stands : tie.Need-forward-requires Inv-loop μ-loop
 stands c κs =
     let p = c .before .before .before .before .before .before .before in

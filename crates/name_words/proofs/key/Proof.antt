@@ -10,8 +10,8 @@ returns c =
     let p = c .before .before .pre in
     (key-none _ _ _ (p .0) (p .1) (c .if1 .taken), omega arith)
 
-two-keys-requires : tie.Need-two-keys-requires
-two-keys-requires c κs =
+key-of-two-requires : tie.Need-key-of-two-requires
+key-of-two-requires c κs =
     let a = c .before .before .before .args in
     let r = two-range (a .end - a .i) (c .if2 .taken) in
     (r .0, r .1, omega arith)
@@ -19,7 +19,7 @@ two-keys-requires c κs =
 returns-2 : tie.Need-returns-2
 returns-2 c =
     let p = c .before .before .before .before .before .pre in
-    (key-some _ _ _ (p .0) (p .1) _ _ (c .before .before .before .if1 .left) (c .before .two-keys .ensures) (c .finished .ensures .0), c .finished .ensures .1)
+    (key-some _ _ _ (p .0) (p .1) _ _ (c .before .before .before .if1 .left) (c .before .key-of-two .ensures) (c .finished .ensures .0), c .finished .ensures .1)
 
 returns-3 : tie.Need-returns-3
 returns-3 c =
@@ -32,7 +32,7 @@ key-spec =
     (tie.spec
     returns
     (λ c. search needs)
-    two-keys-requires
+    key-of-two-requires
     (λ c κs. search needs)
     returns-2
     (λ c κs. search needs)
