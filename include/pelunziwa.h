@@ -13,11 +13,12 @@
  *    4 SPAN    a stored total does not fit
  *    5 TILE    records do not fill the span
  *    6 NAME    a stored name breaks the rules
- *    7 NUMBER  a stored inode number is out of range; an attribute's flags are wrong
+ *    7 NUMBER  a stored inode number is out of range; in a block, an entry but "." and ".." has the number of "."; an attribute's
+ *              flags are wrong
  *    8 INDEX   stored counts or index disagree with the entries
  *    9 BEST    the best-gap table is wrong (blocks)
  *   10 TWICE   a name is stored twice
- *   11 ASKED   the caller's name, number, flags or walk place are not legal
+ *   11 ASKED   the caller's name, number, flags or walk place are not legal; a block is asked to take the number of its "."
  *   12 FIXED   directories: "." or ".." inserted or removed; "." looked up in a short form
  *   13 ABSENT  lookup or removal: no such live entry
  *   14 EXISTS  directory insert: the name is there
@@ -57,7 +58,7 @@ static inline const char *pzw_sentence(uint32_t refusal)
     case PZW_SPAN: return "a stored total does not fit";
     case PZW_TILE: return "the records do not fill their span";
     case PZW_NAME: return "a stored name breaks the rules";
-    case PZW_NUMBER: return "a stored inode number is out of range, or an attribute's flags are wrong";
+    case PZW_NUMBER: return "a stored inode number is out of range or that of the directory itself, or an attribute's flags are wrong";
     case PZW_INDEX: return "stored counts or the index disagree with the entries";
     case PZW_BEST: return "the best-gap table is wrong";
     case PZW_TWICE: return "a name is stored twice";
@@ -115,7 +116,7 @@ pzw_attr_step pzw_attr_step_at(const uint8_t *inode, size_t len, uint64_t place)
 uint32_t      pzw_block_test(const uint8_t *block, size_t len);
 /* The inode number and the tag stored with a name, and the names compared, also when it is absent (13). */
 pzw_found     pzw_block_lookup(const uint8_t *block, size_t len, const uint8_t *name, size_t name_len);
-/* Puts an entry in: changes the block, nothing if refused. */
+/* Puts an entry in, with a number other than that of ".": changes the block, nothing if refused. */
 uint32_t      pzw_block_insert(uint8_t *block, size_t len, const uint8_t *name, size_t name_len, uint64_t number);
 /* Takes an entry out: changes the block, nothing if refused. */
 uint32_t      pzw_block_remove(uint8_t *block, size_t len, const uint8_t *name, size_t name_len);

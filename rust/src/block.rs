@@ -52,7 +52,7 @@ pub fn lookup(block: &[u8], name: &[u8]) -> Result<Found, NotFound> {
     }
 }
 
-/// Puts a new entry in.
+/// Puts a new entry in. Its number may not be that of ".": no directory is inside itself.
 pub fn insert(block: &mut [u8], name: &[u8], number: u64) -> Result<(), Refusal> {
     // SAFETY: pointers and lengths are the slices' own; the exclusive borrow lets the call write the block.
     Refusal::check(unsafe {

@@ -18,7 +18,7 @@ pub enum Refusal {
     Tile = 5,
     /// A stored name breaks the rules.
     Name = 6,
-    /// A stored inode number is out of range, or an attribute's flags are wrong.
+    /// A stored inode number is out of range, an entry of a block but "." and ".." has the number of ".", or an attribute's flags are wrong.
     Number = 7,
     /// Stored counts or the index disagree with the entries.
     Index = 8,
@@ -26,7 +26,7 @@ pub enum Refusal {
     Best = 9,
     /// A name is stored twice.
     Twice = 10,
-    /// The caller's name, number, flags or walk place are not legal.
+    /// The caller's name, number, flags or walk place are not legal, or a block is asked to take the number of its ".".
     Asked = 11,
     /// "." or ".." inserted or removed, or "." looked up in a short form.
     Fixed = 12,
@@ -63,7 +63,7 @@ impl Refusal {
         (
             Refusal::Number,
             "NUMBER",
-            "a stored inode number is out of range, or an attribute's flags are wrong",
+            "a stored inode number is out of range or that of the directory itself, or an attribute's flags are wrong",
         ),
         (
             Refusal::Index,

@@ -136,6 +136,8 @@ struct Block<'a> {
     end: usize,
     stale: usize,
     pairs: [(u16, u16); 3],
+    /// The directory's own number, if "." stands where it has to.
+    own: u64,
 }
 
 impl<'a> Block<'a> {
@@ -162,6 +164,7 @@ impl<'a> Block<'a> {
             end,
             stale,
             pairs: [pair(0), pair(1), pair(2)],
+            own: be64(b, HEADER),
         })
     }
 
@@ -224,7 +227,8 @@ impl<'a> Block<'a> {
             return 6;
         }
         let number = be64(b, at);
-        if number == 0 || number >> 56 != 0 {
+        let inside_itself = number == self.own && at > HEADER + 16;
+        if number == 0 || number >> 56 != 0 || inside_itself {
             return 7;
         }
         if !self.index.holds(hash, (at / 8) as u32) {

@@ -209,9 +209,14 @@ fn slots_of_other_entries() {
     lab.cover.require("block_test", &[8], &[], &[]);
 }
 
+/// An entry bears the own number: each call meets such a block.
+const STORED: &str = "own number stored";
+
 fn all_reached(lab: &Lab) {
-    lab.cover.require("block_test", &TESTS, &[], &[]);
+    let numbers = [STORED, "parent is itself"];
+    lab.cover.require("block_test", &TESTS, &[], &numbers);
     let compared = [
+        STORED,
         "found after 2 or more",
         "absent after none",
         "absent after 2 or more",
@@ -219,6 +224,8 @@ fn all_reached(lab: &Lab) {
     lab.cover
         .require("block_lookup", &TESTS, &[11, 13], &compared);
     let rooms = [
+        STORED,
+        "own number asked",
         "room (a)",
         "room (b)",
         "room (b) without T",
@@ -233,10 +240,16 @@ fn all_reached(lab: &Lab) {
     ];
     lab.cover
         .require("block_insert", &TESTS, &[11, 12, 14, 15], &rooms);
-    let joins = ["joins none", "joins left", "joins right", "joins both"];
+    let joins = [
+        STORED,
+        "joins none",
+        "joins left",
+        "joins right",
+        "joins both",
+    ];
     lab.cover
         .require("block_remove", &TESTS, &[11, 12, 13], &joins);
-    let seen = ["live", "gap", "end"];
+    let seen = [STORED, "live", "gap", "end"];
     lab.cover.require("block_step", &TESTS, &[11], &seen);
 }
 
@@ -310,7 +323,8 @@ impl<const LEN: usize> Structure for Blocks<LEN> {
     }
 
     fn put(lab: &mut Lab, case: &Case, name: &Vec<u8>) -> Change {
-        let number = names::number(&mut lab.rng);
+        let own = build::own_number(&case.bytes);
+        let number = names::number(&mut lab.rng, Some(own));
         lab.block_insert(&case.bytes, name, number)
     }
 

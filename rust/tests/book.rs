@@ -61,7 +61,7 @@ impl Directory for Block {
         book_lookup(book, name)
     }
 
-    /// Every legal absent name that is no longer, with any legal number.
+    /// Every legal absent name that is no longer, with any legal number but the directory's own.
     fn refill(&self, rng: &mut Rng, removed: (&[u8], u64)) {
         let held = self.held();
         let len = rng.between(1, removed.0.len());
@@ -69,7 +69,10 @@ impl Directory for Block {
         let name = drawn.find(|name| !held.contains_key(name));
         let name = name.expect("an absent name");
         let wide = rng.one_in(2);
-        let number = names::legal_number(rng, wide);
+        let own = held[&b"."[..]];
+        let number = names::entry_number(rng, wide, own);
+        let refused = Block(self.0.clone()).insert(&name, own);
+        assert_eq!(refused, Err(model::ASKED));
         assert_eq!(Block(self.0.clone()).insert(&name, number), Ok(()));
     }
 }
@@ -140,7 +143,7 @@ fn blocks_follow_the_book() {
             follow(&mut rng, block, &mut done);
         }
     }
-    all_reached(&done, &[0, 11, 13]);
+    all_reached(&done, &[0, 11, 13], &[11]);
 }
 
 #[test]
@@ -153,7 +156,7 @@ fn short_forms_follow_the_book() {
             follow(&mut rng, ShortForm { inode, told }, &mut done);
         }
     }
-    all_reached(&done, &[0, 11, 12, 13]);
+    all_reached(&done, &[0, 11, 12, 13], &[]);
 }
 
 type Reached = BTreeMap<(&'static str, u32), usize>;
@@ -167,12 +170,13 @@ fn follow<D: Directory>(rng: &mut Rng, mut dir: D, done: &mut Reached) {
     }
 }
 
-/// Every answer that the book has, and no other.
-fn all_reached(done: &Reached, lookups: &[u32]) {
+/// Every answer that the book has, and no other. A short form does not store its own number.
+fn all_reached(done: &Reached, lookups: &[u32], own: &[u32]) {
     println!("{done:?}");
     let answers = [
         ("insert", &[0, 11, 12, 14, 15][..]),
         ("insert after removal", &[0]),
+        ("insert of the own number", own),
         ("lookup", lookups),
         ("removal", &[0, 11, 12, 13]),
     ];
@@ -194,13 +198,18 @@ fn one_call<D: Directory>(rng: &mut Rng, dir: &mut D, book: &mut Book) -> (&'sta
             ("lookup", want.err().unwrap_or(0))
         }
         1 | 2 => {
-            let number = names::number(rng);
+            let own = own_number(book);
+            let number = names::number(rng, own);
             let new = names::legal(rng);
             let name = rng.pick(&[name, new]);
             let room = dir.has_room(&name, number);
             let want = book_insert(book, &name, number, room);
             assert_eq!(dir.insert(&name, number), want);
-            ("insert", want.err().unwrap_or(0))
+            let call = match own == Some(number) {
+                true => "insert of the own number",
+                false => "insert",
+            };
+            (call, want.err().unwrap_or(0))
         }
         _ => {
             let number = book.get(&name).copied();
@@ -223,8 +232,14 @@ fn book_lookup(book: &Book, name: &[u8]) -> Result<u64, u32> {
     }
 }
 
+/// The number held for ".", which a short form's book does not hold.
+fn own_number(book: &Book) -> Option<u64> {
+    book.get(&b"."[..]).copied()
+}
+
 fn book_insert(book: &mut Book, name: &[u8], number: u64, room: bool) -> Result<(), u32> {
-    if !model::legal_name(V4, name) || !model::legal_number(number) {
+    let legal_number = model::legal_number(number) && own_number(book) != Some(number);
+    if !model::legal_name(V4, name) || !legal_number {
         Err(model::ASKED)
     } else if model::is_dot(name) {
         Err(model::FIXED)

@@ -100,7 +100,7 @@ impl Structure for ShortForms {
     }
 
     fn put(lab: &mut Lab, case: &Case, name: &Vec<u8>) -> Change {
-        let number = names::number(&mut lab.rng);
+        let number = names::number(&mut lab.rng, None);
         insert(lab, case, name, number)
     }
 

@@ -98,7 +98,7 @@ fn blocks() {
                     (want.refusal, want.compared)
                 ),
             }
-            let number = names::number(&mut rng);
+            let number = names::number(&mut rng, Some(build::own_number(&bytes)));
             let want = model::block::insert(V4, &bytes, &name, number);
             let got = block::insert(&mut bytes, &name, number);
             assert_eq!((code(&got), &bytes), (want.refusal, &want.bytes));
@@ -152,7 +152,7 @@ fn short_form_directories() {
                 (number, got.map_or(nothing, told)),
                 (want.refusal, told_by(want))
             );
-            let number = names::number(&mut rng);
+            let number = names::number(&mut rng, None);
             let want = model::sfdir::insert(V4, &bytes, size, &name, number);
             let got = sfdir::insert(&mut bytes, size, &name, number);
             assert_eq!((code(&got), &bytes), (want.refusal, &want.bytes));

@@ -2,7 +2,7 @@
 -- Assumes nothing.
 use Prim.Native.Nat.{ℕ, _+_}
 use native.Mathlib.Omega.{arith}
-use mathlib.Core.Bool.{Bool, true, cond, false≢true}
+use mathlib.Core.Bool.{Bool, true, false, cond, false≢true, true≢false}
 use mathlib.Core.Path.{_≡_, refl, sym, _∙_, ap, ap₂, subst}
 use mathlib.Core.List.{List, [], _∷_, _++_}
 use lib.Dec.{eqb}
@@ -15,7 +15,7 @@ use Rattle.name.specs.Name.{same-name}
 use Rattle.name.proofs.Same.{same-refl, same-eq}
 use Rattle.name.proofs.Once.{once, only-one}
 use Rattle.dir.specs.declared.Target.{Target}
-use Rattle.dir.specs.Target.{target, same-target}
+use Rattle.dir.specs.Target.{target, no-target, same-target}
 use Rattle.dir.specs.Book.{Held, held, Book, named, holds, target-held, same-held, SameBook}
 
 pub target-self : (t : Target) → same-target t t ≡ true
@@ -72,6 +72,12 @@ first-named e n (x ∷ k) h =
     (λ q. record { split = record { before = []; here = x; behind = k; is = refl }; is-named = q; target-is = rw q refl; without = λ p. rw q refl })
     (λ q. let r : First-named e n k = first-named e n k (rw q at h) in
     record { split = split-cons x k (r .split); is-named = r .is-named; target-is = rw q (r .target-is); without = λ p. rw q (omega (arith, r .without p)) })
+
+-- a name that is not held finds nothing
+pub target-none : (e : Edition) (n : List ℕ) (k : Book) → holds e n k ≡ false → target-held e n k ≡ no-target
+unfolding target-held
+target-none e n [] h = refl
+target-none e n (x ∷ k) h = by-cases (named e n x) (λ q. absurd (true≢false (rw q at h))) (λ q. rw q (target-none e n k (rw q at h)))
 
 -- each name is held once
 abbrev pub once-held : Edition → Book → Bool

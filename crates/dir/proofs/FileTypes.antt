@@ -7,7 +7,7 @@ use mathlib.Core.List.{List, [], _∷_}
 use mathlib.Core.Bool.{true, false}
 use lib.Dec.{eqb, leb, ltb}
 use lib.ListN.{length, drop, length-take}
-use borrow.Author.Tests.{eqb-true, eqb-false, leb-true, ltb-true}
+use borrow.Author.Tests.{eqb-true, eqb-false, ne-eqb, not-true, leb-true, ltb-true}
 use Rattle.be.specs.Bytes.{be, be-from, byte, bytes, field, part, to-be, put}
 use Rattle.be.proofs.Parts.{field-1, bytes-take, bytes-drop}
 use Rattle.be.proofs.Writes.{put-nothing}
@@ -16,8 +16,9 @@ use Rattle.be.proofs.Bools.{by-cases, and-left, and-right, and-both, every-head
 use Rattle.edition.specs.declared.Edition.{Edition}
 use Rattle.edition.specs.Edition.{Sane}
 use Rattle.name.specs.Name.{legal-number}
+use Rattle.name.proofs.Legality.{number-bounds}
 use Rattle.dir.specs.declared.Target.{Target}
-use Rattle.dir.specs.Target.{target, legal-type, legal-target, kept-of}
+use Rattle.dir.specs.Target.{target, legal-type, legal-target, legal-in, kept-of}
 
 module _ (e : Edition) (z : e .ftype ≡ 0) (o : ℕ) where
   pub kind-none : (u : List ℕ) → 0 ≡ field o (e .ftype) u
@@ -67,6 +68,19 @@ module _ (e : Edition) (t : Target) where
   pub target-both : legal-number (t .inode) ≡ true → legal-type e (t .kind) ≡ true → legal-target e t ≡ true
   unfolding legal-target
   target-both h k = and-both (legal-number (t .inode)) (legal-type e (t .kind)) h k
+
+  -- what an insert may ask for is legal, and not the directory's own number
+  pub asked-target : (own : ℕ) → legal-in e own t ≡ true → (legal-target e t ≡ true) × (eqb (t .inode) own ≡ false)
+  unfolding legal-in
+  asked-target own h = (and-left (legal-target e t) _ h, not-true _ (and-right (legal-target e t) _ h))
+
+  -- 0 is the own number of no directory: it keeps no legal target out
+  pub no-own : legal-in e 0 t ≡ legal-target e t
+  unfolding legal-in
+  no-own =
+      by-cases (legal-target e t)
+      (λ h. rw (h, ne-eqb (t .inode) 0 (λ (z : t .inode ≡ 0). omega (arith, number-bounds (t .inode) (target-number h)))) refl)
+      (λ h. rw h refl)
 
 -- what is kept of a legal type fits its bytes, and is what is read of them
 module _ (e : Edition) (sane : Sane e) (t : Target) where

@@ -2,7 +2,7 @@
 -- Assumes nothing.
 use Prim.Native.Nat.{ℕ}
 use mathlib.Core.Bool.{Bool, false, not, _&&_}
-use mathlib.Core.Path.{_≡_, refl}
+use mathlib.Core.Path.{_≡_, refl, ap}
 use mathlib.Core.List.{List}
 use lib.Dec.{eqb}
 use Rattle.refusal.specs.Refusal.{ASKED, FIXED, ABSENT, EXISTS, NOROOM}
@@ -11,23 +11,24 @@ use Rattle.be.proofs.Bools.{by-cases}
 use Rattle.edition.specs.declared.Edition.{Edition}
 use Rattle.name.specs.Name.{legal-name, fixed-name}
 use Rattle.dir.specs.declared.Target.{Target}
-use Rattle.dir.specs.Target.{legal-target}
+use Rattle.dir.specs.Target.{legal-in}
 use Rattle.dir.specs.Calls.{Call, look-up, insert, remove, done, done-or}
-use Rattle.dir.specs.Book.{Book, holds, book-reply, book-after, entered, is-done}
+use Rattle.dir.specs.Book.{Book, holds, own-held, book-reply, book-after, entered, is-done}
 
 module _ (e : Edition) (k : Book) (n : List ℕ) (there : Bool) (same : fixed-name n ≡ false → there ≡ holds e n k) where
-  pub insert-is : (t : Target) (room : Bool)
-      → done-or (ASKED unless legal-name e n && legal-target e t then FIXED unless not (fixed-name n) then EXISTS unless not there then NOROOM unless room then 0)
+  pub insert-is : (t : Target) (legal room : Bool) → legal ≡ legal-in e (own-held e k) t
+      → done-or (ASKED unless legal-name e n && legal then FIXED unless not (fixed-name n) then EXISTS unless not there then NOROOM unless room then 0)
       ≡ book-reply e k room (insert n t)
   unfolding book-reply
-  insert-is t room =
-      by-cases (legal-name e n && legal-target e t)
+  insert-is t legal room q =
+      let p : (legal-name e n && legal) ≡ (legal-name e n && legal-in e (own-held e k) t) = ap (λ (x : Bool). legal-name e n && x) q in
+      by-cases (legal-name e n && legal-in e (own-held e k) t)
       (λ l. by-cases (fixed-name n)
-      (λ f. rw (l, f) refl)
+      (λ f. rw (p, l, f) refl)
       (λ f. by-cases (holds e n k)
-      (λ h. rw (l, f, same f, h) refl)
-      (λ h. by-cases room (λ r. rw (l, f, same f, h, r) refl) (λ r. rw (l, f, same f, h, r) refl))))
-      (λ l. rw l refl)
+      (λ h. rw (p, l, f, same f, h) refl)
+      (λ h. by-cases room (λ r. rw (p, l, f, same f, h, r) refl) (λ r. rw (p, l, f, same f, h, r) refl))))
+      (λ l. rw (p, l) refl)
 
   pub remove-is : (room : Bool) → done-or (ASKED unless legal-name e n then FIXED unless not (fixed-name n) then ABSENT unless there then 0) ≡ book-reply e k room (remove n)
   unfolding book-reply

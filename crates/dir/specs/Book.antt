@@ -8,9 +8,9 @@ use Rattle.refusal.specs.Refusal.{ASKED, FIXED, ABSENT, EXISTS, NOROOM}
 use Rattle.be.specs.Codes.{_unless_then_}
 use Rattle.be.specs.Lists.{some-of, tally, without-first, same}
 use Rattle.edition.specs.declared.Edition.{Edition}
-use Rattle.name.specs.Name.{legal-name, same-name, fixed-name}
+use Rattle.name.specs.Name.{legal-name, same-name, fixed-name, dot}
 use Rattle.dir.specs.declared.Target.{Target}
-use Rattle.dir.specs.Target.{no-target, same-target, legal-target, kept-of}
+use Rattle.dir.specs.Target.{no-target, same-target, legal-in, kept-of}
 use Rattle.dir.specs.Calls.{Call, look-up, insert, remove, Reply, found, done, refuse}
 
 -- a name with its number and file type
@@ -35,16 +35,20 @@ unfoldable pub target-held : Edition → List ℕ → Book → Target
 target-held e n [] = no-target
 target-held e n (h ∷ hs) = let r = target-held e n hs in cond (named e n h) (h .target) r
 
+-- the directory's own number: the one held for "."; 0, which is no legal number, where "." is not held, as in a short form
+abbrev pub own-held : Edition → Book → ℕ
+own-held e k = target-held e dot k .inode
+
 -- the book's answer; room is whether the room rule finds room in the directory that the call gets. The first that applies counts.
 -- Lookup: name not legal, 11; held, its number and type; else 13.
--- Insert: name, number or type not legal, 11; "." or "..", 12; held, 14; no room, 15; else done.
+-- Insert: name, number or type not legal, or the directory's own number, 11; "." or "..", 12; held, 14; no room, 15; else done.
 -- Removal: name not legal, 11; "." or "..", 12; not held, 13; else done.
 unfoldable pub book-reply : Edition → Book → Bool → Call → Reply
 book-reply e k room (look-up n) =
     refuse ASKED unless legal-name e n then
     refuse ABSENT unless holds e n k then found (target-held e n k)
 book-reply e k room (insert n t) =
-    refuse ASKED unless legal-name e n && legal-target e t then
+    refuse ASKED unless legal-name e n && legal-in e (own-held e k) t then
     refuse FIXED unless not (fixed-name n) then
     refuse EXISTS unless not (holds e n k) then
     refuse NOROOM unless room then done

@@ -1,7 +1,7 @@
 -- What an entry's name stands for: an inode number and a file type.
 -- Assumes nothing.
 use Prim.Native.Nat.{ℕ}
-use mathlib.Core.Bool.{Bool, cond, _&&_, _||_}
+use mathlib.Core.Bool.{Bool, not, cond, _&&_, _||_}
 use lib.Dec.{eqb, leb}
 use Rattle.edition.specs.declared.Edition.{Edition}
 use Rattle.name.specs.Name.{legal-number}
@@ -24,6 +24,10 @@ legal-type e k = eqb (e .ftype) 0 || (leb 1 k && leb k 8)
 -- a legal number and type, as an insert asks for them
 unfoldable pub legal-target : Edition → Target → Bool
 legal-target e t = legal-number (t .inode) && legal-type e (t .kind)
+
+-- what an insert may ask for in a directory whose own number is `own`: a legal target, and not the directory itself
+unfoldable pub legal-in : Edition → ℕ → Target → Bool
+legal-in e own t = legal-target e t && not (eqb (t .inode) own)
 
 -- what an entry keeps of a target: an edition without a type byte ignores the type
 abbrev pub kept-of : Edition → Target → Target

@@ -6,7 +6,7 @@ ghost use Prim.Native.Nat.{_+_, _≤_};
 ghost use lib.ListN.{length};
 ghost use Rattle.be.specs.Bytes.{field, to-be, put};
 ghost use Rattle.edition.specs.Edition.{Sane};
-ghost use Rattle.dir.specs.Target.{legal-type, legal-target, kept-of};
+ghost use Rattle.dir.specs.Target.{legal-type, legal-target, legal-in, kept-of};
 use edition::Edition;
 
 // What an entry's name stands for: an inode number and a file type, 0 where the edition has none.
@@ -102,4 +102,11 @@ pub fn target_legal(e: Edition, t: Target) -> bool
     ensures { λ r. ⌜ r ≡ legal-target e t ⌝ }
 {
     name::number_legal(t.inode) & type_legal(e, t.kind)
+}
+
+// Whether an insert may ask for a target in a directory whose own number is `own`.
+pub fn legal_in(e: Edition, own: u64, t: Target) -> bool
+    ensures { λ r. ⌜ r ≡ legal-in e own t ⌝ }
+{
+    target_legal(e, t) & (t.inode != own)
 }

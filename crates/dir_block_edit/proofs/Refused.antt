@@ -11,8 +11,8 @@ use Rattle.be.proofs.Bools.{by-cases}
 use Rattle.be.specs.Codes.{_unless_then_}
 use Rattle.edition.specs.declared.Edition.{Edition}
 use Rattle.name.specs.Name.{legal-name, fixed-name}
-use Rattle.dir.specs.Target.{legal-target}
-use Rattle.dir_block_rules.specs.Verdict.{verdict}
+use Rattle.dir.specs.Target.{legal-in}
+use Rattle.dir_block_rules.specs.Verdict.{verdict, own-of}
 use Rattle.dir.specs.declared.Target.{Target}
 use Rattle.dir_block_rules.specs.Lookup.{sought}
 use Rattle.dir_block_rules.specs.Room.{has-room}
@@ -65,15 +65,15 @@ module _ (e : Edition) (b n : List ℕ) (i : Target) where
       (sym s, sym (rw (ne-eqb (insert-code e b n i) 0 (λ y. z (sym s ∙ y)))))
 
   module _ (t : ℕ) (tq : t ≡ verdict e b) (tz : t ≡ 0) where
-    insert-chain : insert-code e b n i ≡ asked-of (legal-name e n && legal-target e i) (fixed-name n) (EXISTS unless not (sought e b n .hit) then NOROOM unless has-room e b n then 0)
+    insert-chain : insert-code e b n i ≡ asked-of (legal-name e n && legal-in e (own-of e b) i) (fixed-name n) (EXISTS unless not (sought e b n .hit) then NOROOM unless has-room e b n then 0)
     unfolding insert-code asked-of
     insert-chain = rw (eq-eqb (verdict e b) 0 (sym tq ∙ tz)) refl
 
-    pub insert-refused : (r : ℕ) (l k : Bool) → l ≡ legal-name e n → k ≡ legal-target e i → r ≡ asked-of (l && k) (fixed-name n) 0 → (r ≡ 0 → ⊥)
+    pub insert-refused : (r : ℕ) (l k : Bool) → l ≡ legal-name e n → k ≡ legal-in e (own-of e b) i → r ≡ asked-of (l && k) (fixed-name n) 0 → (r ≡ 0 → ⊥)
         → (r ≡ insert-code e b n i) × (b ≡ insert-bytes e b n i)
     unfolding insert-bytes
     insert-refused r l k v w q z =
-        let q′ : r ≡ asked-of (legal-name e n && legal-target e i) (fixed-name n) 0 =
+        let q′ : r ≡ asked-of (legal-name e n && legal-in e (own-of e b) i) (fixed-name n) 0 =
         q ∙ ap₂ (λ (x y : Bool). asked-of (x && y) (fixed-name n) 0) v w in
         let s : insert-code e b n i ≡ r = insert-chain ∙ refused _ _ _ (λ y. z (q′ ∙ y)) ∙ sym q′ in
         (sym s, sym (rw (ne-eqb (insert-code e b n i) 0 (λ y. z (sym s ∙ y)))))

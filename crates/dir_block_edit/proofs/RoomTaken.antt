@@ -16,8 +16,8 @@ use Rattle.dir_block_rules.specs.Block.{slots, slot, stale-of, is-stale, is-liv
 use Rattle.name.specs.Name.{hash-of, legal-name, fixed-name}
 use Rattle.dir.specs.declared.Target.{Target}
 use Rattle.dir_block_rules.specs.Lookup.{sought}
-use Rattle.dir.specs.Target.{legal-target}
-use Rattle.dir_block_rules.specs.Verdict.{Pair, pair}
+use Rattle.dir.specs.Target.{legal-in}
+use Rattle.dir_block_rules.specs.Verdict.{own-of, Pair, pair}
 use Rattle.dir_block_rules.specs.Room.{has-room, room-of, other-gaps}
 use Rattle.dir_block_rules.specs.Change.{longest, index-writes, insert-slot, entry-writes, insert-writes, changed, insert-code, insert-bytes}
 use Rattle.dir_block_rules.proofs.EachCall.{insert-code-is}
@@ -73,7 +73,7 @@ module _ (e : Edition) (b n : List ℕ) (i : Target) (o₁ l₁ : ℕ) (ps : Lis
 
 -- ---- the answer
 
-module _ (e : Edition) (sane : Sane e) (b n : List ℕ) (i : Target) (r : Ready e b) (ln : legal-name e n ≡ true) (li : legal-target e i ≡ true) (fx : fixed-name n ≡ false) where
+module _ (e : Edition) (sane : Sane e) (b n : List ℕ) (i : Target) (r : Ready e b) (ln : legal-name e n ≡ true) (li : legal-in e (own-of e b) i ≡ true) (fx : fixed-name n ≡ false) where
   chain : insert-code e b n i ≡ (EXISTS unless not (sought e b n .hit) then NOROOM unless has-room e b n then 0)
   chain = insert-code-is e sane b (r .are-bytes) (r .ok) n i ∙ rw (ln, li, fx)
 

@@ -8,9 +8,10 @@ ghost use Rattle.be.specs.Lists.{without-first, keep};
 ghost use Rattle.be.specs.Bytes.{byte, bytes, to-be, put, written};
 ghost use Rattle.edition.specs.Edition.{v4, entry-size, Sane};
 ghost use Rattle.name.specs.Name.{hash-of, legal-name, fixed-name};
-ghost use Rattle.dir.specs.Target.{target, legal-target};
+ghost use Rattle.dir.specs.Target.{target, legal-in};
 ghost use Rattle.dir_block_rules.specs.Record.{entry-bytes, gap-writes, gaps, size};
 ghost use Rattle.dir_block_rules.specs.Block.{records, data-end, count-of, stale-of, slots, slot, is-stale, is-live};
+ghost use Rattle.dir_block_rules.specs.Verdict.{own-of};
 ghost use Rattle.dir_block_rules.specs.Lookup.{sought};
 ghost use Rattle.dir_block_rules.specs.Room.{has-room, room-of, other-gaps};
 ghost use Rattle.dir_block_rules.specs.Change.{longest, gap-start-before, gap-end-after, changed, remove-writes, remove-code, remove-bytes, index-writes, insert-slot, entry-writes, insert-code, insert-bytes};
@@ -377,11 +378,11 @@ fn choose(
     choose_cd(e, b, end, count, p, m, g.o1, g.l1, h, need, to, name)
 }
 
-// The insert of a legal name other than "." and "..", whose hash is h, with a legal number and type: 0, or 14 if it is there, or 15 if
+// The insert of a legal name other than "." and "..", whose hash is h, with what may be asked for: 0, or 14 if it is there, or 15 if
 // there is no room.
 fn insert_ready(e: Edition, b: &mut [u8], to: Target, name: &[u8], h: usize) -> usize
     requires { ⌜ Sane e × Ready e (now b) ⌝ }
-    requires { ⌜ (legal-name e (now name) ≡ true) × ((legal-target e to ≡ true) × ((fixed-name (now name) ≡ false) × (bytes (now name) ≡ true))) ⌝ }
+    requires { ⌜ (legal-name e (now name) ≡ true) × ((legal-in e (own-of e (now b)) to ≡ true) × ((fixed-name (now name) ≡ false) × (bytes (now name) ≡ true))) ⌝ }
     requires { ⌜ h ≡ hash-of e (now name) ⌝ }
     ensures { λ r. ⌜ (r ≡ insert-code e (now (b .entry)) (now (name .entry)) to)
         × (now (b .exit) ≡ insert-bytes e (now (b .entry)) (now (name .entry)) to) ⌝ }
@@ -417,6 +418,14 @@ fn request(name: &[u8], legal: bool) -> usize
     0
 }
 
+// The directory's own number: that of ".", which stands at the header's end.
+fn own_number(e: Edition, b: &[u8]) -> u64
+    requires { ⌜ Sane e × Ready e (now b) ⌝ }
+    ensures { λ r. ⌜ r ≡ own-of e (now (b .entry)) ⌝ }
+{
+    be::be64(b, e.header)
+}
+
 // Insert in a block of an edition: 0, or the number of the refusal. The block is tested first, then the request is judged.
 fn insert_in(e: Edition, b: &mut [u8], name: &[u8], to: Target) -> usize
     requires { ⌜ Sane e ⌝ }
@@ -428,7 +437,7 @@ fn insert_in(e: Edition, b: &mut [u8], name: &[u8], to: Target) -> usize
         return t;
     }
     let asked = name::legal(e, name);
-    let legal = dir::target_legal(e, to);
+    let legal = dir::legal_in(e, own_number(e, &b[..]), to);
     let refused = request(name, asked & legal);
     if refused != 0 {
         return refused;

@@ -15,8 +15,8 @@ use Rattle.edition.specs.Edition.{entry-size, Sane}
 use Rattle.dir_block_rules.specs.Record.{Rec, size, gaps, besides, is-gap, gap-writes}
 use Rattle.dir_block_rules.specs.Block.{Slot, slot, slots, records, data-end, stale-of, is-stale, is-live, slot-bytes, count-of}
 use Rattle.name.specs.Name.{hash-of, legal-name, fixed-name}
-use Rattle.dir.specs.Target.{legal-target}
-use Rattle.dir_block_rules.specs.Verdict.{Pair, pair}
+use Rattle.dir.specs.Target.{legal-in}
+use Rattle.dir_block_rules.specs.Verdict.{own-of, Pair, pair}
 use Rattle.dir_block_rules.specs.Room.{room-of, touching, other-gaps, has-room, case-a, case-b, case-c, case-d, last-of}
 use Rattle.dir_block_rules.specs.Change.{longest, best-of, index-writes, insert-slot, entry-writes, insert-writes, writes-a, writes-b, writes-c, writes-d}
 use Rattle.be.proofs.Bools.{by-cases}
@@ -237,7 +237,7 @@ other-inside e b n t o l h p q =
 
 -- ---- what an insert leaves before its table is written is tiled
 
-pub insert-tiled : (e : Edition) (sane : Sane e) (b n : List ℕ) (i : Target) → Ready e b → bytes n ≡ true → legal-name e n ≡ true → legal-target e i ≡ true → fixed-name n ≡ false
+pub insert-tiled : (e : Edition) (sane : Sane e) (b n : List ℕ) (i : Target) → Ready e b → bytes n ≡ true → legal-name e n ≡ true → legal-in e (own-of e b) i ≡ true → fixed-name n ≡ false
     → sought e b n .hit ≡ false → has-room e b n ≡ true → Tiled e (written b (insert-writes e b n i))
 insert-tiled e sane b n i r nb ln li fx ht rm =
     tiled-changed e sane b (insert-writes e b n i) (bytes-written b (insert-writes e b n i) (r .are-bytes) (all-insert e b n i nb (name-lt e n ln)))

@@ -3,7 +3,7 @@
 use Prim.Native.Nat.{ℕ, _+_, _≤_, _<_}
 use native.Mathlib.Omega.{arith}
 use native.Mathlib.Nat.{le-trans}
-use mathlib.Core.Bool.{Bool, true, false, not, _&&_, false≢true, Bool·beq}
+use mathlib.Core.Bool.{Bool, true, false, not, _&&_}
 use mathlib.Core.Path.{_≡_, refl, sym, _∙_, ap, ap₂, subst}
 use mathlib.Core.List.{List, _∷_}
 use lib.Dec.{eqb, leb}
@@ -20,16 +20,16 @@ use Rattle.edition.specs.declared.Edition.{Edition}
 use Rattle.edition.specs.Edition.{entry-size, Sane}
 use Rattle.name.specs.Name.{legal-name, fixed-name, same-name, dot, dotdot}
 use Rattle.dir.specs.declared.Target.{Target}
-use Rattle.dir.specs.Target.{kept-of, legal-target}
+use Rattle.dir.specs.Target.{kept-of, legal-in}
 use Rattle.dir_block_rules.specs.Record.{Rec, size, entries, gaps, name}
 use Rattle.dir_block_rules.specs.Block.{records, stale-of}
-use Rattle.dir_block_rules.specs.Verdict.{Accepted, names-ok, name-ok, entry-stands}
+use Rattle.dir_block_rules.specs.Verdict.{Accepted, name-ok, entry-stands, own-of}
 use Rattle.dir_block_rules.specs.Lookup.{lookup, lookup-refusal, sought, target-at}
 use Rattle.dir_block_rules.specs.Room.{some-stale, room-of, has-room}
 use Rattle.dir_block_rules.specs.Change.{insert-writes, insert-code, insert-bytes, remove-writes, remove-code, remove-bytes}
 use Rattle.dir.specs.Calls.{done-or, Call, look-up, insert, remove, found, done, call-name}
 use Rattle.dir_block_rules.specs.Calls.{reply, after, book-of}
-use Rattle.dir.specs.Book.{Held, held, Book, named, holds, target-held, SameBook, book-reply, book-after, is-done}
+use Rattle.dir.specs.Book.{Held, held, Book, named, holds, target-held, own-held, SameBook, book-reply, book-after, is-done}
 use Rattle.dir.specs.Along.{call-bytes}
 use Rattle.dir_block_rules.specs.Demand.{Reuse, Call-right, book-next}
 use Rattle.be.proofs.Bools.{and-left, and-right, by-cases, clash}
@@ -43,6 +43,7 @@ use Rattle.dir_block_rules.proofs.BooksAgree.{holds-entries, first-is, 
 use Rattle.dir_block_rules.proofs.InsertFree.{Asked}
 use Rattle.dir_block_rules.proofs.InsertCases.{Inserted, insert-any}
 use Rattle.dir_block_rules.proofs.LookupFinds.{Removed, hit-of, spot, spot-name, target-found, removed-of}
+use Rattle.dir_block_rules.proofs.OwnHeld.{dot-place, dotdot-place, fixed-there, own-same}
 use Rattle.dir_block_rules.proofs.StaysBytes.{bytes-changed, all-insert, all-remove}
 
 pub name-lt : (e : Edition) (n : List ℕ) → legal-name e n ≡ true → length n < 256
@@ -70,7 +71,7 @@ module _ (e : Edition) (sane : Sane e) (b : List ℕ) (h : bytes b ≡ true) (a 
       (λ l. rw (a, l) refl)
 
   pub insert-code-is : (n : List ℕ) (i : Target) → insert-code e b n i
-      ≡ (ASKED unless legal-name e n && legal-target e i then FIXED unless not (fixed-name n) then EXISTS unless not (sought e b n .hit) then NOROOM unless has-room e b n then 0)
+      ≡ (ASKED unless legal-name e n && legal-in e (own-of e b) i then FIXED unless not (fixed-name n) then EXISTS unless not (sought e b n .hit) then NOROOM unless has-room e b n then 0)
   unfolding insert-code
   insert-code-is n i = rw a refl
 
@@ -78,9 +79,13 @@ module _ (e : Edition) (sane : Sane e) (b : List ℕ) (h : bytes b ≡ true) (a 
   unfolding remove-code
   remove-code-is n = rw a refl
 
+  -- what an insert may ask for is the same by the block and by the book
+  legal-as : (k : Book) → SameBook (book-of e b) k → (i : Target) → legal-in e (own-of e b) i ≡ legal-in e (own-held e k) i
+  legal-as k m i = ap (λ (own : ℕ). legal-in e own i) (sym (own-same e sane b h a k m))
+
   insert-reply : (k : Book) → SameBook (book-of e b) k → (n : List ℕ) (i : Target) → reply e b (insert n i) ≡ book-reply e k (has-room e b n) (insert n i)
   unfolding reply
-  insert-reply k m n i = ap done-or (insert-code-is n i) ∙ insert-is e k n (sought e b n .hit) (λ f. hit-holds k m n) i (has-room e b n)
+  insert-reply k m n i = ap done-or (insert-code-is n i) ∙ insert-is e k n (sought e b n .hit) (λ f. hit-holds k m n) i (legal-in e (own-of e b) i) (has-room e b n) (legal-as k m i)
 
   remove-reply : (k : Book) → SameBook (book-of e b) k → (n : List ℕ) (r : Bool) → reply e b (remove n) ≡ book-reply e k r (remove n)
   unfolding reply
@@ -88,13 +93,13 @@ module _ (e : Edition) (sane : Sane e) (b : List ℕ) (h : bytes b ≡ true) (a 
 
   -- an insert that is done
   pub insert-facts : (n : List ℕ) (i : Target) → insert-code e b n i ≡ 0
-      → (legal-name e n ≡ true) × (legal-target e i ≡ true) × (fixed-name n ≡ false) × (sought e b n .hit ≡ false) × (has-room e b n ≡ true)
+      → (legal-name e n ≡ true) × (legal-in e (own-of e b) i ≡ true) × (fixed-name n ≡ false) × (sought e b n .hit ≡ false) × (has-room e b n ≡ true)
   insert-facts n i q =
-      let p1 : _ = passes (legal-name e n && legal-target e i) 10 (FIXED unless not (fixed-name n) then EXISTS unless not (sought e b n .hit) then NOROOM unless has-room e b n then 0) (sym (insert-code-is n i) ∙ q) in
+      let p1 : _ = passes (legal-name e n && legal-in e (own-of e b) i) 10 (FIXED unless not (fixed-name n) then EXISTS unless not (sought e b n .hit) then NOROOM unless has-room e b n then 0) (sym (insert-code-is n i) ∙ q) in
       let p2 : _ = passes (not (fixed-name n)) 11 (EXISTS unless not (sought e b n .hit) then NOROOM unless has-room e b n then 0) (p1 .1) in
       let p3 : _ = passes (not (sought e b n .hit)) 13 (NOROOM unless has-room e b n then 0) (p2 .1) in
       let p4 : _ = passes (has-room e b n) 14 0 (p3 .1) in
-      (and-left (legal-name e n) (legal-target e i) (p1 .0), and-right (legal-name e n) (legal-target e i) (p1 .0), not-true (fixed-name n) (p2 .0), not-true (sought e b n .hit) (p3 .0), p4 .0)
+      (and-left (legal-name e n) _ (p1 .0), and-right (legal-name e n) _ (p1 .0), not-true (fixed-name n) (p2 .0), not-true (sought e b n .hit) (p3 .0), p4 .0)
 
   pub insert-done : (n : List ℕ) (i : Target) → bytes n ≡ true → insert-code e b n i ≡ 0 → Inserted e b n i (insert-bytes e b n i)
   unfolding insert-bytes
@@ -131,11 +136,6 @@ module _ (e : Edition) (sane : Sane e) (b : List ℕ) (h : bytes b ≡ true) (a 
   unchanged k m c an st bk re =
       record { answers = an; accepted = rw st a; lengths = ap length st; listed = rw (st, bk) m; adds-up = rw st (adds-up e sane b h a); reuse = re }
 
-beq-yes : (p q : Bool) → Bool·beq p q ≡ true → q ≡ true → p ≡ true
-beq-yes true q h k = refl
-beq-yes false true h k = absurd (false≢true h)
-beq-yes false false h k = k
-
 module _ (e : Edition) (sane : Sane e) (b : List ℕ) (h : bytes b ≡ true) (a : Accepted e b) where
   -- "." and ".." are always held
   held-at : (d : List ℕ) (o : ℕ) → entry-stands o (records e b) ≡ true → ((r : Rec) → name-ok e r ≡ true → eqb (r .off) o ≡ true → same (name r) d ≡ true)
@@ -149,23 +149,12 @@ module _ (e : Edition) (sane : Sane e) (b : List ℕ) (h : bytes b ≡ true) (a 
       ∙ some-at (λ r. same-name e m (name r)) (t .0 .before) r (t .0 .behind) (subst (λ (l : List ℕ). same-name e m l ≡ true) (same-eq m d q ∙ sym nm) (same-name-refl e m))
 
   fixed-held : (m : List ℕ) → fixed-name m ≡ true → some-of (λ r. same-name e m (name r)) (entries (records e b)) ≡ true
-  unfolding fixed-name names-ok
+  unfolding fixed-name
   fixed-held m q =
-      let rs : List Rec = records e b in
-      let nm : Bool = every (name-ok e) (entries rs) in
-      let h0 : Bool = entry-stands (e .header) rs in
-      let h1 : Bool = entry-stands (e .header + 16) rs in
-      let ns : (nm && h0 && h1) ≡ true = good-of e sane b h a .names in
+      let f = fixed-there e sane b h a in
       by-cases (same m dot)
-      (λ y. held-at dot (e .header) (and-right nm h0 (and-left (nm && h0) h1 ns))
-      (λ r k z. beq-yes (same (name r) dot) (eqb (r .off) (e .header))
-      (and-right (legal-name e (name r)) (Bool·beq (same (name r) dot) (eqb (r .off) (e .header)))
-      (and-left (legal-name e (name r) && Bool·beq (same (name r) dot) (eqb (r .off) (e .header))) (Bool·beq (same (name r) dotdot) (eqb (r .off) (e .header + 16))) k)) z)
-      (and-left nm h0 (and-left (nm && h0) h1 ns)) m y)
-      (λ y. held-at dotdot (e .header + 16) (and-right (nm && h0) h1 ns)
-      (λ r k z. beq-yes (same (name r) dotdot) (eqb (r .off) (e .header + 16))
-      (and-right (legal-name e (name r) && Bool·beq (same (name r) dot) (eqb (r .off) (e .header))) (Bool·beq (same (name r) dotdot) (eqb (r .off) (e .header + 16))) k) z)
-      (and-left nm h0 (and-left (nm && h0) h1 ns)) m (rw y at q))
+      (λ y. held-at dot (e .header) (f .1) (λ r k z. dot-place e r k ∙ z) (f .0) m y)
+      (λ y. held-at dotdot (e .header + 16) (f .2) (λ r k z. dotdot-place e r k ∙ z) (f .0) m (rw y at q))
 
   -- room by (a) is room
   room-by-a : (m : List ℕ) → 1 ≤ stale-of b → (t : Split (gaps (records e b))) → entry-size e (length m) ≤ size (t .here) → has-room e b m ≡ true
@@ -177,13 +166,13 @@ module _ (e : Edition) (sane : Sane e) (b : List ℕ) (h : bytes b ≡ true) (a 
       let t : some-stale (room-of e b m) ≡ true = by-cases (some-stale (room-of e b m)) (λ q. q) (λ q. absurd (omega (arith, leb-false))) in
       rw (t, f) refl
 
-  -- a legal absent name with a legal number goes in where (a) finds room
-  goes-in : (m : List ℕ) (i : Target) → legal-name e m ≡ true → legal-target e i ≡ true → holds e m (book-of e b) ≡ false → has-room e b m ≡ true → reply e b (insert m i) ≡ done
-  unfolding reply
+  -- a legal absent name with a legal number other than the directory's own goes in where (a) finds room
+  goes-in : (m : List ℕ) (i : Target) → legal-name e m ≡ true → legal-in e (own-held e (book-of e b)) i ≡ true → holds e m (book-of e b) ≡ false → has-room e b m ≡ true → reply e b (insert m i) ≡ done
+  unfolding reply SameBook
   goes-in m i lg ln hd rm =
       let nh : some-of (λ r. same-name e m (name r)) (entries (records e b)) ≡ false = sym (holds-entries e m b) ∙ hd in
       let fx : fixed-name m ≡ false = by-cases (fixed-name m) (λ q. absurd (clash (fixed-held m q) nh)) (λ q. q) in
-      ap done-or (insert-code-is e sane b h a m i) ∙ rw (lg, ln, fx, hit-of e sane b h a m ∙ nh, rm) refl
+      ap done-or (insert-code-is e sane b h a m i) ∙ rw (lg, legal-as e sane b h a (book-of e b) (λ x. refl) i ∙ ln, fx, hit-of e sane b h a m ∙ nh, rm) refl
 
 module _ (e : Edition) (sane : Sane e) (b : List ℕ) (h : bytes b ≡ true) (a : Accepted e b) (k : Book) (m : SameBook (book-of e b) k) where
   look-right : (n : List ℕ) → Call-right e k b (look-up n)

@@ -120,7 +120,7 @@ module _ (e : Edition) (sane : Sane e) (b : List ℕ) (h : bytes b ≡ true) (a 
       new-good e sane i n xs (g .raw) behind (g .off) (records e b) (slots b) (slots b) (stale-of b) 0 (good-of e sane b h a)
       (kept-all (slots b) 0 (good-of e sane b h a .index .stales ∙ none)) entries-old laid-c
       (new-apart e sane i n xs (g .raw) behind (g .off) (asked-small e b n i ask) (follows-front false xs (g ∷ (ys ++ (t ∷ []))) apart-all) apart-behind)
-      (ask .name-legal) (ask .number-legal) (asked-small e b n i ask) (ask .not-fixed) (rw entries-old at (ask .absent))
+      (ask .name-legal) (rw entries-old at (ask .number-legal)) (asked-small e b n i ask) (ask .not-fixed) (rw entries-old at (ask .absent))
 
   fit-c : Fit e (take (e .header) b) records-c index-c 0
   unfolding index-c

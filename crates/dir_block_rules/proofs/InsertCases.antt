@@ -27,12 +27,11 @@ use Rattle.dir_block_rules.proofs.BlockParts.{length-slot-bytes}
 use Rattle.be.proofs.Splits.{Split}
 use Rattle.dir_block_rules.proofs.BestTable.{longest-holds}
 use Rattle.dir_block_rules.proofs.GoodParts.{tally-length}
-use Rattle.dir.proofs.FileTypes.{target-type}
 use Rattle.dir_block_rules.proofs.EntryMore.{entry-name, entry-target}
 use Rattle.dir_block_rules.proofs.InsertGood.{new-records, new-entry, new-entries}
 use Rattle.dir_block_rules.proofs.AcceptedParts.{Found-in, keep-find, fit-of, good-of, end-of-data}
 use Rattle.dir_block_rules.proofs.ChangeAccepted.{After, longest-in}
-use Rattle.dir_block_rules.proofs.InsertFree.{Free, free-writes, insert-free, free-a, free-b, free-d, Asked, asked-small}
+use Rattle.dir_block_rules.proofs.InsertFree.{Free, free-writes, insert-free, free-a, free-b, free-d, Asked, asked-small, asked-type}
 use Rattle.dir_block_rules.proofs.RemoveAccepted.{snoc}
 use Rattle.dir_block_rules.proofs.InsertCaseC.{insert-c, records-c, writes-of-c, index-c, behind, entries-old}
 
@@ -106,7 +105,7 @@ module _ (e : Edition) (sane : Sane e) (b : List ℕ) (h : bytes b ≡ true) (a 
         old-entries = f .entries-old;
         new-entries-are = ap entries (w .records-are) ∙ new-entries e sane i n xs c ys o (asked-small e b n i ask);
         named = entry-name e o i n;
-        aimed = entry-target e sane o i n (omega (arith, asked-small e b n i ask)) (target-type e i (ask .number-legal));
+        aimed = entry-target e sane o i n (omega (arith, asked-small e b n i ask)) (asked-type e b n i ask);
       }
 
   need : ℕ
@@ -214,7 +213,7 @@ module _ (e : Edition) (sane : Sane e) (b : List ℕ) (h : bytes b ≡ true) (a 
         old-entries = entries-old e sane b h a i n ask xs g ys t q gp tp f k z;
         new-entries-are = ap entries (w .records-are) ∙ new-entries e sane i n xs (g .raw) (behind e sane b h a i n ask xs g ys t q gp tp f k z) (g .off) (asked-small e b n i ask);
         named = entry-name e (g .off) i n;
-        aimed = entry-target e sane (g .off) i n (omega (arith, asked-small e b n i ask)) (target-type e i (ask .number-legal));
+        aimed = entry-target e sane (g .off) i n (omega (arith, asked-small e b n i ask)) (asked-type e b n i ask);
       }
 
   go-c : Touch (data-end b) (records e b) → stale-of b ≡ 0 → 8 ≤ size T → entry-size e (length n) ≤ size (longest (besides (T .off) (gaps (records e b))))

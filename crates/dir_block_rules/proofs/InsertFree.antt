@@ -16,8 +16,8 @@ use Rattle.name.specs.Name.{hash-of, same-name, legal-name, fixed-name}
 use Rattle.dir.specs.declared.Target.{Target}
 use Rattle.dir_block_rules.specs.Record.{Rec, size, is-gap, is-entry, entries, name}
 use Rattle.dir_block_rules.specs.Block.{Slot, slot, slot-bytes, records, slots, stale-of, is-stale, is-live}
-use Rattle.dir.specs.Target.{legal-target}
-use Rattle.dir_block_rules.specs.Verdict.{Accepted}
+use Rattle.dir.specs.Target.{legal-in, legal-type}
+use Rattle.dir_block_rules.specs.Verdict.{Accepted, own-of}
 use Rattle.dir_block_rules.specs.Change.{changed, entry-writes, index-writes, insert-slot}
 use Rattle.be.proofs.Numbers.{length-to-be}
 use Rattle.edition.proofs.Sizes.{entry-size-eights}
@@ -30,20 +30,24 @@ use Rattle.dir_block_rules.proofs.InsertGood.{new-records, new-apart, n
 use Rattle.dir_block_rules.proofs.GapsApart.{Follows, follows, follows-front, follows-back}
 use Rattle.dir_block_rules.proofs.AcceptedParts.{fit-of, good-of, block-around, index-bytes, place-of, fit-insert, fit-without, fit-keep}
 use Rattle.name.proofs.Legality.{number-bounds}
-use Rattle.dir.proofs.FileTypes.{target-number}
+use Rattle.dir.proofs.FileTypes.{target-number, target-type, asked-target}
 use Rattle.dir_block_rules.proofs.ChangeAccepted.{After, finish, short, laid-mod, length-insert, length-without, length-live, long-index}
 
 -- a legal request to insert name n with target i, where no live entry of the block bears the name
 pub record Asked (e : Edition) (b n : List ℕ) (i : Target) : Type 0 where
   pub name-bytes : bytes n ≡ true
   pub name-legal : legal-name e n ≡ true
-  pub number-legal : legal-target e i ≡ true
+  pub number-legal : legal-in e (own-of e b) i ≡ true
   pub not-fixed : fixed-name n ≡ false
   pub absent : some-of (λ r. same-name e n (name r)) (entries (records e b)) ≡ false
 
 -- its number fits an entry
 pub asked-small : (e : Edition) (b n : List ℕ) (i : Target) → Asked e b n i → i .inode < 2 ^ 56
-asked-small e b n i ask = number-bounds (i .inode) (target-number e i (ask .number-legal)) .1
+asked-small e b n i ask = number-bounds (i .inode) (target-number e i (asked-target e i (own-of e b) (ask .number-legal) .0)) .1
+
+-- and its file type is legal
+pub asked-type : (e : Edition) (b n : List ℕ) (i : Target) → Asked e b n i → legal-type e (i .kind) ≡ true
+asked-type e b n i ask = target-type e i (asked-target e i (own-of e b) (ask .number-legal) .0)
 
 -- an insert into free bytes c behind the records xs, with the records ys behind them: (a), (b) and (d)
 module _ (e : Edition) (sane : Sane e) (b : List ℕ) (h : bytes b ≡ true) (a : Accepted e b) (i : Target) (n : List ℕ) (ask : Asked e b n i) where
@@ -88,7 +92,7 @@ module _ (e : Edition) (sane : Sane e) (b : List ℕ) (h : bytes b ≡ true) (a 
     good-new : Good e (new-records e sane i n xs c ys o) new-index m
     good-new =
         new-good e sane i n xs c ys o (records e b) (slots b) ts (stale-of b) m (good-of e sane b h a) (f .kept) (f .entries-old) laid-new
-        (new-apart e sane i n xs c ys o (asked-small e b n i ask) (f .apart-xs) (f .apart-ys)) (ask .name-legal) (ask .number-legal) (asked-small e b n i ask) (ask .not-fixed) (rw (f .entries-old) at (ask .absent))
+        (new-apart e sane i n xs c ys o (asked-small e b n i ask) (f .apart-xs) (f .apart-ys)) (ask .name-legal) (rw (f .entries-old) at (ask .number-legal)) (asked-small e b n i ask) (ask .not-fixed) (rw (f .entries-old) at (ask .absent))
 
     left : length (drop (entry-size e (length n)) c) % 8 ≡ 0
     left = simp length-drop (omega (arith, entry-size-eights e (length n), f .eights))

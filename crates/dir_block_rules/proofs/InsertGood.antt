@@ -16,14 +16,15 @@ use Rattle.name.specs.Name.{hash-of, same-name, legal-name, fixed-name}
 use Rattle.dir.specs.declared.Target.{Target}
 use Rattle.dir_block_rules.specs.Record.{Rec, rec, is-entry, entries, apart, gap-start, name, number, entry-bytes}
 use Rattle.dir_block_rules.specs.Block.{Slot, slot}
-use Rattle.dir.specs.Target.{legal-target}
+use Rattle.dir.specs.Target.{legal-in}
+use Rattle.dir_block_rules.specs.Verdict.{own-in}
 use Rattle.dir_block_rules.specs.Change.{insert-slot}
 use Rattle.dir_block_rules.proofs.CutJoin.{join, Laid, laid-append}
 use Rattle.dir_block_rules.proofs.WritesLeave.{free, Gapful, gap-raw, entry-no-gap}
 use Rattle.dir_block_rules.proofs.IndexedEntries.{Kept}
 use Rattle.dir_block_rules.proofs.GoodParts.{Good}
 use Rattle.dir_block_rules.proofs.OwnNumber.{number-stands}
-use Rattle.dir.proofs.FileTypes.{target-number}
+use Rattle.dir.proofs.FileTypes.{target-number, asked-target}
 use Rattle.dir_block_rules.proofs.EntryMore.{good-insert, entry-name, entry-number}
 use Rattle.dir_block_rules.proofs.InsertWrites.{placed, placed-laid, length-placed}
 use Rattle.dir_block_rules.proofs.GapsApart.{Follows, from-follows, weaken, last-gap?, follows-append, follows-entry}
@@ -83,13 +84,14 @@ module _ (e : Edition) (sane : Sane e) (i : Target) (n : List ℕ) (xs : List Re
 
   pub new-good : (rs : List Rec) (ss ts : List Slot) (st m : ℕ) → Good e rs ss st → Kept ss ts m
       → entries rs ≡ entries xs ++ entries ys → Laid e (e .header) new-records → apart new-records ≡ true
-      → legal-name e n ≡ true → legal-target e i ≡ true → i .inode < 2 ^ 56 → fixed-name n ≡ false
+      → legal-name e n ≡ true → legal-in e (own-in e (entries xs ++ entries ys)) i ≡ true → i .inode < 2 ^ 56 → fixed-name n ≡ false
       → some-of (λ r. same-name e n (name r)) (entries xs ++ entries ys) ≡ false
       → Good e new-records (insert-slot (slot (hash-of e n) (o / 8)) ts) m
   unfolding new-entry
   new-good rs ss ts st m g k old l ap′ lg ln ib fx ab =
       let nm : name new-entry ≡ n = entry-name e o i n in
       let nr : number new-entry ≡ i .inode = entry-number e o i n (omega arith) in
+      let own : ℕ = own-in e (entries xs ++ entries ys) in
       subst (λ (w : List ℕ). Good e new-records (insert-slot (slot (hash-of e w) (o / 8)) ts) m) nm
       (good-insert e rs new-records (entries xs) new-entry (entries ys) ss ts st m sane g k l ap′ old (new-entries ib)
-      (rw nm lg) (number-stands e _ new-entry (rw nr (target-number e i ln))) (rw nm fx) (rw nm ab))
+      (rw nm lg) (number-stands e own new-entry (rw nr (target-number e i (asked-target e i own ln .0))) (rw nr (asked-target e i own ln .1))) (rw nm fx) (rw nm ab))

@@ -31,7 +31,9 @@ pub mod RemoveAccepted
 pub mod BooksAgree
 pub mod LookupFinds
 pub mod StaysBytes
+pub mod OwnHeld
 pub mod EachCall
+pub mod OwnRight
 pub mod Demand3
 pub mod LookupRight
 pub mod WholeWalk

@@ -16,8 +16,8 @@ use Rattle.name.specs.Name.{hash-of, legal-name, fixed-name}
 use Rattle.dir.specs.declared.Target.{Target}
 use Rattle.dir_block_rules.specs.Record.{Rec, rec, size, gaps, besides, entry-bytes, gap-writes}
 use Rattle.dir_block_rules.specs.Block.{records, slots, Slot, slot, slot-bytes, is-stale, is-live, stale-of, data-end}
-use Rattle.dir.specs.Target.{legal-target}
-use Rattle.dir_block_rules.specs.Verdict.{verdict, Pair, pair}
+use Rattle.dir.specs.Target.{legal-in}
+use Rattle.dir_block_rules.specs.Verdict.{verdict, own-of, Pair, pair}
 use Rattle.dir_block_rules.specs.Lookup.{sought}
 use Rattle.dir_block_rules.specs.Room.{Room, room-of, other-gaps, case-a, case-b, case-c, has-room}
 
@@ -120,11 +120,11 @@ module _ (e : Edition) (b n : List ℕ) (i : Target) where
       let in-d = writes-d m in
       cond (case-a m) in-a (cond (case-b m) in-b (cond (case-c m) in-c in-d))
 
-  -- the block's refusal; 11 ASKED: name, number or type not legal; 12 FIXED; 14 EXISTS; 15 NOROOM
+  -- the block's refusal; 11 ASKED: name, number or type not legal, or the directory's own number; 12 FIXED; 14 EXISTS; 15 NOROOM
   unfoldable pub insert-code : ℕ
   insert-code =
       verdict e b and-then
-      ASKED unless legal-name e n && legal-target e i then
+      ASKED unless legal-name e n && legal-in e (own-of e b) i then
       FIXED unless not (fixed-name n) then
       EXISTS unless not (sought e b n .hit) then
       NOROOM unless has-room e b n then 0

@@ -1,5 +1,5 @@
 -- What is claimed of a block besides demand 3, each over every edition of sane sizes. The starred numbers stand in Starred.antt.
--- Their proofs: proofs/LookupRight.antt, WholeWalk.antt, BestAnew.antt, SlotOrder.antt, Capacity.antt, TwoBytes.antt.
+-- Their proofs: proofs/LookupRight.antt, OwnRight.antt, WholeWalk.antt, BestAnew.antt, SlotOrder.antt, Capacity.antt, TwoBytes.antt.
 -- Assumes nothing.
 use Prim.Native.Nat.{ℕ, suc, _+_, _-_, _*_, _/_, _^_, _≤_, _<_}
 use mathlib.Core.Bool.{Bool, true, false, not, cond, _&&_, _||_}
@@ -12,15 +12,16 @@ use Rattle.be.specs.Lists.{every, some-of, keep}
 use Rattle.be.specs.Bytes.{bytes, part}
 use Rattle.edition.specs.declared.Edition.{Edition}
 use Rattle.edition.specs.Edition.{largest-block, entry-size}
-use Rattle.name.specs.Name.{legal-name, same-name}
+use Rattle.name.specs.Name.{legal-name, same-name, fixed-name, dot}
+use Rattle.dir.specs.declared.Target.{Target}
 use Rattle.dir.specs.declared.Looked.the-variants.{Found, Absent}
 use Rattle.dir.specs.declared.Walked.the-variants.{Stepped, Refused}
 use Rattle.dir_block_rules.specs.Record.{Rec, size, is-gap, entries, gaps, name, target-of, tag}
 use Rattle.dir_block_rules.specs.Block.{records, data-end, Slot}
 use Rattle.dir_block_rules.specs.Verdict.{Accepted, size-ok, rising, Pair, pair, best-pairs, zero-pair, is-gap-of}
 use Rattle.dir.specs.Answers.{looked-code}
-use Rattle.dir_block_rules.specs.Lookup.{lookup, names-compared}
-use Rattle.dir_block_rules.specs.Change.{insert-slot}
+use Rattle.dir_block_rules.specs.Lookup.{lookup, lookup-code, lookup-target, names-compared}
+use Rattle.dir_block_rules.specs.Change.{insert-slot, insert-code}
 use Rattle.dir.specs.Calls.{Call, done}
 use Rattle.dir_block_rules.specs.Calls.{reply, after}
 use Rattle.dir.specs.Along.{call-bytes}
@@ -40,6 +41,15 @@ pub record Looks-up (e : Edition) (b n : List ℕ) : Type 0 where
 
 unfoldable pub Lookup-right : Edition → Type 0
 Lookup-right e = (b n : List ℕ) → bytes b ≡ true → Accepted e b → legal-name e n ≡ true → Looks-up e b n
+
+-- no directory inside itself: "." is found, no other name but ".." is found with its number, and an insert of that number is refused with 11
+pub record Outside-itself (e : Edition) (b : List ℕ) : Type 0 where
+  pub own : lookup-code e b dot ≡ 0
+  pub found : (n : List ℕ) → fixed-name n ≡ false → lookup-code e b n ≡ 0 → eqb (lookup-target e b n .inode) (lookup-target e b dot .inode) ≡ false
+  pub asked : (n : List ℕ) (i : Target) → eqb (i .inode) (lookup-target e b dot .inode) ≡ true → insert-code e b n i ≡ ASKED
+
+unfoldable pub Own-right : Edition → Type 0
+Own-right e = (b : List ℕ) → bytes b ≡ true → Accepted e b → Outside-itself e b
 
 -- each number is above the one before
 unfoldable pub climbs : List ℕ → Bool

@@ -11,22 +11,22 @@ use Rattle.be.specs.Bytes.{bytes}
 use Rattle.edition.specs.declared.Edition.{Edition}
 use Rattle.name.specs.Name.{legal-name}
 use Rattle.dir_block_rules.specs.Block.{sum-of-parts}
-use Rattle.dir.specs.Target.{legal-target}
+use Rattle.dir.specs.Target.{legal-in}
 use Rattle.dir_block_rules.specs.Verdict.{Accepted}
 use Rattle.dir.specs.declared.Target.{Target}
 use Rattle.dir_block_rules.specs.Room.{has-room}
 use Rattle.dir.specs.Calls.{Call, look-up, insert, remove, Reply, done, call-name}
 use Rattle.dir_block_rules.specs.Calls.{reply, after, book-of}
-use Rattle.dir.specs.Book.{Book, holds, book-reply, book-after, SameBook}
+use Rattle.dir.specs.Book.{Book, holds, own-held, book-reply, book-after, SameBook}
 use Rattle.dir.specs.Along.{call-bytes, Along}
 
--- right after a removal that is done, any legal absent name that is no longer than the removed one goes in with any legal number and type:
--- `left` is the block that call c left, and `answer` what it replied
+-- right after a removal that is done, any legal absent name that is no longer than the removed one goes in with any legal number other than the
+-- directory's own, and any legal type: `left` is the block that call c left, and `answer` what it replied
 unfoldable pub Reuse : (e : Edition) (left : List ℕ) (c : Call) (answer : Reply) → Type 0
 Reuse e left (look-up n) answer = Unit {0}
 Reuse e left (insert n i) answer = Unit {0}
 Reuse e left (remove n) answer =
-    answer ≡ done → (m : List ℕ) (i : Target) → bytes m ≡ true → legal-name e m ≡ true → legal-target e i ≡ true
+    answer ≡ done → (m : List ℕ) (i : Target) → bytes m ≡ true → legal-name e m ≡ true → legal-in e (own-held e (book-of e left)) i ≡ true
     → holds e m (book-of e left) ≡ false → length m ≤ length n → reply e left (insert m i) ≡ done
 
 -- one call c on block b, with book k

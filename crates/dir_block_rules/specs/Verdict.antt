@@ -12,7 +12,7 @@ use Rattle.be.specs.Lists.{every, some-of, tally, total, same}
 use Rattle.be.specs.Bytes.{field}
 use Rattle.edition.specs.declared.Edition.{Edition}
 use Rattle.edition.specs.Edition.{block-size}
-use Rattle.name.specs.Name.{legal-name, legal-number, hash-of, same-name, dot, dotdot}
+use Rattle.name.specs.Name.{legal-name, legal-number, fixed-name, hash-of, same-name, dot, dotdot}
 use Rattle.dir_block_rules.specs.Record.{Rec, says, besides, record-ok, apart, entries, gaps, size, name, number}
 use Rattle.dir_block_rules.specs.Block.{records, slots, Slot, is-stale, count-of, stale-of, data-end}
 
@@ -55,14 +55,19 @@ unfoldable pub own-in : Edition → List Rec → ℕ
 own-in e [] = 0
 own-in e (r ∷ rs) = cond (eqb (r .off) (e .header)) (number r) (own-in e rs)
 
--- 7 NUMBER: the number i of the entry at o, in a directory whose own number is `own`, is legal
-unfoldable pub number-fits : Edition → ℕ → ℕ → ℕ → Bool
-number-fits e own o i = legal-number i
+-- the number of "." in a block: the directory's own
+abbrev pub own-of : Edition → List ℕ → ℕ
+own-of e b = own-in e (entries (records e b))
+
+-- 7 NUMBER: the number i of an entry with name n, in a directory whose own number is `own`: it is legal, and no entry but "." and ".."
+-- bears that of "."
+unfoldable pub number-fits : Edition → ℕ → List ℕ → ℕ → Bool
+number-fits e own n i = legal-number i && (fixed-name n || not (eqb i own))
 
 abbrev pub number-ok : Edition → ℕ → Rec → Bool
-number-ok e own r = number-fits e own (r .off) (number r)
+number-ok e own r = number-fits e own (name r) (number r)
 
--- 7 NUMBER: every entry's number is legal
+-- 7 NUMBER: every entry's number fits
 unfoldable pub numbers-ok : Edition → List Rec → Bool
 numbers-ok e rs = every (number-ok e (own-in e (entries rs))) (entries rs)
 

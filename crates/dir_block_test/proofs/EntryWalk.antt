@@ -12,7 +12,7 @@ use Rattle.refusal.specs.Refusal.{NAME, NUMBER, INDEX}
 use Rattle.be.specs.Bytes.{be, part, field}
 use Rattle.edition.specs.declared.Edition.{Edition}
 use Rattle.edition.specs.Edition.{entry-size}
-use Rattle.name.specs.Name.{hash-of, legal-number}
+use Rattle.name.specs.Name.{hash-of}
 use Rattle.dir_block_rules.specs.Record.{Rec, rec, says, is-gap, name, number}
 use Rattle.dir_block_rules.specs.Verdict.{number-fits}
 use Rattle.edition.proofs.Sizes.{entry-size-least}
@@ -31,10 +31,9 @@ module _ (e : Edition) (own : ℕ) (ss : ℕ → ℕ → Bool) (b : List ℕ) (o
   unfolding fault-at
   fault-name p = sym (rw (named, p))
 
-  module _ (p : x ≡ true) (y : Bool) (ys : y ≡ legal-number (field o 8 b)) where
-    numbered : number-fits e own o (field o 8 b) ≡ y
-    unfolding number-fits
-    numbered = sym ys
+  module _ (p : x ≡ true) (y : Bool) (ys : y ≡ number-fits e own (part (o + 9) len b) (field o 8 b)) where
+    numbered : number-fits e own (name-at b o) (field o 8 b) ≡ y
+    numbered = sym (ys ∙ ap (λ (k : ℕ). number-fits e own (part (o + 9) k b) (field o 8 b)) is)
 
     pub fault-number : y ≡ false → NUMBER ≡ fault-at e own ss b o
     unfolding fault-at

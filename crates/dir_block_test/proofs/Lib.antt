@@ -2,6 +2,7 @@ pub mod WholeRecord
 pub mod TileWalk
 pub mod SlotWalk
 pub mod NamePlaces
+pub mod OwnWord
 pub mod EntryWalk
 pub mod BestPass
 pub mod RecordWalk

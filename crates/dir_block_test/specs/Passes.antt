@@ -80,7 +80,7 @@ own-at e b = field (e .header) 8 b
 unfoldable pub fault-at : Edition → ℕ → (ℕ → ℕ → Bool) → List ℕ → ℕ → ℕ
 fault-at e own f b o =
     NAME unless name-fits e o (name-at b o) then
-    NUMBER unless number-fits e own o (field o 8 b) then
+    NUMBER unless number-fits e own (name-at b o) (field o 8 b) then
     INDEX unless f (o / 8) (hash-of e (name-at b o)) then no-fault
 
 -- the gaps that a pair does not name

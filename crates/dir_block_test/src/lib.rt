@@ -6,10 +6,11 @@ ghost use Prim.Native.Nat.{_+_, _*_, _-_, _/_, _%_, _≤_, _<_, min};
 ghost use lib.Dec.{eqb, leb, ltb};
 ghost use lib.ListN.{length, set, replicate};
 ghost use Rattle.be.specs.Bytes.{byte, field, part};
+ghost use Rattle.be.specs.Words.{le};
 ghost use Rattle.edition.specs.Edition.{v4, Sane};
 ghost use Rattle.name.specs.Name.{legal-name};
 ghost use Rattle.dir_block_rules.specs.Record.{says, gaps, entries};
-ghost use Rattle.dir_block_rules.specs.Verdict.{pair, best-pairs, best-ok, index-ok, verdict};
+ghost use Rattle.dir_block_rules.specs.Verdict.{pair, number-fits, best-pairs, best-ok, index-ok, verdict};
 ghost use Rattle.dir_block_twice.specs.Twice.{slots-from};
 ghost use Rattle.dir_block_test.specs.Passes.{rest, whole-len, ordered-with, level, slot-word, cells-of, hint, name-fits, fault-at, own-at, best-left, which, Surveys, Faulted, after-index, after-tile, after-span, Parts, Data-tiled};
 use edition::Edition;
@@ -148,12 +149,27 @@ fn name_fits(e: Edition, legal: bool, s: &[u8], o: usize) -> bool
     agree(name::equal(s, b".."), o == e.header + 16)
 }
 
+// Whether the number at o may stand there, with the name s: it is legal, and only "." and ".." bear that of ".", which is the word `own`.
+fn number_fits(e: Edition, b: &[u8], o: usize, s: &[u8], own: u64) -> bool
+    requires { ⌜ (o + 8 ≤ length (now b)) × (e .header + 8 ≤ length (now b)) × (own ≡ le (part (e .header) 8 (now b))) ⌝ }
+    ensures { λ r. ⌜ r ≡ number-fits e (own-at e (now (b .entry))) (now (s .entry)) (field o 8 (now (b .entry))) ⌝ }
+{
+    if !name_words::number_legal_at(b, o) {
+        return false;
+    }
+    if be::le64(b, o) != own {
+        return true;
+    }
+    name::fixed(s)
+}
+
 // No test failed: above every refusal, so that the lowest fault counts.
 const NO_FAULT: usize = refusal::HIGHEST + 1;
 
-// The first test that the entry at o fails: NAME, NUMBER or INDEX.
-fn entry_fault(e: Edition, b: &[u8], o: usize, t: usize, cells: &[u64]) -> usize
+// The first test that the entry at o fails: NAME, NUMBER or INDEX. The number of "." is the word `own`.
+fn entry_fault(e: Edition, b: &[u8], o: usize, t: usize, cells: &[u64], own: u64) -> usize
     requires { ⌜ Sane e ⌝ }
+    requires { ⌜ (e .header + 8 ≤ length (now b)) × (own ≡ le (part (e .header) 8 (now b))) ⌝ }
     requires { ⌜ (t + 8 ≤ length (now b)) × (t < 65536) × (t ≤ 8 * length (now cells)) × (o + 9 + byte (o + 8) (now b) ≤ t) ⌝ }
     ensures { λ r. ⌜ r ≡ fault-at e (own-at e (now (b .entry))) (hint (now (cells .entry))) (now (b .entry)) o ⌝ }
 {
@@ -163,7 +179,7 @@ fn entry_fault(e: Edition, b: &[u8], o: usize, t: usize, cells: &[u64]) -> usize
     if !name_fits(e, c.legal, &b[from..end], o) {
         return refusal::NAME;
     }
-    if !name_words::number_legal_at(b, o) {
+    if !number_fits(e, b, o, &b[from..end], own) {
         return refusal::NUMBER;
     }
     if has_slot(cells, c.hash, o / 8) {
@@ -251,6 +267,7 @@ fn walk(
         (gaps (rest e (now (b .entry)) t (length (now (b .entry))) (e .header))))
         (r .n) (r .w) (r .best) ⌝ }
 {
+    let own = be::le64(b, e.header);
     let mut o = e.header;
     let mut after = false;
     let mut n = 1;
@@ -265,7 +282,7 @@ fn walk(
             if len == 0 {
                 return untiled();
             }
-            w = lower(w, entry_fault(e, b, o, t, cells));
+            w = lower(w, entry_fault(e, b, o, t, cells, own));
             n += 1;
             after = false;
             o += len;

@@ -21,11 +21,12 @@ use Rattle.name.proofs.Legality.{dot-legal}
 use Rattle.name.proofs.Same.{same-eq, not-fixed, same-name-fixed, same-name-as-fixed}
 use Rattle.name.proofs.Once.{once, once-map}
 use Rattle.dir.specs.declared.Target.{Target}
-use Rattle.dir.specs.Target.{legal-target, kept-of}
+use Rattle.dir.specs.Target.{legal-target, legal-in, kept-of}
 use Rattle.dir.specs.Calls.{Call, look-up, insert, remove, found, done-or}
-use Rattle.dir.specs.Book.{Held, held, Book, named, holds as book-holds, target-held, book-reply, entered, is-done, same-held, SameBook}
+use Rattle.dir.specs.Book.{Held, held, Book, named, holds as book-holds, target-held, own-held, book-reply, entered, is-done, same-held, SameBook}
 use Rattle.dir.specs.Along.{call-bytes}
-use Rattle.dir.proofs.Books.{once-held, holds-same, target-same, without-same}
+use Rattle.dir.proofs.FileTypes.{no-own}
+use Rattle.dir.proofs.Books.{once-held, holds-same, target-same, target-none, without-same}
 use Rattle.dir.proofs.EveryList.{along}
 use Rattle.dir.proofs.Replies.{insert-is, remove-is, refused-not-done, done-is, refused-is, look-up-keeps}
 use Rattle.dir_sf.specs.Entry.{SfEntry}
@@ -71,6 +72,10 @@ no-fixed e d (x ∷ xs) f h =
     by-cases (same-name e d (x .name))
     (λ q. absurd (clash (sym (same-name-fixed e d (x .name) q) ∙ f) g))
     (λ q. rw q (no-fixed e d xs f (every-tail (name-ok e) x xs h)))
+
+dot-fixed : fixed-name dot ≡ true
+unfolding fixed-name
+dot-fixed = refl
 
 dotdot-fixed : fixed-name dotdot ≡ true
 unfolding fixed-name
@@ -129,9 +134,17 @@ module _ (e : Edition) (sane : Sane e) (told : ℕ) (b : List ℕ) (v : verdict 
     unfolding insert-code insert-request room-for
     insert-code-is n t = rw v refl
 
+    -- no "." is held, so the book keeps no legal number out
+    legal-as : (t : Target) → legal-target e t ≡ legal-in e (own-held e k) t
+    unfolding names-ok
+    legal-as t =
+        let none : book-holds e dot k ≡ false =
+        sym (held-as dot) ∙ no-fixed e dot (entries e (used e b)) dot-fixed (names-known e told (used e b) (used-passes e sane told b v)) in
+        sym (ap (λ (s : Target). legal-in e (s .inode) t) (target-none e dot k none) ∙ no-own e t)
+
     insert-answers : (n : List ℕ) (t : Target) → reply e told b (insert n t) ≡ book-reply e k (room-for e told b (insert n t)) (insert n t)
     unfolding reply
-    insert-answers n t = ap done-or (insert-code-is n t) ∙ insert-is e k n (holds e n (entries e (used e b))) (free-as n) t (room-for e told b (insert n t))
+    insert-answers n t = ap done-or (insert-code-is n t) ∙ insert-is e k n (holds e n (entries e (used e b))) (free-as n) t (legal-target e t) (room-for e told b (insert n t)) (legal-as t)
 
     remove-code-is : (n : List ℕ) → remove-code e told b n
         ≡ (ASKED unless legal-name e n then FIXED unless not (fixed-name n) then ABSENT unless holds e n (entries e (used e b)) then 0)

@@ -26,7 +26,7 @@ TILE = 5
 abbrev pub NAME : ℕ
 NAME = 6
 
--- a stored inode number is out of range; an attribute's flags are wrong
+-- a stored inode number is out of range; in a block, an entry but "." and ".." has that of "."; an attribute's flags are wrong
 abbrev pub NUMBER : ℕ
 NUMBER = 7
 

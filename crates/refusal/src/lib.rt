@@ -19,7 +19,7 @@ pub const TILE: usize = 5;
 // A stored name breaks the rules.
 pub const NAME: usize = 6;
 
-// A stored inode number is out of range; an attribute's flags are wrong.
+// A stored inode number is out of range; in a block, an entry but "." and ".." has that of "."; an attribute's flags are wrong.
 pub const NUMBER: usize = 7;
 
 // Stored counts or index disagree with the entries.

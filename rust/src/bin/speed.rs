@@ -12,6 +12,8 @@ use std::time::Instant;
 const ROUNDS: usize = 61;
 const BLOCKS: u64 = 16;
 const V4: &Options = &Options::V4;
+/// The own number of the blocks that are filled; no entry may bear it.
+const OWN: u64 = 128;
 
 struct Random(u64);
 
@@ -90,9 +92,9 @@ fn empty(size: usize) -> Vec<u8> {
     let mut put = |at: usize, bytes: &[u8]| b[at..at + bytes.len()].copy_from_slice(bytes);
     put(0, &0x5844_3242u32.to_be_bytes());
     put(4, &[48u16.to_be_bytes(), gap.to_be_bytes()].concat());
-    put(16, &128u64.to_be_bytes());
+    put(16, &OWN.to_be_bytes());
     put(24, &[1, b'.', 0, 0, 0, 0, 0, 16]);
-    put(32, &128u64.to_be_bytes());
+    put(32, &OWN.to_be_bytes());
     put(40, &[2, b'.', b'.', 0, 0, 0, 0, 32]);
     put(48, &[0xffffu16.to_be_bytes(), gap.to_be_bytes()].concat());
     put(size - 26, &48u16.to_be_bytes());
@@ -108,7 +110,7 @@ fn fill(size: usize, seed: u64, more: impl Iterator<Item = Vec<u8>>) -> Full {
     let mut names = Vec::new();
     let mut refused = 0;
     for name in more {
-        let number = 1 + random.below(1 << 40);
+        let number = OWN + 1 + random.below(1 << 40);
         match block::insert(&mut bytes, &name, number) {
             Ok(()) => names.push(name),
             Err(Refusal::NoRoom) => refused += 1,

@@ -78,8 +78,7 @@ pub enum Room {
 pub fn read(options: &Options, bytes: &[u8]) -> Result<Block, u32> {
     let block = tile(options, bytes)?;
     want(block.names_right(options), NAME)?;
-    let numbers = || block.live().map(|(_, number, _)| number);
-    want(numbers().all(legal_number), NUMBER)?;
+    want(block.numbers_right(), NUMBER)?;
     want(block.index_right(options), INDEX)?;
     want(block.best_right(), BEST)?;
     let names = block.live().map(|(_, _, name)| name);
@@ -194,6 +193,25 @@ impl Block {
         let legal = self.live().all(|(_, _, name)| legal_name(options, name));
         let second = options.header + entry_size(options, 1);
         legal && at(b".") == [options.header] && at(b"..") == [second]
+    }
+
+    /// The directory's own number: that of ".", which NAME has found.
+    fn own_number(&self) -> u64 {
+        let dot = self.live().find(|(_, _, name)| *name == b".");
+        dot.expect("NAME wants \".\"").1
+    }
+
+    /// A number for an entry but "." and "..": no directory is inside itself.
+    fn may_bear(&self, number: u64) -> bool {
+        legal_number(number) && number != self.own_number()
+    }
+
+    /// ".." may bear the own number, as in a root.
+    fn numbers_right(&self) -> bool {
+        self.live().all(|(_, number, name)| match is_dot(name) {
+            true => legal_number(number),
+            false => self.may_bear(number),
+        })
     }
 
     fn index_right(&self, options: &Options) -> bool {
@@ -406,7 +424,7 @@ pub fn insert(options: &Options, bytes: &[u8], name: &[u8], number: u64) -> Chan
 /// Every test before that of room.
 fn insertable(options: &Options, bytes: &[u8], name: &[u8], number: u64) -> Result<Block, u32> {
     let block = read(options, bytes)?;
-    want(legal_name(options, name) && legal_number(number), ASKED)?;
+    want(legal_name(options, name) && block.may_bear(number), ASKED)?;
     want(!is_dot(name), FIXED)?;
     want(block.position(options, name).is_none(), EXISTS)?;
     Ok(block)

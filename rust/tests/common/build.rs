@@ -8,6 +8,7 @@ use std::collections::BTreeSet;
 pub enum Fault {
     Name,
     Number,
+    OwnNumber,
     Twice,
     Dots,
     Touching,
@@ -20,6 +21,7 @@ pub fn faults(rng: &mut Rng) -> Vec<Fault> {
     let all = [
         Fault::Name,
         Fault::Number,
+        Fault::OwnNumber,
         Fault::Twice,
         Fault::Dots,
         Fault::Touching,
@@ -121,12 +123,19 @@ fn bad_name(rng: &mut Rng) -> Vec<u8> {
 
 /// A block directory with any mix of entries, gaps and stale slots.
 pub fn block(rng: &mut Rng, len: usize, faults: &[Fault]) -> Vec<u8> {
+    let wide = rng.one_in(3);
+    let own = names::legal_number(rng, wide);
+    // A root is its own parent.
+    let parent = match rng.one_in(4) {
+        true => own,
+        false => names::legal_number(rng, false),
+    };
     let mut parts = vec![
-        Part::Live(b".".to_vec(), names::legal_number(rng, false)),
-        Part::Live(b"..".to_vec(), names::legal_number(rng, false)),
+        Part::Live(b".".to_vec(), own),
+        Part::Live(b"..".to_vec(), parent),
     ];
     let mut left = len - 24 - 2 * 24;
-    fill(rng, &mut parts, &mut left);
+    fill(rng, &mut parts, &mut left, own);
     let stale = leave(rng, &mut parts, left);
     for fault in faults {
         spoil(rng, &mut parts, *fault);
@@ -139,7 +148,7 @@ pub fn block(rng: &mut Rng, len: usize, faults: &[Fault]) -> Vec<u8> {
 }
 
 /// Entries and gaps, never two gaps in a row, until a random stop or the room's end.
-fn fill(rng: &mut Rng, parts: &mut Vec<Part>, left: &mut usize) {
+fn fill(rng: &mut Rng, parts: &mut Vec<Part>, left: &mut usize, own: u64) {
     let stop = rng.pick(&[4, 20, 1000, 100_000]);
     let gaps = rng.pick(&[2, 4, 30]);
     let mut there: BTreeSet<Vec<u8>> = [b".".to_vec(), b"..".to_vec()].into();
@@ -160,7 +169,8 @@ fn fill(rng: &mut Rng, parts: &mut Vec<Part>, left: &mut usize) {
         }
         *left -= room(name.len()) + 8;
         let wide = rng.one_in(4);
-        parts.push(Part::Live(name.clone(), names::legal_number(rng, wide)));
+        let number = names::entry_number(rng, wide, own);
+        parts.push(Part::Live(name.clone(), number));
         there.insert(name);
     }
 }
@@ -199,6 +209,7 @@ fn spoil(rng: &mut Rng, parts: &mut Vec<Part>, fault: Fault) {
                 *number = bad_number(rng);
             }
         }
+        Fault::OwnNumber => inside_itself(rng, parts),
         Fault::Twice => repeat(&mut parts[2..], at),
         Fault::Dots => match rng.below(3) {
             0 => parts.swap(0, 1),
@@ -216,6 +227,21 @@ fn spoil(rng: &mut Rng, parts: &mut Vec<Part>, fault: Fault) {
         Fault::Uneven => uneven(rng, parts),
         // The table is written last.
         Fault::Best => {}
+    }
+}
+
+/// Gives one entry behind ".." the number of ".".
+fn inside_itself(rng: &mut Rng, parts: &mut [Part]) {
+    let Part::Live(_, own) = parts[0] else {
+        return;
+    };
+    let is_live = |at: &usize| matches!(parts[*at], Part::Live(..));
+    let entries: Vec<usize> = (2..parts.len()).filter(is_live).collect();
+    if entries.is_empty() {
+        return;
+    }
+    if let Part::Live(_, number) = &mut parts[rng.pick(&entries)] {
+        *number = own;
     }
 }
 
@@ -328,6 +354,12 @@ fn write_best(bytes: &mut [u8], mut gaps: Vec<(usize, u64, usize)>) {
         put16(bytes, 4 + 4 * at, *offset);
         put16(bytes, 6 + 4 * at, *len);
     }
+}
+
+/// What stands in the place of a block's own number; 0 where the bytes end before.
+pub fn own_number(bytes: &[u8]) -> u64 {
+    let number = bytes.get(16..24).and_then(<[u8]>::first_chunk);
+    number.map_or(0, |number| u64::from_be_bytes(*number))
 }
 
 /// A block of "." and ".." only, over random bytes.

@@ -1,7 +1,7 @@
 //! Every call of the boundary, held to the model: the answer with all its fields, and every byte of every
 //! buffer and of the guards around it.
 
-use super::{hex, Cover, Guarded, Rng, V4};
+use super::{build, hex, Cover, Guarded, Rng, V4};
 use pelunziwa::boundary as raw;
 use pelunziwa::model::{self, attr, block, inode, sfdir, Change};
 use pelunziwa::yardstick;
@@ -286,8 +286,22 @@ impl Lab {
     }
 }
 
+/// Whether a block refused with 7 has the own number in an entry, and every number in range: with another one for "." it passes that test.
+fn is_inside_itself(block: &[u8]) -> bool {
+    const UNUSED: u64 = 0x5a_5a5a_5a5a_5a5a;
+    let mut other = block.to_vec();
+    model::put(&mut other, 16, 8, UNUSED);
+    model::legal_number(build::own_number(block)) && block::test(V4, &other) != model::NUMBER
+}
+
 /// Block directories.
 impl Lab {
+    fn note_own_number(&mut self, call: &str, block: &[u8], refusal: u32) {
+        if refusal == model::NUMBER && is_inside_itself(block) {
+            self.cover.note(call, "own number stored");
+        }
+    }
+
     pub fn block_test(&mut self, block: &[u8]) {
         let want = block::test(V4, block);
         assert_eq!(
@@ -304,6 +318,10 @@ impl Lab {
             block,
         );
         self.cover.answer("block_test", want);
+        self.note_own_number("block_test", block, want);
+        if want == 0 && block[16..24] == block[32..40] {
+            self.cover.note("block_test", "parent is itself");
+        }
     }
 
     pub fn block_lookup(&mut self, block: &[u8], name: &[u8]) {
@@ -320,6 +338,7 @@ impl Lab {
             block,
         );
         self.cover.answer("block_lookup", want.refusal);
+        self.note_own_number("block_lookup", block, want.refusal);
         match (want.refusal, want.compared) {
             (0, 2..) => self.cover.note("block_lookup", "found after 2 or more"),
             (13, 0) => self.cover.note("block_lookup", "absent after none"),
@@ -342,6 +361,11 @@ impl Lab {
             &want.bytes,
         );
         self.changed("block_insert", &want);
+        self.note_own_number("block_insert", block, want.refusal);
+        let own = build::own_number(block);
+        if want.refusal == model::ASKED && model::legal_name(V4, name) && number == own {
+            self.cover.note("block_insert", "own number asked");
+        }
         if want.refusal == 0 && name.len() == 255 {
             self.cover.note("block_insert", "name of 255");
         }
@@ -365,6 +389,7 @@ impl Lab {
             &want.bytes,
         );
         self.changed("block_remove", &want);
+        self.note_own_number("block_remove", block, want.refusal);
         want
     }
 
@@ -379,6 +404,7 @@ impl Lab {
             block,
         );
         self.stepped("block_step", want.refusal, want.seen);
+        self.note_own_number("block_step", block, want.refusal);
         want
     }
 }

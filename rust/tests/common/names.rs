@@ -107,13 +107,25 @@ pub fn asked(rng: &mut Rng, held: &[Vec<u8>]) -> Vec<u8> {
     }
 }
 
-/// An inode number to ask for; rarely an illegal one.
-pub fn number(rng: &mut Rng) -> u64 {
-    match rng.below(24) {
-        0 => rng.pick(&[0, 1 << 56, (1 << 56) + 5, u64::MAX, 1 << 63]),
-        1 => rng.pick(&[1, (1 << 56) - 1, 1 << 32, (1 << 32) - 1]),
-        2..=4 => legal_number(rng, true),
+/// An inode number to ask for; rarely an illegal one, or the own number of a directory that stores it, or one a bit off that.
+pub fn number(rng: &mut Rng, own: Option<u64>) -> u64 {
+    match (rng.below(24), own) {
+        (0, _) => rng.pick(&[0, 1 << 56, (1 << 56) + 5, u64::MAX, 1 << 63]),
+        (1, _) => rng.pick(&[1, (1 << 56) - 1, 1 << 32, (1 << 32) - 1]),
+        (2..=4, _) => legal_number(rng, true),
+        (5, Some(own)) => own,
+        (6, Some(own)) => own ^ 1 << rng.below(64),
         _ => legal_number(rng, false),
+    }
+}
+
+/// A number that an entry of a block with this own number may bear.
+pub fn entry_number(rng: &mut Rng, wide: bool, own: u64) -> u64 {
+    loop {
+        let number = legal_number(rng, wide);
+        if number != own {
+            return number;
+        }
     }
 }
 

@@ -10,12 +10,12 @@ use Rattle.edition.specs.declared.Edition.{Edition}
 use Rattle.edition.specs.Edition.{entry-size, Sane}
 use Rattle.name.specs.Name.{legal-name, fixed-name}
 use Rattle.dir.specs.declared.Target.{Target}
-use Rattle.dir.specs.Target.{legal-target}
+use Rattle.dir.specs.Target.{legal-in}
 use Rattle.dir_block_rules.specs.Record.{gaps, besides}
 use Rattle.dir_block_rules.specs.Block.{records, stale-of}
 use Rattle.dir_block_rules.specs.Room.{has-room}
 use Rattle.dir_block_rules.specs.Lookup.{Sought, sought}
-use Rattle.dir_block_rules.specs.Verdict.{Pair, pair}
+use Rattle.dir_block_rules.specs.Verdict.{own-of, Pair, pair}
 use Rattle.dir_block_rules.specs.Change.{best-of, insert-writes}
 use Rattle.dir_block_rules.proofs.EachCall.{name-lt}
 use Rattle.dir_block_rules.proofs.LookupFinds.{hit-of}
@@ -41,7 +41,7 @@ stale-small e sane b r st q =
 
 -- what the code knows of the block c that an insert leaves, from the survey of b
 module _ (e : Edition) (sane : Sane e) (b n : List ℕ) (i : Target) (r : Ready e b) (nb : bytes n ≡ true) (ln : legal-name e n ≡ true)
-    (li : legal-target e i ≡ true) (fx : fixed-name n ≡ false) (ht : sought e b n .hit ≡ false) (rm : has-room e b n ≡ true)
+    (li : legal-in e (own-of e b) i ≡ true) (fx : fixed-name n ≡ false) (ht : sought e b n .hit ≡ false) (rm : has-room e b n ≡ true)
     (c : List ℕ) (w : c ≡ written b (insert-writes e b n i)) where
   left-tiled : Tiled e c
   left-tiled = subst (λ (l : List ℕ). Tiled e l) (sym w) (insert-tiled e sane b n i r nb ln li fx ht rm)

@@ -18,26 +18,37 @@ returns c =
 
 returns-2 : tie.Need-returns-2
 returns-2 c =
-    let a = c .before .before .before .before .before .before .before .before .before .args in
-    let k : ℕ = a .o + 9 + c .before .before .before .before .before .before .be8 .result - (a .o + 9) in
-    let q : a .o + 9 + c .before .before .before .before .before .before .be8 .result - (a .o + 9) ≡ byte (a .o + 8) (now (a .b)) = omega (arith, c .before .before .before .before .before .before .be8 .ensures .0) in
-    fault-number _ _ _ (now (a .b)) (a .o) k q _ (c .before .before .before .name-fits .ensures) (not-false _ (c .before .before .if1 .left)) _ (c .before .number-legal-at .ensures) (not-true _ (c .if2 .taken))
+    let c₄ = c .before .before .before .before in
+    let c₇ = c₄ .before .before .before in
+    let a = c₇ .before .before .before .args in
+    let k : ℕ = a .o + 9 + c₇ .be8 .result - (a .o + 9) in
+    let q : a .o + 9 + c₇ .be8 .result - (a .o + 9) ≡ byte (a .o + 8) (now (a .b)) = omega (arith, c₇ .be8 .ensures .0) in
+    fault-number _ _ _ (now (a .b)) (a .o) k q _ (c₄ .name-fits .ensures) (not-false _ (c .before .before .before .if1 .left))
+    _ (c .before .number-fits .ensures) (not-true _ (c .if2 .taken))
 
 returns-3 : tie.Need-returns-3
 returns-3 c =
-    let a = c .before .before .before .before .before .before .before .before .before .before .before .args in
-    let k : ℕ = a .o + 9 + c .before .before .before .before .before .before .before .before .be8 .result - (a .o + 9) in
-    let q : a .o + 9 + c .before .before .before .before .before .before .before .before .be8 .result - (a .o + 9) ≡ byte (a .o + 8) (now (a .b)) = omega (arith, c .before .before .before .before .before .before .before .before .be8 .ensures .0) in
-    fault-none _ _ _ (now (a .b)) (a .o) k q _ (c .before .before .before .before .before .name-fits .ensures) (not-false _ (c .before .before .before .before .if1 .left)) _ (c .before .before .before .number-legal-at .ensures) (not-false _ (c .before .before .if2 .left))
-    _ (c .before .before .before .before .before .before .before .check-in .ensures .1 .0) _ (c .before .has-slot .ensures) (c .if3 .taken)
+    let c₃ = c .before .before .before in
+    let c₆ = c₃ .before .before .before in
+    let c₉ = c₆ .before .before .before in
+    let a = c₉ .before .before .before .args in
+    let k : ℕ = a .o + 9 + c₉ .be8 .result - (a .o + 9) in
+    let q : a .o + 9 + c₉ .be8 .result - (a .o + 9) ≡ byte (a .o + 8) (now (a .b)) = omega (arith, c₉ .be8 .ensures .0) in
+    fault-none _ _ _ (now (a .b)) (a .o) k q _ (c₆ .name-fits .ensures) (not-false _ (c₃ .before .before .if1 .left))
+    _ (c₃ .number-fits .ensures) (not-false _ (c .before .before .if2 .left))
+    _ (c₆ .before .before .check-in .ensures .1 .0) _ (c .before .has-slot .ensures) (c .if3 .taken)
 
 returns-4 : tie.Need-returns-4
 returns-4 c =
-    let a = c .before .before .before .before .before .before .before .before .before .before .before .args in
-    let k : ℕ = a .o + 9 + c .before .before .before .before .before .before .before .before .be8 .result - (a .o + 9) in
-    let q : a .o + 9 + c .before .before .before .before .before .before .before .before .be8 .result - (a .o + 9) ≡ byte (a .o + 8) (now (a .b)) = omega (arith, c .before .before .before .before .before .before .before .before .be8 .ensures .0) in
-    fault-index _ _ _ (now (a .b)) (a .o) k q _ (c .before .before .before .before .before .name-fits .ensures) (not-false _ (c .before .before .before .before .if1 .left)) _ (c .before .before .before .number-legal-at .ensures) (not-false _ (c .before .before .if2 .left))
-    _ (c .before .before .before .before .before .before .before .check-in .ensures .1 .0) _ (c .before .has-slot .ensures) (c .if3 .left)
+    let c₃ = c .before .before .before in
+    let c₆ = c₃ .before .before .before in
+    let c₉ = c₆ .before .before .before in
+    let a = c₉ .before .before .before .args in
+    let k : ℕ = a .o + 9 + c₉ .be8 .result - (a .o + 9) in
+    let q : a .o + 9 + c₉ .be8 .result - (a .o + 9) ≡ byte (a .o + 8) (now (a .b)) = omega (arith, c₉ .be8 .ensures .0) in
+    fault-index _ _ _ (now (a .b)) (a .o) k q _ (c₆ .name-fits .ensures) (not-false _ (c₃ .before .before .if1 .left))
+    _ (c₃ .number-fits .ensures) (not-false _ (c .before .before .if2 .left))
+    _ (c₆ .before .before .check-in .ensures .1 .0) _ (c .before .has-slot .ensures) (c .if3 .left)
 
 pub entry-fault-spec : {M : Type 1} → statement M
 entry-fault-spec =
@@ -53,6 +64,9 @@ entry-fault-spec =
     (λ c. search needs)
     (λ c κs. search needs)
     returns
+    (λ c. search needs)
+    (λ c. search needs)
+    (λ c. search needs)
     (λ c κs. search needs)
     returns-2
     (λ c κs. search needs)
