@@ -26,13 +26,13 @@ use Rattle.dir_block_rules.proofs.AcceptedParts.{good-of, target-is}
 use Rattle.dir_block_rules.proofs.BooksAgree.{holds-entries, first-is}
 use Rattle.dir_block_rules.proofs.OwnNumber.{own-there}
 
--- "." stands at the header's end and ".." 16 further, nowhere else
 alike : (p q : Bool) → Bool·beq p q ≡ true → p ≡ q
 alike true true h = refl
 alike true false h = absurd (false≢true h)
 alike false true h = absurd (false≢true h)
 alike false false h = refl
 
+-- "." stands at the header's end and ".." 16 further, nowhere else
 module _ (e : Edition) (r : Rec) (h : name-ok e r ≡ true) where
   abbrev dot-fits : Bool
   dot-fits = Bool·beq (same (name r) dot) (eqb (r .off) (e .header))
