@@ -1,9 +1,13 @@
 // The dumps of document 000, the room of its second inode, and a case for each refusal of an attribute call.
 // Each line is what a call answers; what a line must be is worked out from the papers, in stdout.
+#![tactic(auto)]
+
 ghost use Rattle.std.specs.Prelude.{◌≤◌, ◌<◌, length};
 
 use attr_sf::{Place, Seen, Walked};
-use libc::STDOUT_FILENO;
+
+// The process's own streams, by the numbers that the system gives them.
+const STDOUT_FILENO: i32 = 1;
 
 fn text(s: &[u8]) {
     io::write_all(STDOUT_FILENO, s);

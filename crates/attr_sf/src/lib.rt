@@ -1,4 +1,6 @@
 // Short-form attributes: test, walk step, lookup, set and removal, in an inode that is lent as a slice.
+#![tactic(auto)]
+
 ghost use Rattle.std.specs.Prelude.{◌≡◌, true, ◌+◌, ◌-◌, ◌≤◌, ◌<◌, length};
 ghost use Rattle.be.specs.Bytes.{put, to_be};
 ghost use Rattle.be.specs.Lists.{some_of};
@@ -26,14 +28,14 @@ const SECURE: u8 = 4;
 const OTHER: u8 = 255 - TRUSTED - SECURE;
 
 // Where a value lies in the lent inode, start and length, or the number of the refusal.
-#[derive(Drop)]
+#[derive(Clone, Copy)]
 pub enum Place {
     At(usize, usize),
     Refused(usize),
 }
 
 // An attribute that the walk meets: name and value by their places in the lent inode.
-#[derive(Drop)]
+#[derive(Clone, Copy)]
 pub struct Attr {
     pub flags: usize,
     pub name_start: usize,
@@ -43,20 +45,20 @@ pub struct Attr {
 }
 
 // Short forms have no gaps.
-#[derive(Drop)]
+#[derive(Clone, Copy)]
 pub enum Seen {
     Live(Attr),
     End,
 }
 
 // What a step meets, and where the walk now stands.
-#[derive(Drop)]
+#[derive(Clone, Copy)]
 pub struct Step {
     pub next: usize,
     pub seen: Seen,
 }
 
-#[derive(Drop)]
+#[derive(Clone, Copy)]
 pub enum Walked {
     Stepped(Step),
     Refused(usize),
@@ -424,7 +426,7 @@ pub fn step_at(b: &[u8], place: usize) -> Walked
 
 // What a set or a removal reads first: where the entry asked for starts (the entries' end when there is none), its size (0),
 // how many entries are kept, and the entries' end.
-#[derive(Drop)]
+#[derive(Clone, Copy)]
 struct Plan {
     at: usize,
     size: usize,

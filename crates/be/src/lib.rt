@@ -1,4 +1,6 @@
 // Big-endian numbers and little-endian words in a slice, copies, zeros and moves: each says which bytes it read or wrote.
+#![tactic(auto)]
+
 ghost use Rattle.std.specs.Prelude.{◌≡◌, ◌+◌, ◌≤◌, ◌<◌, eqb, length, replicate};
 ghost use Rattle.be.specs.Bytes.{byte, part, field, put, to_be};
 ghost use Rattle.be.specs.Words.{le, to_le};

@@ -1,4 +1,6 @@
 // CRC-32C, eight bytes a turn, and the checksum field of a block or an inode: tested, and set.
+#![tactic(auto)]
+
 ghost use Rattle.std.specs.Prelude.{◌≡◌, ◌+◌, ◌*◌, ◌%◌, ◌≤◌, ◌<◌, length};
 ghost use Rattle.std.specs.Int.Bits.{bit_xor};
 ghost use Rattle.be.specs.Bytes.{put};

@@ -1,4 +1,6 @@
 // The inode core: tests 1 to 3, the fields handed out, and where the forks lie.
+#![tactic(auto)]
+
 ghost use Rattle.std.specs.Prelude.{◌≡◌, ◌≤◌, length};
 ghost use Rattle.edition.specs.Edition.{v4, Sane};
 ghost use Rattle.dinode.specs.Core.{core_of, inode_size, version_ok, directory_ok, attributes_ok, data_length};
@@ -10,7 +12,7 @@ use edition::{Edition, V4};
 pub const SIZE_PLACE: usize = 56;
 
 // The fields that are handed out.
-#[derive(Drop)]
+#[derive(Clone, Copy)]
 pub struct Core {
     pub magic: usize,
     pub mode: usize,
@@ -22,14 +24,14 @@ pub struct Core {
 }
 
 // What the test of an inode finds: its fields, or the number of the first test that fails.
-#[derive(Drop)]
+#[derive(Clone, Copy)]
 pub enum Tested {
     Sound(Core),
     Refused(usize),
 }
 
 // Where a fork lies in the inode, start and length, or the number of the first test that fails.
-#[derive(Drop)]
+#[derive(Clone, Copy)]
 pub enum Fork {
     At(usize, usize),
     Refused(usize),

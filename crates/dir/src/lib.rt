@@ -1,5 +1,6 @@
 // What both directory forms share: what a name stands for, and the answers of lookup and walk. Their numbers and values, the
 // calls, and the book of demand 3 stand in specs/.
+#![tactic(auto)]
 
 ghost use Rattle.std.specs.Prelude.{◌≡◌, ◌+◌, ◌≤◌, length};
 ghost use Rattle.be.specs.Bytes.{field, to_be, put};
@@ -9,14 +10,14 @@ ghost use Rattle.dir.specs.Target.{legal_type, legal_target, legal_in, kept_of};
 use edition::Edition;
 
 // What an entry's name stands for: an inode number and a file type, 0 where the edition has none.
-#[derive(Drop)]
+#[derive(Clone, Copy)]
 pub struct Target {
     pub inode: u64,
     pub kind: usize,
 }
 
 // What a lookup finds: what the name stands for, its entry's tag, and `compared`, the names compared in a block, 0 in a short form.
-#[derive(Drop)]
+#[derive(Clone, Copy)]
 pub enum Looked {
     Found {
         target: Target,
@@ -30,7 +31,7 @@ pub enum Looked {
 }
 
 // A live entry: what its name stands for, its tag, and where the name lies in the lent bytes.
-#[derive(Drop)]
+#[derive(Clone, Copy)]
 pub struct Entry {
     pub target: Target,
     pub tag: usize,
@@ -39,7 +40,7 @@ pub struct Entry {
 }
 
 // What a step of the walk meets. A short form has no gaps.
-#[derive(Drop)]
+#[derive(Clone, Copy)]
 pub enum Seen {
     Live(Entry),
     Gap,
@@ -47,14 +48,14 @@ pub enum Seen {
 }
 
 // Where the walk now stands, and what it met.
-#[derive(Drop)]
+#[derive(Clone, Copy)]
 pub struct Step {
     pub next: usize,
     pub seen: Seen,
 }
 
 // What a step of the walk answers.
-#[derive(Drop)]
+#[derive(Clone, Copy)]
 pub enum Walked {
     Stepped(Step),
     Refused(usize),

@@ -1,4 +1,6 @@
 // Insert and removal in a block directory.
+#![tactic(auto)]
+
 ghost use Rattle.std.specs.Prelude.{◌≡◌, true, false, ◌+◌, ◌-◌, ◌*◌, ◌/◌, ◌%◌, ◌≤◌, ◌<◌, ◌++◌, length, replicate};
 ghost use Rattle.be.specs.Lists.{without_first, keep};
 ghost use Rattle.be.specs.Bytes.{byte, bytes, to_be, put, written};
@@ -68,7 +70,7 @@ fn joined_end(e: Edition, b: &[u8], end: usize, o: usize, u: usize) -> usize
 }
 
 // Bytes of the data: where they start, and where they end.
-#[derive(Drop)]
+#[derive(Clone, Copy)]
 struct Span {
     start: usize,
     end: usize,

@@ -1,4 +1,6 @@
 // The index of an accepted block with a slot more: by each case of the room rule.
+#![tactic(auto)]
+
 ghost use Rattle.std.specs.Prelude.{◌≡◌, ◌+◌, ◌-◌, ◌*◌, ◌≤◌, ◌<◌, ◌++◌, [], ◌∷◌, length, drop};
 ghost use Rattle.be.specs.Lists.{without_first, keep};
 ghost use Rattle.be.specs.Bytes.{written, put, to_be, field};

@@ -1,4 +1,6 @@
 // Lookup and the walk in a block directory. Each public call tests the block once; the inner functions take a tested one.
+#![tactic(auto)]
+
 ghost use Rattle.std.specs.Prelude.{◌≡◌, true, ◌+◌, ◌≤◌, length, take, drop};
 ghost use Rattle.be.specs.Bytes.{byte};
 ghost use Rattle.edition.specs.Edition.{v4, Sane};
@@ -57,7 +59,7 @@ pub fn first_slot(e: Edition, b: &[u8], end: usize, count: usize, h: usize) -> u
 }
 
 // What a search finds: the slot's index and the entry's offset if there is one, and how many names were compared.
-#[derive(Drop)]
+#[derive(Clone, Copy)]
 pub struct Hit {
     pub hit: bool,
     pub index: usize,

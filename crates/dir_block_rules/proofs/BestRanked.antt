@@ -3,7 +3,7 @@
 use Prim.Native.Nat.{ℕ, zero, suc, ◌+◌, ◌<◌}
 use native.Mathlib.Omega.{arith}
 use mathlib.Core.Bool.{Bool, true, false, not, cond, ◌&&◌, ◌||◌, false≢true}
-use mathlib.Core.Path.{◌≡◌, refl, sym, ◌∙◌, ap}
+use mathlib.Core.Path.{◌≡◌, refl, sym, ◌∙◌, ap, subst}
 use mathlib.Core.List.{List, [], ◌∷◌}
 use lib.Dec.{eqb, leb, ltb, leb-zero}
 use lib.ListN.{length}
@@ -88,6 +88,15 @@ later_ahead : (m g : Rec) → ltb g.off m.off ≡ true → size g < size m → o
 later_ahead m g o l =
     rw (ne_eqb g.off m.off (λ (z : g.off ≡ m.off). omega (arith, ltb-true g.off m.off o)), lt-ltb (size g) (size m) l)
 
+-- the longest of a list whose first is as long as the others, or is not
+first_longest : (g g₂ : Rec) (gs : List Rec) → leb (size (longest (g₂ ∷ gs))) (size g) ≡ true → longest (g ∷ g₂ ∷ gs) ≡ g
+unfolding longest
+first_longest g g₂ gs q = rw q refl
+
+later_longest : (g g₂ : Rec) (gs : List Rec) → leb (size (longest (g₂ ∷ gs))) (size g) ≡ false → longest (g ∷ g₂ ∷ gs) ≡ longest (g₂ ∷ gs)
+unfolding longest
+later_longest g g₂ gs q = rw q refl
+
 longest_ahead : (gs : List Rec) → Rises gs → every (own_or_behind (longest gs)) gs ≡ true
 unfolding longest
 longest_ahead [] s = refl
@@ -96,9 +105,9 @@ longest_ahead (g ∷ g₂ ∷ gs) s =
     let hs : List Rec = g₂ ∷ gs in
     let m : Rec = longest (g₂ ∷ gs) in
     by_cases (leb (size m) (size g))
-    (λ q. rw q (every_cons (own_or_behind g) g hs (rw (eq-eqb g.off g.off refl) (eq-eqb (size g) (size g) refl))
+    (λ q. subst (λ (x : Rec). every (own_or_behind x) (g ∷ hs) ≡ true) (sym (first_longest g g₂ gs q)) (every_cons (own_or_behind g) g hs (rw (eq-eqb g.off g.off refl) (eq-eqb (size g) (size g) refl))
     (every_two (λ h. ltb g.off h.off) (λ h. leb (size h) (size g)) (own_or_behind g) (first_ahead g) hs s.0 (longest_every hs (size g) (leb-true (size m) (size g) q)))))
-    (λ q. rw q (every_cons (own_or_behind m) g hs
+    (λ q. subst (λ (x : Rec). every (own_or_behind x) (g ∷ hs) ≡ true) (sym (later_longest g g₂ gs q)) (every_cons (own_or_behind m) g hs
     (later_ahead m g (every_longest (λ h. ltb g.off h.off) g₂ gs s.0) (leb-false (size m) (size g) q))
     (longest_ahead (g₂ ∷ gs) s.1)))
 

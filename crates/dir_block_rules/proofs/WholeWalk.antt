@@ -47,8 +47,9 @@ unfolding record_at
 at_laid e o [] y ys l = rw (eq-eqb y.off (o + 0) (omega (arith, l.0)))
 at_laid e o (x ∷ xs) y ys l =
     let m : o + length (x.raw ++ join xs) ≡ o + size x + length (join xs) = rw (length-append, add_assoc) in
-    rw (m, ne_eqb x.off (o + size x + length (join xs)) (λ (z : x.off ≡ o + size x + length (join xs)). omega (arith, l.0, l.1.least)))
-    (at_laid e (o + size x) xs y ys l.2)
+    subst (λ (p : ℕ). record_at p (x ∷ (xs ++ y ∷ ys)) ≡ y) (sym m)
+    (rw (ne_eqb x.off (o + size x + length (join xs)) (λ (z : x.off ≡ o + size x + length (join xs)). omega (arith, l.0, l.1.least)))
+    (at_laid e (o + size x) xs y ys l.2))
 
 -- the tags of whole records laid end to end rise
 climbs_laid : (e : Edition) (o : ℕ) (rs : List Rec) → Laid e o rs → climbs (map tag rs) ≡ true

@@ -1,1 +1,2 @@
 // The rules of the block directory, demand 3 and their proofs: definitions alone, no code.
+#![tactic(auto)]

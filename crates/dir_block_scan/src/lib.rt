@@ -1,5 +1,7 @@
 // The gaps of a block: T, the longest others, and the best-gap table anew, by what the block stores where that names all gaps, else by one pass
 // over its records.
+#![tactic(auto)]
+
 ghost use Rattle.std.specs.Prelude.{◌≡◌, ◌+◌, ◌-◌, ◌≤◌, ◌<◌, cond, [], ◌∷◌, length};
 ghost use Rattle.be.specs.Bytes.{put};
 ghost use Rattle.edition.specs.Edition.{entry_size, Sane};
@@ -18,7 +20,7 @@ use edition::Edition;
 
 // Where a walk stands; four gaps as offset and length: after a pass the longest, else what the function says; and where that is asked for
 // the gap at the slots (none: the data's end, and 0).
-#[derive(Drop)]
+#[derive(Clone, Copy)]
 pub struct Scan {
     pub at: usize,
     pub o1: usize,
@@ -190,7 +192,7 @@ fn backward(e: Edition, b: &[u8], v: usize, g: Scan, o: usize) -> Scan
 }
 
 // A gap, or none: where it starts, and how long it is.
-#[derive(Drop)]
+#[derive(Clone, Copy)]
 pub struct Gap {
     pub at: usize,
     pub len: usize,

@@ -1,5 +1,7 @@
 // The test of a block directory: any bytes, answered by 0 or the number of the first test that fails. One pass over the slots, which leaves
 // each slot's hash and address in a table by address; one over the records; and, where slots have one hash, one more over the slots.
+#![tactic(auto)]
+
 ghost use Rattle.std.specs.Prelude.{◌≡◌, true, false, not, ◌&&◌, cond, ◌+◌, ◌*◌, ◌-◌, ◌/◌, ◌%◌, ◌≤◌, ◌<◌, min, eqb, leb, ltb, length, set, replicate};
 ghost use Rattle.std.specs.Bool.{beq};
 ghost use Rattle.be.specs.Bytes.{byte, field, part};
@@ -79,7 +81,7 @@ fn ones(x: bool) -> usize
 
 // What the pass over the slots shows: whether their hashes never fall and as many are stale as should be; whether neighbours have one hash
 // (or the first slot's is 0, which only costs time).
-#[derive(Drop)]
+#[derive(Clone, Copy)]
 struct Run {
     good: bool,
     equal: bool,
@@ -196,7 +198,7 @@ fn lower(x: usize, y: usize) -> usize
 }
 
 // A pair of the best-gap table.
-#[derive(Drop)]
+#[derive(Clone, Copy)]
 struct Best {
     from: usize,
     long: usize,
@@ -230,7 +232,7 @@ fn which(o: usize, n: usize, p: Best, q: Best, s: Best) -> usize
 
 // What the pass over the records shows: n is 0 if the data is not tiled, else one more than it has entries; w is the lowest fault of
 // their names, numbers and slots; best says whether the pairs name the longest gaps.
-#[derive(Drop)]
+#[derive(Clone, Copy)]
 struct Survey {
     n: usize,
     w: usize,

@@ -1,5 +1,7 @@
 // TWICE, test 10 of a block directory: no name is stored twice. Names are compared only within runs of one hash, and there only where the
 // bits of a second hash are set already; where that still happens often, the names are sorted, and their order is tested.
+#![tactic(auto)]
+
 ghost use Rattle.std.specs.Prelude.{◌≡◌, true, false, ◌||◌, ◌+◌, ◌*◌, ◌≤◌, ◌<◌, eqb, length, get_or, set};
 ghost use Rattle.std.specs.Int.Bits.{bit_and, bit_or};
 ghost use Rattle.be.specs.Bytes.{byte};
@@ -143,7 +145,7 @@ fn suspect<'a, 'b>(b: &'a [u8], t: usize, n: usize, i: usize, seen: &'b mut [u64
 }
 
 // What a way to the answer shows: whether it came to one, and then whether no name is stored twice.
-#[derive(Drop)]
+#[derive(Clone, Copy)]
 struct Finding {
     known: bool,
     once: bool,

@@ -1,5 +1,1 @@
-pub mod Made
-pub mod PlainStep
-pub mod WalkerStep
 pub mod WalkerWalk
-pub mod Within

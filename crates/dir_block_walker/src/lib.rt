@@ -1,5 +1,7 @@
 // A walker over a block directory: it keeps hold of the block and its place between steps. `step` and `advance` take
 // the walker apart and call the plain walk, in one place (`met`).
+#![tactic(auto)]
+
 ghost use Rattle.std.specs.Prelude.{◌≡◌};
 ghost use Rattle.edition.specs.Edition.{v4};
 ghost use Rattle.dir_block_rules.specs.Walk.{StepPromise};
@@ -9,7 +11,7 @@ use dir::Walked;
 use edition::V4;
 
 // The block that the walker holds, and its place.
-#[derive(Drop)]
+#[derive(Clone, Copy)]
 pub struct Walker<'a> {
     pub block: &'a [u8],
     pub place: usize,

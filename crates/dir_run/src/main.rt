@@ -1,7 +1,13 @@
 // Runs the block directory's calls on the block that document 004 dumps (standard input): its lookups, its walk, a walker, the block
 // after the removal that 004 shows, and a block for each refusal.
+#![tactic(auto)]
+
 use dir::{Looked, Seen, Step, Walked};
-use libc::{STDIN_FILENO, STDOUT_FILENO};
+
+// The process's own streams, by the numbers that the system gives them.
+const STDIN_FILENO: i32 = 0;
+
+const STDOUT_FILENO: i32 = 1;
 
 fn text(s: &[u8]) {
     io::write_all(STDOUT_FILENO, s);

@@ -1,4 +1,6 @@
 // Short-form directories: test, lookup and walk step, in the inode.
+#![tactic(auto)]
+
 ghost use Rattle.std.specs.Prelude.{◌≡◌, true, cond, not, ◌&&◌, ◌+◌, ◌≤◌, ◌<◌, length};
 ghost use Rattle.be.specs.Bytes.{byte, field};
 ghost use Rattle.records.specs.Records.{start};
@@ -56,14 +58,14 @@ pub fn namelen(e: Edition, u: &[u8], p: usize, wides: usize) -> usize
 }
 
 // Where an entry stands: how many are before it, and where it starts.
-#[derive(Drop)]
+#[derive(Clone, Copy)]
 pub struct Spot {
     pub index: usize,
     pub at: usize,
 }
 
 // The tag of a new entry: where it is free, or nowhere.
-#[derive(Drop)]
+#[derive(Clone, Copy)]
 pub enum FreeTag {
     At(usize),
     Nowhere,
@@ -330,7 +332,7 @@ pub fn parent_of(u: &[u8]) -> u64
 }
 
 // What the search for a name finds: whether an entry bears it, how many stand before it, where it starts, what it stands for, its tag.
-#[derive(Drop)]
+#[derive(Clone, Copy)]
 pub struct Hit {
     pub held: bool,
     pub index: usize,

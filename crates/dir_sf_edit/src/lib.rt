@@ -1,4 +1,6 @@
 // Changes of short-form directories: insert and removal, in the inode.
+#![tactic(auto)]
+
 ghost use Rattle.std.specs.Prelude.{◌≡◌, true, cond, ◌∷◌, ◌++◌, ◌+◌, ◌-◌, ◌≤◌, ◌<◌, length, take, drop};
 ghost use Rattle.be.specs.Bytes.{byte, put, to_be};
 ghost use Rattle.records.specs.Records.{start};

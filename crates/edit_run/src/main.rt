@@ -1,9 +1,13 @@
 // Runs insert and removal: the papers' cases C1 to C6, and long sequences of mixed calls, each answer compared with a book that
 // the program keeps and with the room rule computed apart from the library.
+#![tactic(auto)]
+
 ghost use Rattle.std.specs.Prelude.{◌≡◌, ◌+◌, ◌<◌, ◌≤◌, length};
 
 use dir::Looked;
-use libc::STDOUT_FILENO;
+
+// The process's own streams, by the numbers that the system gives them.
+const STDOUT_FILENO: i32 = 1;
 
 fn text(s: &[u8]) {
     io::write_all(STDOUT_FILENO, s);
@@ -178,7 +182,7 @@ fn most(b: &mut [u8])
 // ---- the room rule, computed apart from the library
 
 // The lengths of T and of the longest gap other than T.
-#[derive(Drop)]
+#[derive(Clone, Copy)]
 struct Lengths {
     last: usize,
     other: usize,
@@ -293,7 +297,7 @@ fn room(b: &[u8], name: usize) -> usize
 // ---- the book: a number for each name, 0 if it is not held
 
 // What the calls came to.
-#[derive(Drop)]
+#[derive(Clone, Copy)]
 struct Tally {
     // Inserts by each case of the room rule.
     a: u64,

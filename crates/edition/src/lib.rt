@@ -1,9 +1,11 @@
 // The editions: an edition's numbers stand together under its name, and the shared code takes them by value.
+#![tactic(auto)]
+
 ghost use Rattle.std.specs.Prelude.{◌≡◌, ◌+◌, ◌≤◌, ◌<◌};
 ghost use Rattle.edition.specs.Edition.{v4, Sane, entry_size, block_size};
 
 // What the rules take from an edition.
-#[derive(Drop)]
+#[derive(Clone, Copy)]
 pub struct Edition {
     // A block's first four bytes.
     pub magic: usize,
@@ -22,7 +24,7 @@ pub struct Edition {
     pub newest: usize,
 }
 
-#[derive(Drop)]
+#[derive(Clone, Copy)]
 pub struct V4;
 
 impl V4 {

@@ -1,4 +1,6 @@
 // Lists a block directory: reads one block from standard input, writes the listing or "refused " and the number.
+#![tactic(auto)]
+
 ghost use Rattle.std.specs.Prelude.{◌≡◌, ◌++◌, ◌+◌, ◌≤◌, ◌<◌, length};
 ghost use Rattle.io.specs.Counts.{IsPrefixLen};
 ghost use Rattle.edition.specs.Edition.{Sane, largest_block};
@@ -7,7 +9,11 @@ ghost use Rattle.dir_block_laws.specs.Tiled.{Ready};
 
 use dir::{Entry, Seen};
 use edition::{Edition, V4};
-use libc::{STDIN_FILENO, STDOUT_FILENO};
+
+// The process's own streams, by the numbers that the system gives them.
+const STDIN_FILENO: i32 = 0;
+
+const STDOUT_FILENO: i32 = 1;
 
 // Lines go into a buffer of this many bytes, `out`, of which the first n are in use. It is written when the next piece does not fit.
 const BUFFER: usize = 8192;

@@ -1,4 +1,6 @@
 // Names and inode numbers: which are legal, the hash of a name, and when two names are the same.
+#![tactic(auto)]
+
 ghost use Rattle.std.specs.Prelude.{◌≡◌, cond, [], ◌∷◌, ◌+◌, ◌≤◌, ◌<◌, length, take, drop};
 ghost use Rattle.be.specs.Lists.{every, same};
 ghost use Rattle.be.specs.Bytes.{part};

@@ -1,4 +1,6 @@
 // Directory names by words of eight bytes: their legality and hash in one pass, the hash alone, and a second hash; and inode numbers by one word.
+#![tactic(auto)]
+
 ghost use Rattle.std.specs.Prelude.{◌≡◌, ◌&&◌, ◌+◌, ◌-◌, ◌*◌, ◌/◌, ◌%◌, ◌^◌, ◌≤◌, ◌<◌, length};
 ghost use Rattle.be.specs.Lists.{every};
 ghost use Rattle.be.specs.Bytes.{part, field};
@@ -41,7 +43,7 @@ fn hash_word(w: u64) -> u32
 }
 
 // What the bytes of a name so far show: a mark in every lane if all of them may stand in it, and their hash.
-#[derive(Drop)]
+#[derive(Clone, Copy)]
 struct Read {
     marks: u64,
     hash: u32,
@@ -120,7 +122,7 @@ fn folded(a: u64, b: u64, c: u64, d: u64) -> u32
 }
 
 // What the bytes up to a place show.
-#[derive(Drop)]
+#[derive(Clone, Copy)]
 struct Begun {
     at: usize,
     marks: u64,
@@ -184,7 +186,7 @@ fn all_words(b: &[u8], i0: usize, end: usize) -> Read
 }
 
 // What a directory name shows.
-#[derive(Drop)]
+#[derive(Clone, Copy)]
 pub struct Checked {
     pub legal: bool,
     pub hash: usize,
@@ -247,7 +249,7 @@ pub fn number_legal_at(b: &[u8], o: usize) -> bool
 // ---- the hash alone, of bytes that nothing need follow
 
 // A place, and a hash that goes on from there.
-#[derive(Drop)]
+#[derive(Clone, Copy)]
 struct Hashed {
     at: usize,
     hash: u32,

@@ -1,6 +1,8 @@
 // What C and Rust call: each call of the library under a fixed name. An answer that is an enum goes out as a struct of numbers:
 // `refusal` is 0 or the refusal's number, and the other fields are 0 when it is not 0, except `compared` of a block lookup's ABSENT.
 // include/pelunziwa.h declares the same structs and calls for C.
+#![tactic(auto)]
+
 ghost use Rattle.std.specs.Prelude.{◌≡◌, ◌≤◌, ◌<◌};
 ghost use Rattle.refusal.specs.Refusal.{HIGHEST};
 ghost use Rattle.pelunziwa.specs.Answers.{found_target, not_found, as_found, live, no_entry, as_seen, as_step};
@@ -15,7 +17,7 @@ mod sfdir;
 
 // An inode's fields.
 #[repr(C)]
-#[derive(Drop)]
+#[derive(Clone, Copy)]
 pub struct Core {
     pub refusal: u32,
     pub magic: u32,
@@ -29,7 +31,7 @@ pub struct Core {
 
 // A lookup in a directory: the file type (0 in V4), the inode number, the entry's tag, and the names compared (0 in a short form).
 #[repr(C)]
-#[derive(Drop)]
+#[derive(Clone, Copy)]
 pub struct Found {
     pub refusal: u32,
     pub kind: u32,
@@ -40,7 +42,7 @@ pub struct Found {
 
 // Where an attribute's value lies in the lent inode.
 #[repr(C)]
-#[derive(Drop)]
+#[derive(Clone, Copy)]
 pub struct Place {
     pub refusal: u32,
     pub start: u64,
@@ -49,7 +51,7 @@ pub struct Place {
 
 // A step of a directory's walk; seen: 0 end, 1 gap, 2 live.
 #[repr(C)]
-#[derive(Drop)]
+#[derive(Clone, Copy)]
 pub struct Step {
     pub refusal: u32,
     pub seen: u32,
@@ -63,7 +65,7 @@ pub struct Step {
 
 // A step of an attribute walk; seen: 0 end, 2 live.
 #[repr(C)]
-#[derive(Drop)]
+#[derive(Clone, Copy)]
 pub struct AttrStep {
     pub refusal: u32,
     pub seen: u32,

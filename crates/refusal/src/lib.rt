@@ -1,5 +1,6 @@
 // The paper's refusals by name: one table for all code. specs/Refusal.antt is the same table for definitions; a number that
 // differed between the two would leave the first contract that speaks of it unproved.
+#![tactic(auto)]
 
 // An inode's, a block's or the told block length isn't one allowed.
 pub const SIZE: usize = 1;

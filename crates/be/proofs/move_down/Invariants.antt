@@ -1,0 +1,13 @@
+use Prim.Native.Nat.{◌<◌, ◌≤◌, ◌-◌}
+use lib.ListN.{length-drop, length, take, drop, length-set}
+use mathlib.Core.Path.{◌≡◌, refl, sym, ◌∙◌}
+use Rattle.be.proofs.Stores.{put_sets, copy_turn, read_above}
+use native.Mathlib.Omega.{arith}
+use lib.Seq.{sets}
+use Rattle.be.proofs.move_down.Given as goal
+
+abbrev pub invariant-loop-i : goal.invariant-loop-i
+invariant-loop-i l = (l.i ≤ l.n) × (length l.b ≡ length l.initial.b) × (l.b ≡ sets l.initial.b l.to (take l.i (drop l.from l.initial.b)))
+
+abbrev pub decreases-loop-i : goal.decreases-loop-i
+decreases-loop-i l = l.n - l.i

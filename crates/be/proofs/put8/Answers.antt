@@ -1,0 +1,7 @@
+use Rattle.be.proofs.Stores.{store}
+use borrow.Author.Rules.{rules}
+use Rattle.be.proofs.put8.Goals as goal
+
+pub returns : goal.returns
+returns c =
+    store _ _ _

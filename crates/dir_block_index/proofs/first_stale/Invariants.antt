@@ -1,0 +1,16 @@
+use Prim.Native.Nat.{◌-◌, ◌≤◌}
+use native.Mathlib.Omega.{arith}
+use mathlib.Core.Path.{◌≡◌, refl}
+use mathlib.Core.Bool.{true}
+use lib.ListN.{take}
+use Rattle.be.specs.Lists.{every}
+use Rattle.dir_block_rules.specs.Block.{slots, is_live}
+use Rattle.dir_block_laws.proofs.SlotSearch.{slots_room, slot_read}
+use Rattle.dir_block_laws.proofs.IndexStores.{stale_turn, stale_none, stale_at}
+use Rattle.dir_block_index.proofs.first_stale.Given as goal
+
+abbrev pub invariant-loop-j : goal.invariant-loop-j
+invariant-loop-j l = (l.j ≤ l.count) × (every is_live (take l.j (slots l.b)) ≡ true)
+
+abbrev pub decreases-loop-j : goal.decreases-loop-j
+decreases-loop-j l = l.count - l.j

@@ -1,0 +1,20 @@
+use mathlib.Core.Path.{◌≡◌, ◌∙◌, ap}
+use mathlib.Core.List.{List}
+use Prim.Native.Nat.{ℕ}
+use borrow.Author.Rules.{rules}
+use Rattle.edition.specs.declared.Edition.{Edition}
+use Rattle.edition.specs.Edition.{v4}
+use Rattle.dir.specs.declared.Walked.{Walked}
+use Rattle.dir.specs.Answers.{walked_code, walked_next, walked_seen}
+use Rattle.dir_block_rules.specs.Walk.{walk_step, StepPromise}
+use Rattle.dir_block_rules.proofs.WholeWalk.{step_is, next_is, seen_is}
+use Rattle.dir_block_lookup.proofs.step.Goals as goal
+
+-- of the edition that was made
+made : {e : Edition} {r : Walked} (b : List ℕ) (p : ℕ) → r ≡ walk_step e b p → e ≡ v4
+    → StepPromise v4 b p r
+made b p h q =
+    let k = rw q at h in (k, ap walked_code k ∙ step_is v4 b p, ap walked_next k ∙ next_is v4 b p, ap walked_seen k ∙ seen_is v4 b p)
+
+pub returns : goal.returns
+returns c = made _ _ c.step_in.ensures c.edition.ensures.0

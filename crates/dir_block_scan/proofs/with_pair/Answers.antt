@@ -1,0 +1,41 @@
+use borrow.Author.Rules.{rules}
+use borrow.Author.Tests.{lt-ltb, le-ltb}
+use Rattle.dir_block_laws.specs.BestSoFar.{ins}
+use Rattle.dir_block_scan.proofs.with_pair.Goals as goal
+
+pub returns-then-s-l : goal.returns-then-s-l
+unfolding ins
+returns-then-s-l c =
+    let q = lt-ltb _ _ c.if-s-l.true in
+    (rw q c.before_all.ensures.0, rw q c.before_all.ensures.1)
+
+pub returns-then-s-l-2 : goal.returns-then-s-l-2
+unfolding ins
+returns-then-s-l-2 c =
+    let q₁ = le-ltb _ _ c.if-s-l.false in
+    let q₂ = lt-ltb _ _ c.if-s-l-2.true in
+    (rw (q₁, q₂), rw (q₁, q₂))
+
+pub returns-then-s-l-3 : goal.returns-then-s-l-3
+unfolding ins
+returns-then-s-l-3 c =
+    let q₁ = le-ltb _ _ c.if-s-l.false in
+    let q₂ = le-ltb _ _ c.if-s-l-2.false in
+    let q₃ = lt-ltb _ _ c.if-s-l-3.true in
+    (rw (q₁, q₂, q₃), rw (q₁, q₂, q₃))
+
+pub returns-then-s-l-4 : goal.returns-then-s-l-4
+unfolding ins
+returns-then-s-l-4 c =
+    let q₁ = le-ltb _ _ c.if-s-l.false in
+    let q₂ = le-ltb _ _ c.if-s-l-2.false in
+    let q₃ = le-ltb _ _ c.if-s-l-3.false in
+    (rw (q₁, q₂, q₃, lt-ltb _ _ c.if-s-l-4.true), rw (q₁, q₂, q₃))
+
+pub returns-else-s-l-4 : goal.returns-else-s-l-4
+unfolding ins
+returns-else-s-l-4 c =
+    let q₁ = le-ltb _ _ c.if-s-l.false in
+    let q₂ = le-ltb _ _ c.if-s-l-2.false in
+    let q₃ = le-ltb _ _ c.if-s-l-3.false in
+    (rw (q₁, q₂, q₃, le-ltb _ _ c.if-s-l-4.false), rw (q₁, q₂, q₃))

@@ -1,0 +1,7 @@
+use mathlib.Core.Path.{sym}
+use lib.Seq.{set_out}
+use borrow.Author.Rules.{rules}
+use Rattle.dir_block_test.proofs.keep.Goals as goal
+
+pub returns-else-a-cells : goal.returns-else-a-cells
+returns-else-a-cells c = sym (set_out _ _ _ c.if-a-cells.false)

@@ -1,0 +1,19 @@
+use borrow.Author.Rules.{rules}
+use borrow.Author.Tests.{not-true, not-false}
+use Rattle.dir_block_test.proofs.NamePlaces.{fits_illegal, fits_other, fits_dot, fits_dotdot}
+use Rattle.dir_block_test.proofs.name_fits.Goals as goal
+
+pub returns-then-not-legal : goal.returns-then-not-legal
+returns-then-not-legal c = fits_illegal _ _ _ _ c.requires.legal_value c.if-not-legal.true
+
+pub returns-then-s-e : goal.returns-then-s-e
+returns-then-s-e c =
+    fits_other _ _ _ _ c.requires.legal_value c.if-not-legal.false c.if-s-e.true
+
+pub returns-then-not-agree : goal.returns-then-not-agree
+returns-then-not-agree c =
+    fits_dot _ _ _ _ c.requires.legal_value c.if-not-legal.false _ c.equal.ensures _ c.agree.ensures c.if-not-agree.true
+
+pub returns : goal.returns
+returns c =
+    fits_dotdot _ _ _ _ c.requires.legal_value c.if-not-legal.false _ c.equal.ensures _ c.agree.ensures c.if-not-agree.false _ c.equal-2.ensures _ c.agree-2.ensures

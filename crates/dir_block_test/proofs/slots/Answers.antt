@@ -1,0 +1,36 @@
+use Prim.Native.Nat.{◌-◌}
+use native.Mathlib.Omega.{arith}
+use mathlib.Core.Path.{◌≡◌}
+use borrow.Author.Rules.{rules}
+use Rattle.dir_block_test.specs.Passes.{cells_of}
+use Rattle.dir_block_test.proofs.SlotWalk.{Ordering, ordering_start, ordering_on, ordering_end, level_end}
+use Rattle.dir_block_test.proofs.SlotTable.{cells_on, cells_none, cells_end, cells_long}
+use Rattle.dir_block_test.proofs.slots.Goals as goal
+
+pub loop-i-init : goal.loop-i-init
+loop-i-init c = (ordering_start _ _ _ _, cells_none _ _ _)
+
+pub keep-requires : goal.keep-requires
+keep-requires c = (c.slot_addr-a.ensures.1, c.slot_hash-h.ensures.1)
+
+pub overflow_add-stale : goal.overflow_add-stale
+overflow_add-stale c = omega (arith, c.loop-i.invariant.0.few, c.loop-i.invariant.0.within, c.ones-stale.ensures.1)
+
+pub overflow_add-i : goal.overflow_add-i
+overflow_add-i c = omega (arith, c.loop-i.invariant.0.within)
+
+pub loop-i-preserved : goal.loop-i-preserved
+loop-i-preserved c =
+    let l = c.loop-i.invariant in (
+      ordering_on _ _ _ _ _ _ _ _ _ l.0 c.loop-i-test.true _ _ _ c.slot_hash-h.ensures.0 c.slot_addr-a.ensures.0 c.ones-stale.ensures.0 c.ones-stale.ensures.1,
+      cells_on _ _ _ _ _ _ _ _ l.1 c.slot_hash-h.ensures.0 c.slot_addr-a.ensures.0 c.keep.ensures,
+    )
+
+pub shape_of-cells : goal.shape_of-cells
+shape_of-cells c = cells_long _ _ _ _ _ c.loop-i.invariant.1
+
+pub returns : goal.returns
+returns c =
+    let l = c.loop-i.invariant in
+    let h = c.loop-i-test.false in
+    (ordering_end _ _ _ _ _ _ _ _ _ l.0 h, level_end _ _ _ _ _ _ _ _ _ l.0 h, cells_end _ _ _ _ _ _ l.0.within h l.1)

@@ -1,0 +1,17 @@
+use Prim.Native.Nat.{ℕ, ◌+◌, ◌-◌, ◌≤◌}
+use native.Mathlib.Omega.{arith}
+use mathlib.Core.Path.{sym, ◌∙◌}
+use borrow.Author.Rules.{rules}
+use borrow.Author.Tests.{not-true, not-false}
+use Rattle.dir_block_rules.specs.Verdict.{pair}
+use Rattle.dir_block_test.specs.Passes.{hint, own_at}
+use Rattle.dir_block_test.proofs.RecordWalk.{Walking, walking_start, walking_end, walking_not, walking_room, walking_broken, walking_fits, walking_entry, walking_stop, walking_gap_on, hd, hd_gap}
+use Rattle.dir_block_test.proofs.walk.Given as goal
+
+abbrev pub invariant-loop-o : goal.invariant-loop-o
+invariant-loop-o l =
+    Walking l.e l.b l.t l.e.header (own_at l.e l.b) (hint l.cells) (pair l.p.from l.p.long) (pair l.q.from l.q.long) (pair l.s.from l.s.long) l.x0 l.y0 l.z0
+    l.o l.after l.n l.w l.x l.y l.z l.best
+
+abbrev pub decreases-loop-o : goal.decreases-loop-o
+decreases-loop-o l = l.t - l.o

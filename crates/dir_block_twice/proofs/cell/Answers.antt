@@ -1,0 +1,10 @@
+use native.Mathlib.Omega.{arith}
+use borrow.Author.Rules.{rules}
+use mathlib.Core.Path.{refl}
+use Rattle.dir_block_twice.proofs.cell.Goals as goal
+
+pub overflow_cast-result : goal.overflow_cast-result
+overflow_cast-result c = omega (arith, c.type_inv.s c.args.k)
+
+pub returns : goal.returns
+returns c = (refl, omega (arith, c.type_inv.s c.args.k))

@@ -1,0 +1,56 @@
+use native.Mathlib.Omega.{arith}
+use borrow.Author.Rules.{rules}
+use Prim.Native.Nat.{◌+◌, ◌-◌, ◌≤◌, ◌<◌}
+use mathlib.Core.Path.{◌≡◌, refl, ◌∙◌}
+use lib.ListN.{length}
+use Rattle.be.proofs.Bools.{clash}
+use Rattle.dir_block_twice.proofs.TwinWalk.{twin_live}
+use Rattle.dir_block_twice.proofs.TwinKeys.{Downing, down_start, down_end, down_marks, twin_twice, down_on}
+use Rattle.dir_block_twice.proofs.once_with.Goals as goal
+
+pub loop-i-init : goal.loop-i-init
+loop-i-init c = (down_start _ _ _ _ _ c.requires.2, refl, omega arith)
+
+pub suspect-requires : goal.suspect-requires
+suspect-requires c =
+    let l = c.loop-i in
+    let u : l.i - 1 < c.args.n = omega (arith, l.invariant.0.within) in
+    let q : l.i ≡ l.i - 1 + 1 = omega arith in
+    (c.requires.0, u, c.requires.1, down_marks _ _ _ _ _ _ u q _ l.invariant.0)
+
+pub returns-then-left-eq0 : goal.returns-then-left-eq0
+returns-then-left-eq0 c =
+    (λ z. absurd (clash z c.unknown.ensures), λ h. absurd (omega (arith, c.loop-i.invariant.0.within, c.loop-i.invariant.2)))
+
+pub clash-requires : goal.clash-requires
+clash-requires c =
+    let u : c.loop-i.i - 1 < c.args.n = omega (arith, c.loop-i.invariant.0.within) in
+    (c.requires.0, u, c.requires.1, c.suspect.ensures.live c.if-suspect.true)
+
+pub returns-then-clash : goal.returns-then-clash
+returns-then-clash c =
+    let a = c.args in
+    let l = c.loop-i in
+    let u : l.i - 1 < a.n = omega (arith, l.invariant.0.within) in
+    let h = twin_live a.e a.b.now a.t a.n (l.i - 1) _ (c.suspect.ensures.live c.if-suspect.true) c.clash.ensures ∙ c.if-clash.true in
+    (λ z. c.known.ensures.1 ∙ twin_twice a.e a.b.now a.t a.n (l.i - 1) u h, λ z. c.known.ensures.0)
+
+pub loop-i-preserved-else-clash : goal.loop-i-preserved-else-clash
+loop-i-preserved-else-clash c =
+    let a = c.args in
+    let l = c.loop-i in
+    let u : l.i - 1 < a.n = omega (arith, l.invariant.0.within) in
+    let q : l.i ≡ l.i - 1 + 1 = omega arith in
+    let h = twin_live a.e a.b.now a.t a.n (l.i - 1) _ (c.suspect.ensures.live c.if-suspect.true) c.clash.ensures ∙ c.if-clash.false in
+    (down_on a.e a.b.now a.t a.n (l.i - 1) _ u q _ l.invariant.0 h _ c.suspect.ensures.marks, search rules, omega (arith, l.invariant.0.within, l.invariant.2))
+
+pub loop-i-preserved : goal.loop-i-preserved
+loop-i-preserved c =
+    let a = c.args in
+    let l = c.loop-i in
+    let u : l.i - 1 < a.n = omega (arith, l.invariant.0.within) in
+    let q : l.i ≡ l.i - 1 + 1 = omega arith in
+    (down_on a.e a.b.now a.t a.n (l.i - 1) _ u q _ l.invariant.0 (c.suspect.ensures.alone c.if-suspect.false a.e) _ c.suspect.ensures.marks, search rules, omega (arith, l.invariant.0.within, l.invariant.2))
+
+pub returns : goal.returns
+returns c = (λ z. c.known-2.ensures.1 ∙ down_end _ _ _ _ _ _ c.loop-i.invariant.0 c.loop-i-test.false, λ z. c.known-2.ensures.0)

@@ -1,0 +1,17 @@
+use native.Mathlib.Omega.{arith}
+use borrow.Author.Rules.{rules}
+use Prim.Native.Nat.{◌+◌, ◌-◌, ◌≤◌, ◌<◌}
+use mathlib.Core.Path.{◌≡◌, refl, ◌∙◌}
+use lib.ListN.{length}
+use Rattle.be.proofs.Bools.{clash}
+use Rattle.dir_block_twice.proofs.TwinWalk.{twin_live}
+use Rattle.dir_block_twice.proofs.TwinKeys.{Downing, down_start, down_end, down_marks, twin_twice, down_on}
+use Rattle.dir_block_twice.proofs.once_with.Given as goal
+
+abbrev pub invariant-loop-i : goal.invariant-loop-i
+invariant-loop-i l =
+    Downing l.e l.b l.t l.n l.i l.seen × (length l.seen ≡ length l.initial.seen) × (l.turns ≤ l.left + (l.n - l.i))
+
+abbrev pub decreases-loop-i : goal.decreases-loop-i
+decreases-loop-i l =
+    l.i

@@ -1,0 +1,14 @@
+use native.Mathlib.Omega.{arith}
+use borrow.Author.Rules.{rules}
+use Prim.Native.Nat.{◌-◌}
+use mathlib.Core.Bool.{false≢true}
+use Rattle.dir_block_twice.proofs.SortedSlots.{RankedTo, ranked_on, ranked_all}
+use Rattle.dir_block_twice.proofs.ranked.Given as goal
+
+abbrev pub invariant-loop-i : goal.invariant-loop-i
+invariant-loop-i l =
+    RankedTo l.b l.t l.n l.order l.rank l.m l.i
+
+abbrev pub decreases-loop-i : goal.decreases-loop-i
+decreases-loop-i l =
+    l.n - l.i

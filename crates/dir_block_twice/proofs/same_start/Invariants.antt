@@ -1,0 +1,13 @@
+use Prim.Native.Nat.{◌-◌, ◌≤◌}
+use native.Mathlib.Omega.{arith}
+use borrow.Author.Rules.{rules}
+use lib.ListN.{length}
+use Rattle.dir_block_twice.specs.Twice.{Undecided}
+use Rattle.dir_block_twice.proofs.NameOrder.{alike_start, alike_word}
+use Rattle.dir_block_twice.proofs.same_start.Given as goal
+
+abbrev pub invariant-loop-k : goal.invariant-loop-k
+invariant-loop-k l = Undecided l.x l.y l.k × (l.k ≤ l.n)
+
+abbrev pub decreases-loop-k : goal.decreases-loop-k
+decreases-loop-k l = length l.x - l.k

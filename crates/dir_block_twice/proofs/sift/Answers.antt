@@ -1,0 +1,9 @@
+use native.Mathlib.Omega.{arith}
+use borrow.Author.Rules.{rules}
+use Prim.Native.Nat.{◌-◌, ◌≤◌}
+use mathlib.Core.Path.{◌≡◌}
+use lib.ListN.{length}
+use Rattle.dir_block_twice.proofs.sift.Goals as goal
+
+pub ascends-requires : goal.ascends-requires
+ascends-requires c = (c.requires.0, c.requires.1, omega arith, omega arith)

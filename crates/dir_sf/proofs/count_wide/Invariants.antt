@@ -1,0 +1,12 @@
+use Prim.Native.Nat.{◌-◌}
+use borrow.Author.Rules.{rules}
+use Rattle.dir_sf.specs.Entry.{width_of}
+use Rattle.dir_sf.proofs.Run.{run_one}
+use Rattle.dir_sf.proofs.Tests.{Wide, wide_start, wide_on, wide_done}
+use Rattle.dir_sf.proofs.count_wide.Given as goal
+
+abbrev pub invariant-loop-i : goal.invariant-loop-i
+invariant-loop-i l = Wide l.e (width_of l.wides) l.u l.at l.k l.parent l.i l.p l.c
+
+abbrev pub decreases-loop-i : goal.decreases-loop-i
+decreases-loop-i l = l.k - l.i

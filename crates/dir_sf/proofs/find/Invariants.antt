@@ -1,0 +1,12 @@
+use Prim.Native.Nat.{◌-◌}
+use borrow.Author.Rules.{rules}
+use Rattle.dir_sf.specs.Entry.{width_of}
+use Rattle.dir_sf.proofs.Run.{run_one}
+use Rattle.dir_sf.proofs.Seeks.{Seek, seek_start, seek_on, found_index, seek_none}
+use Rattle.dir_sf.proofs.find.Given as goal
+
+abbrev pub invariant-loop-i : goal.invariant-loop-i
+invariant-loop-i l = Seek l.e (width_of l.wides) l.u l.at l.k l.name l.i l.p
+
+abbrev pub decreases-loop-i : goal.decreases-loop-i
+decreases-loop-i l = l.k - l.i

@@ -1,0 +1,18 @@
+use borrow.Author.Rules.{rules}
+use Rattle.dir_sf.proofs.Looks.{look_asked, look_fixed, look_parent, look_absent, look_found}
+use Rattle.dir_sf.proofs.look.Goals as goal
+
+pub returns-then-not-legal : goal.returns-then-not-legal
+returns-then-not-legal c = search (rules, look_asked)
+
+pub returns-then-equal : goal.returns-then-equal
+returns-then-equal c = search (rules, look_fixed)
+
+pub returns-then-equal-2 : goal.returns-then-equal-2
+returns-then-equal-2 c = search (rules, look_parent)
+
+pub returns-then-h : goal.returns-then-h
+returns-then-h c = search (rules, look_found)
+
+pub returns : goal.returns
+returns c = search (rules, look_absent)

@@ -1,0 +1,12 @@
+use Prim.Native.Nat.{◌-◌, ◌+◌}
+use borrow.Author.Rules.{rules}
+use Rattle.dir_sf.specs.Entry.{width_of}
+use Rattle.dir_sf.proofs.Run.{run_one}
+use Rattle.dir_sf.proofs.Walks.{Walk, walk_start, walk_on, walk_hit, walk_end, walk_off}
+use Rattle.dir_sf.proofs.step_over.Given as goal
+
+abbrev pub invariant-loop-i : goal.invariant-loop-i
+invariant-loop-i l = Walk l.e (width_of l.wides) l.u (2 + width_of l.wides) l.k l.place l.i l.p
+
+abbrev pub decreases-loop-i : goal.decreases-loop-i
+decreases-loop-i l = l.k - l.i

@@ -1,0 +1,6 @@
+use borrow.Author.Rules.{rules}
+use Rattle.dir_sf.proofs.Inodes.{test_made}
+use Rattle.dir_sf.proofs.test.Goals as goal
+
+pub returns : goal.returns
+returns c = test_made _ _ _ _ _ c.code.ensures c.edition.ensures.0

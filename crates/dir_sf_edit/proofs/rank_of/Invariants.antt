@@ -1,0 +1,12 @@
+use Prim.Native.Nat.{◌-◌}
+use borrow.Author.Rules.{rules}
+use Rattle.dir_sf_edit.proofs.TagScans.{Ranks, ranks_start, ranks_found, ranks_on, ranks_done}
+use Rattle.dir_sf.specs.Entry.{width_of}
+use Rattle.dir_sf.proofs.Run.{run_one}
+use Rattle.dir_sf_edit.proofs.rank_of.Given as goal
+
+abbrev pub invariant-loop-i : goal.invariant-loop-i
+invariant-loop-i l = Ranks l.e (width_of l.wides) l.tag l.u l.at l.k l.i l.p
+
+abbrev pub decreases-loop-i : goal.decreases-loop-i
+decreases-loop-i l = l.k - l.i

@@ -1,0 +1,5 @@
+use Rattle.std.proofs.Common.{sym, arith, length-take-le, rules}
+use Rattle.edit_run.proofs.insert_part.Goals as goal
+
+pub slice_bounds-insert-end : goal.slice_bounds-insert-end
+slice_bounds-insert-end c = sym (length-take-le _ _ (omega arith))

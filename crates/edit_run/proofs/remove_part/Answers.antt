@@ -1,0 +1,5 @@
+use Rattle.std.proofs.Common.{sym, arith, length-take-le, rules}
+use Rattle.edit_run.proofs.remove_part.Goals as goal
+
+pub slice_bounds-remove-end : goal.slice_bounds-remove-end
+slice_bounds-remove-end c = sym (length-take-le _ _ (omega arith))

@@ -1,0 +1,7 @@
+use Rattle.name.specs.Name.{same_name}
+use borrow.Author.Rules.{rules}
+use Rattle.name.proofs.matches.Goals as goal
+
+pub returns : goal.returns
+unfolding same_name
+returns c = c.equal.ensures

@@ -1,0 +1,7 @@
+use native.Mathlib.Omega.{arith}
+use borrow.Author.Rules.{rules}
+use Rattle.name.proofs.Rotation.{rol_or}
+use Rattle.name.proofs.rotated.Goals as goal
+
+pub returns : goal.returns
+returns c = rol_or c.args.k c.args.h (omega arith) c.ranges.h.fits

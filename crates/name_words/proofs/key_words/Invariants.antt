@@ -1,0 +1,16 @@
+use Prim.Native.Nat.{ℕ, ◌+◌, ◌-◌, ◌/◌, ◌≤◌, ◌<◌}
+use mathlib.Core.Path.{◌≡◌, refl, sym, ◌∙◌}
+use native.Mathlib.Omega.{arith}
+use lib.ListN.{length}
+use borrow.Author.Rules.{rules}
+use Rattle.be.specs.Bytes.{byte, part}
+use Rattle.name_words.specs.Words.{key_from}
+use Rattle.name_words.proofs.Keys.{key_turn, key_end}
+use Rattle.name_words.proofs.key_words.Given as goal
+
+abbrev pub invariant-loop-i : goal.invariant-loop-i
+invariant-loop-i l =
+    (l.i < l.end) × (key_from ((l.end - l.i0 - 1) / 8) l.k0 (part l.i0 (l.end - l.i0) l.b) ≡ key_from ((l.end - l.i - 1) / 8) l.k (part l.i (l.end - l.i) l.b))
+
+abbrev pub decreases-loop-i : goal.decreases-loop-i
+decreases-loop-i l = l.end - l.i

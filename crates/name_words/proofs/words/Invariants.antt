@@ -1,0 +1,23 @@
+use Prim.Native.Nat.{ℕ, ◌+◌, ◌-◌, ◌≤◌, ◌<◌}
+use mathlib.Core.Path.{◌≡◌, refl, sym, ap, ◌∙◌}
+use mathlib.Core.Bool.{◌&&◌}
+use mathlib.Core.List.{List}
+use native.Mathlib.Omega.{arith}
+use lib.ListN.{length}
+use borrow.Author.Rules.{rules}
+use Rattle.be.specs.Bytes.{byte, part}
+use Rattle.be.specs.Lists.{every}
+use Rattle.be.specs.Words.{to_le}
+use Rattle.name.specs.Name.{hash_from, legal_byte}
+use Rattle.name_words.specs.Words.{marked}
+use Rattle.name_words.proofs.WordWalk.{turn, end_word}
+use Rattle.name_words.proofs.words.Given as goal
+
+abbrev pub invariant-loop-i : goal.invariant-loop-i
+invariant-loop-i l =
+    (l.i < l.end)
+    × ((hash_from l.h0 (part l.i0 (l.end - l.i0) l.b) ≡ hash_from l.h (part l.i (l.end - l.i) l.b))
+    × ((marked l.c0 && every legal_byte (part l.i0 (l.end - l.i0) l.b)) ≡ (marked l.c && every legal_byte (part l.i (l.end - l.i) l.b))))
+
+abbrev pub decreases-loop-i : goal.decreases-loop-i
+decreases-loop-i l = l.end - l.i

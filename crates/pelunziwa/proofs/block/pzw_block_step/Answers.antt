@@ -1,0 +1,11 @@
+use mathlib.Core.Path.{◌∙◌, ap}
+use borrow.Author.Rules.{rules}
+use Rattle.dir_block_rules.proofs.SmallCodes.{step_small}
+use Rattle.pelunziwa.specs.Answers.{as_step}
+use Rattle.pelunziwa.proofs.block.pzw_block_step.Goals as goal
+
+pub step_answer-requires : goal.step_answer-requires
+step_answer-requires c = rw c.step.ensures.1 (step_small _ _ _)
+
+pub returns : goal.returns
+returns c = c.step_answer.ensures ∙ ap as_step c.step.ensures.0
