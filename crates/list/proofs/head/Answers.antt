@@ -16,7 +16,7 @@ overflow_sub-len-2 c = omega (arith, slots_room _ c.args.b.now c.requires.0 c.re
 pub be32-stale-requires : goal.be32-stale-requires
 be32-stale-requires c = omega (arith, slots_room _ c.args.b.now c.requires.0 c.requires.1)
 
-pub number-n-requires-3 : goal.number-n-requires-3
-number-n-requires-3 c =
+pub overflow_sub-count : goal.overflow_sub-count
+overflow_sub-count c =
     let b = c.args.b.now in
     omega (arith, stale_within _ b c.requires.1, count_read b _ c.be32-count.ensures.0, stale_read b _ c.be32-stale.ensures.0)

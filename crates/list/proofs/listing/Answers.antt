@@ -23,9 +23,8 @@ step_ready-s-requires c =
 
 pub line-n-requires : goal.line-n-requires
 line-n-requires c =
-    let k = c.seen-1.given in
     let s = c.step_ready-s.ensures in
-    (search rules, subst (λ (x : Seen). seen_start x + seen_len x ≤ length c.args.b.now) k.1 s.name_fits, subst (λ (x : Seen). seen_len x < 256) k.1 s.name_short)
+    (search rules, subst (λ (x : Seen). seen_start x + seen_len x ≤ length c.args.b.now) c.in-Live.is s.name_fits, subst (λ (x : Seen). seen_len x < 256) c.in-Live.is s.name_short)
 
 pub loop-p-smaller-in-Live : goal.loop-p-smaller-in-Live
 loop-p-smaller-in-Live c =

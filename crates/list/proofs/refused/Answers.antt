@@ -3,5 +3,5 @@ use borrow.Author.Rules.{rules}
 use lib.ListN.{length-take}
 use Rattle.list.proofs.refused.Goals as goal
 
-pub returns : goal.returns
-returns c = simp length-take (omega arith)
+pub slice_bounds-write_all-end : goal.slice_bounds-write_all-end
+slice_bounds-write_all-end c = simp length-take (omega arith)
