@@ -1,7 +1,7 @@
 -- The polynomial steps are linear over exclusive or; eight of them take the low byte through the table and move the rest down; they
 -- stay within 32 bits.
 -- Assumes nothing.
-use mathlib.Core.Path.{◌≡◌, refl, sym, ap, ap₂, subst, ◌∙◌}
+use mathlib.Core.Path.{◌≡◌, refl, sym, ap, ap₂, ◌∙◌}
 use Prim.Native.Nat.{ℕ, zero, suc, ◌+◌, ◌*◌, ◌/◌, ◌%◌, ◌^◌, ◌≤◌, ◌<◌}
 use native.Mathlib.Nat.{mod-lt, div-add-mod', zero-lt-suc, le_of_suc-le-suc, not-suc-le-zero, mul-div_cancel, mul-mod_left, zero-mul, pow-suc, mul_assoc, div-eq_of_lt, zero-add, suc-add}
 use native.Mathlib.Omega.{arith}

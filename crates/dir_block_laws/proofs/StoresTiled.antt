@@ -13,7 +13,7 @@ use Rattle.be.specs.Lists.{every}
 use Rattle.be.specs.Bytes.{bytes, be, part, field, put, to_be, write, Write, written}
 use Rattle.edition.specs.declared.Edition.{Edition}
 use Rattle.edition.specs.Edition.{entry_size, Sane}
-use Rattle.dir_block_rules.specs.Record.{size, cut, whole, gaps, gap_writes}
+use Rattle.dir_block_rules.specs.Record.{cut, whole, gaps, gap_writes}
 use Rattle.dir_block_rules.specs.Block.{records, data_end, count_of, stale_of}
 use Rattle.name.specs.Name.{fixed_name}
 use Rattle.dir_block_rules.specs.Lookup.{sought}

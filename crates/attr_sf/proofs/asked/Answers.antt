@@ -1,6 +1,4 @@
 use mathlib.Core.Path.{sym, ◌∙◌}
-use borrow.Author.Tests.{not-true, not-false}
-use borrow.Author.Rules.{rules}
 use Rattle.attr_sf.proofs.InodeTests.{asked_not, asked_at, asked_refused}
 use Rattle.attr_sf.proofs.asked.Goals as goal
 

@@ -1,5 +1,4 @@
 use mathlib.Core.Path.{refl}
-use borrow.Author.Rules.{rules}
 use Rattle.attr_sf.proofs.ForkWrites.{close_steps}
 use Rattle.attr_sf.proofs.close.Goals as goal
 

@@ -1,6 +1,5 @@
 use mathlib.Core.Path.{sym, ◌∙◌}
 use borrow.Author.Rules.{rules}
-use borrow.Author.Tests.{not-true, not-false}
 use Rattle.attr_sf.proofs.ForkTests.{span_short, span_low, span_over, not_tiled, not_own, not_once, all_passed}
 use Rattle.attr_sf.proofs.code_of_fork.Goals as goal
 

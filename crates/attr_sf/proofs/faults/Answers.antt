@@ -1,9 +1,7 @@
 use native.Mathlib.Omega.{arith}
 use mathlib.Core.Path.{sym, ◌∙◌}
-use borrow.Author.Rules.{rules}
-use borrow.Author.Tests.{not-true, not-false}
 use Rattle.attr_sf.proofs.Tiling.{next_fits, next_long}
-use Rattle.attr_sf.proofs.EntryTests.{Passed, passed_none, passed_stop, passed_next, passed_done, passed_not}
+use Rattle.attr_sf.proofs.EntryTests.{passed_none, passed_stop, passed_next, passed_done, passed_not}
 use Rattle.attr_sf.proofs.faults.Goals as goal
 
 pub loop-left-init : goal.loop-left-init

@@ -1,9 +1,4 @@
-use native.Mathlib.Omega.{arith}
-use mathlib.Core.Path.{sym, ◌∙◌}
-use borrow.Author.Rules.{rules}
-use borrow.Author.Tests.{not-true, not-false}
-use Rattle.attr_sf.proofs.Tiling.{next_fits, next_long}
-use Rattle.attr_sf.proofs.EntryTests.{Passed, passed_none, passed_stop, passed_next, passed_done, passed_not}
+use Rattle.attr_sf.proofs.EntryTests.{Passed}
 use Rattle.attr_sf.proofs.faults.Given as goal
 
 abbrev pub invariant-loop-left : goal.invariant-loop-left

@@ -1,4 +1,3 @@
-use borrow.Author.Rules.{rules}
 use Rattle.attr_sf.proofs.FlagsLaw.{flags_high}
 use Rattle.attr_sf.proofs.flags_legal.Goals as goal
 

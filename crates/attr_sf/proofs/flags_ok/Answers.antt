@@ -1,4 +1,3 @@
-use borrow.Author.Rules.{rules}
 use Rattle.attr_sf.proofs.EntryReads.{flags_test}
 use Rattle.attr_sf.proofs.flags_ok.Goals as goal
 

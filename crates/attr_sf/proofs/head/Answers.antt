@@ -1,7 +1,6 @@
 use Prim.Native.Nat.{ℕ}
 use mathlib.Core.List.{List}
 use mathlib.Core.Path.{◌∙◌, ap}
-use borrow.Author.Rules.{rules}
 use Rattle.be.specs.Bytes.{put, to_be}
 use Rattle.attr_sf.proofs.head.Goals as goal
 

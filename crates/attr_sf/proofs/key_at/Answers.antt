@@ -1,5 +1,4 @@
 use native.Mathlib.Omega.{arith}
-use borrow.Author.Rules.{rules}
 use Rattle.attr_sf.proofs.Tiling.{three, name_inside}
 use Rattle.attr_sf.proofs.EntryReads.{key_flags, key_name}
 use Rattle.attr_sf.proofs.key_at.Goals as goal

@@ -1,6 +1,5 @@
 use mathlib.Core.Path.{ap₂}
 use mathlib.Core.Bool.{Bool, ◌&&◌}
-use borrow.Author.Rules.{rules}
 use Rattle.attr_sf.specs.Entry.{legal_key}
 use Rattle.attr_sf.proofs.key_legal.Goals as goal
 

@@ -1,6 +1,5 @@
 use native.Mathlib.Omega.{arith}
 use mathlib.Core.Path.{sym, ◌∙◌}
-use borrow.Author.Rules.{rules}
 use Rattle.attr_sf.proofs.InodeTests.{located, asked_tested}
 use Rattle.attr_sf.proofs.LookupLaws.{looked_at, looked_refused}
 use Rattle.attr_sf.proofs.look.Goals as goal

@@ -1,5 +1,4 @@
 use native.Mathlib.Omega.{arith}
-use borrow.Author.Rules.{rules}
 use Rattle.attr_sf.proofs.Tiling.{three, name_inside}
 use Rattle.attr_sf.proofs.EntryReads.{name_test}
 use Rattle.attr_sf.proofs.name_ok.Goals as goal

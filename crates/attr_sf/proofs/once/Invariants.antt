@@ -1,10 +1,6 @@
-use native.Mathlib.Omega.{arith}
-use mathlib.Core.Path.{sym, ◌∙◌}
-use borrow.Author.Rules.{rules}
-use Rattle.records.proofs.Turns.{Rest, rest_all, rest_stop, rest_next}
+use Rattle.records.proofs.Turns.{Rest}
 use Rattle.attr_sf.specs.Entry.{distinct}
 use Rattle.attr_sf.specs.Fork.{header, size_at, entries}
-use Rattle.attr_sf.proofs.Tiling.{distinct_fails, distinct_on, distinct_done, next_fits, next_long, next_tiled}
 use Rattle.attr_sf.proofs.once.Given as goal
 
 abbrev pub invariant-loop-left : goal.invariant-loop-left

@@ -1,5 +1,4 @@
 use native.Mathlib.Omega.{arith}
-use borrow.Author.Rules.{rules}
 use Rattle.attr_sf.proofs.ForkTests.{long}
 use Rattle.attr_sf.proofs.Seeking.{at_long, at_count, plan_found, plan_not}
 use Rattle.attr_sf.proofs.ChangedFork.{planned}

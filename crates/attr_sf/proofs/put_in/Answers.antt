@@ -1,6 +1,5 @@
 use native.Mathlib.Omega.{arith}
 use mathlib.Core.Path.{sym, ◌∙◌}
-use borrow.Author.Rules.{rules}
 use Rattle.attr_sf.proofs.InodeTests.{located, asked_tested, asked_small, if_passed}
 use Rattle.attr_sf.proofs.ChangedInode.{set_at, set_refused}
 use Rattle.attr_sf.proofs.put_in.Goals as goal

@@ -1,5 +1,4 @@
 use native.Mathlib.Omega.{arith}
-use borrow.Author.Rules.{rules}
 use Rattle.attr_sf.proofs.ForkTests.{long}
 use Rattle.attr_sf.proofs.ChangedFork.{remove_not, remove_done}
 use Rattle.attr_sf.proofs.remove_in.Goals as goal

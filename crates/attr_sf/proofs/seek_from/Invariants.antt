@@ -1,9 +1,5 @@
-use native.Mathlib.Omega.{arith}
-use mathlib.Core.Path.{sym, ◌∙◌}
-use borrow.Author.Rules.{rules}
-use Rattle.records.proofs.Turns.{Rest, rest_all, rest_stop, rest_next}
+use Rattle.records.proofs.Turns.{Rest}
 use Rattle.attr_sf.specs.Fork.{size_at, seek}
-use Rattle.attr_sf.proofs.Tiling.{seek_hit, seek_on, seek_done, next_within, next_fits, next_long}
 use Rattle.attr_sf.proofs.seek_from.Given as goal
 
 abbrev pub invariant-loop-left : goal.invariant-loop-left

@@ -1,7 +1,6 @@
 use Prim.Native.Nat.{ℕ, ◌+◌}
 use native.Mathlib.Omega.{arith}
 use mathlib.Core.Path.{ap₂}
-use borrow.Author.Rules.{rules}
 use Rattle.attr_sf.specs.Fork.{size_at}
 use Rattle.attr_sf.proofs.size.Goals as goal
 

@@ -1,10 +1,6 @@
-use native.Mathlib.Omega.{arith}
-use borrow.Author.Rules.{rules}
 use Rattle.records.specs.Records.{stands}
-use Rattle.records.proofs.Starts.{stands_here, stands_on, stands_done}
-use Rattle.records.proofs.Turns.{Rest, rest_all, rest_stop, rest_next}
+use Rattle.records.proofs.Turns.{Rest}
 use Rattle.attr_sf.specs.Fork.{header, size_at}
-use Rattle.attr_sf.proofs.Tiling.{next_long}
 use Rattle.attr_sf.proofs.stands_in.Given as goal
 
 abbrev pub invariant-loop-left : goal.invariant-loop-left

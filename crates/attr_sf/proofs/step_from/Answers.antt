@@ -1,5 +1,4 @@
 use native.Mathlib.Omega.{arith}
-use borrow.Author.Rules.{rules}
 use Rattle.attr_sf.proofs.Tiling.{three}
 use Rattle.attr_sf.proofs.WalkSteps.{live_is}
 use Rattle.attr_sf.proofs.step_from.Goals as goal

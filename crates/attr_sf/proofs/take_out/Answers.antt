@@ -1,5 +1,4 @@
 use mathlib.Core.Path.{sym, ◌∙◌}
-use borrow.Author.Rules.{rules}
 use Rattle.attr_sf.proofs.InodeTests.{located, asked_tested}
 use Rattle.attr_sf.proofs.ChangedInode.{remove_at, remove_refused}
 use Rattle.attr_sf.proofs.take_out.Goals as goal

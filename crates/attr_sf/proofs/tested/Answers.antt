@@ -1,5 +1,4 @@
 use mathlib.Core.Path.{sym, ◌∙◌}
-use borrow.Author.Rules.{rules}
 use Rattle.attr_sf.proofs.InodeTests.{inode_inside, tested_not, tested_at, tested_refused}
 use Rattle.attr_sf.proofs.tested.Goals as goal
 

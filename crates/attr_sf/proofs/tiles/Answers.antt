@@ -1,6 +1,6 @@
 use borrow.Author.Rules.{rules}
 use Rattle.records.proofs.Turns.{rest_all}
-use Rattle.attr_sf.proofs.Tiling.{Tiles, tiles_short, tiles_over, tiles_next, tiles_done}
+use Rattle.attr_sf.proofs.Tiling.{tiles_short, tiles_over, tiles_next, tiles_done}
 use Rattle.attr_sf.proofs.tiles.Goals as goal
 
 pub loop-left-init : goal.loop-left-init

@@ -1,6 +1,4 @@
-use borrow.Author.Rules.{rules}
-use Rattle.records.proofs.Turns.{rest_all}
-use Rattle.attr_sf.proofs.Tiling.{Tiles, tiles_short, tiles_over, tiles_next, tiles_done}
+use Rattle.attr_sf.proofs.Tiling.{Tiles}
 use Rattle.attr_sf.proofs.tiles.Given as goal
 
 abbrev pub invariant-loop-left : goal.invariant-loop-left

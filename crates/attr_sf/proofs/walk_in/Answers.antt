@@ -1,6 +1,5 @@
 use native.Mathlib.Omega.{arith}
 use mathlib.Core.Path.{sym, ◌∙◌}
-use borrow.Author.Tests.{not-true, not-false}
 use Rattle.attr_sf.proofs.ForkTests.{long}
 use Rattle.attr_sf.proofs.Seeking.{seek_may}
 use Rattle.attr_sf.proofs.WalkSteps.{walk_fits, walk_not, walk_end, walk_live}

@@ -1,6 +1,5 @@
 use native.Mathlib.Omega.{arith}
 use mathlib.Core.Path.{sym, ◌∙◌}
-use borrow.Author.Rules.{rules}
 use Rattle.attr_sf.proofs.InodeTests.{located}
 use Rattle.attr_sf.proofs.WalkSteps.{walked_at, walked_refused}
 use Rattle.attr_sf.proofs.walk_on.Goals as goal

@@ -1,9 +1,8 @@
-use lib.Seq.{take_all, sets}
-use mathlib.Core.Path.{◌≡◌, refl, sym, ◌∙◌}
+use lib.Seq.{take_all}
+use mathlib.Core.Path.{refl, sym, ◌∙◌}
 use Rattle.be.proofs.Stores.{put_sets, copy_turn}
-use Prim.Native.Nat.{◌≤◌, ◌-◌}
 use native.Mathlib.Omega.{arith}
-use lib.ListN.{length, take, length-set}
+use lib.ListN.{length-set}
 use Rattle.be.proofs.copy_into.Goals as goal
 
 pub loop-i-init : goal.loop-i-init

@@ -1,9 +1,7 @@
-use lib.Seq.{take_all, sets}
-use mathlib.Core.Path.{◌≡◌, refl, sym, ◌∙◌}
-use Rattle.be.proofs.Stores.{put_sets, copy_turn}
+use lib.Seq.{sets}
+use mathlib.Core.Path.{◌≡◌}
 use Prim.Native.Nat.{◌≤◌, ◌-◌}
-use native.Mathlib.Omega.{arith}
-use lib.ListN.{length, take, length-set}
+use lib.ListN.{length, take}
 use Rattle.be.proofs.copy_into.Given as goal
 
 abbrev pub invariant-loop-i : goal.invariant-loop-i

@@ -1,9 +1,8 @@
-use Prim.Native.Nat.{◌<◌, ◌≤◌, ◌-◌}
-use lib.ListN.{length-drop, length, take, drop, length-set}
+use Prim.Native.Nat.{◌<◌}
+use lib.ListN.{length-drop, length, drop, length-set}
 use mathlib.Core.Path.{◌≡◌, refl, sym, ◌∙◌}
 use Rattle.be.proofs.Stores.{put_sets, copy_turn, read_above}
 use native.Mathlib.Omega.{arith}
-use lib.Seq.{sets}
 use Rattle.be.proofs.move_down.Goals as goal
 
 pub loop-i-init : goal.loop-i-init

@@ -1,10 +1,6 @@
-use Prim.Native.Nat.{◌<◌, ◌≤◌, ◌-◌, ◌+◌}
-use mathlib.Core.List.{[]}
-use native.Mathlib.Nat.{add-zero}
-use lib.ListN.{length-drop, length-take, drop_of_length-le, length, take, drop, length-set}
-use mathlib.Core.Path.{◌≡◌, refl, sym, ◌∙◌}
-use Rattle.be.proofs.Stores.{put_sets, down_turn, read_below}
-use native.Mathlib.Omega.{arith}
+use Prim.Native.Nat.{◌≤◌, ◌+◌}
+use lib.ListN.{length, take, drop}
+use mathlib.Core.Path.{◌≡◌}
 use lib.Seq.{sets}
 use Rattle.be.proofs.move_up.Given as goal
 

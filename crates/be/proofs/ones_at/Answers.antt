@@ -1,4 +1,3 @@
-use borrow.Author.Rules.{rules}
 use Rattle.be.proofs.Words.{ones_at}
 use Rattle.be.proofs.ones_at.Goals as goal
 

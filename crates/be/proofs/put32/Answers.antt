@@ -1,5 +1,4 @@
 use Rattle.be.proofs.Writes.{put_halves}
-use borrow.Author.Rules.{rules}
 use Rattle.be.proofs.put32.Goals as goal
 
 pub returns : goal.returns

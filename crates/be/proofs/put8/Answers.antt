@@ -1,5 +1,4 @@
 use Rattle.be.proofs.Stores.{store}
-use borrow.Author.Rules.{rules}
 use Rattle.be.proofs.put8.Goals as goal
 
 pub returns : goal.returns

@@ -1,6 +1,5 @@
 use Prim.Native.Nat.{◌/◌}
 use Rattle.be.proofs.Words.{put_le_halves, one_byte}
-use borrow.Author.Rules.{rules}
 use Rattle.be.proofs.put_le16.Goals as goal
 
 pub returns : goal.returns

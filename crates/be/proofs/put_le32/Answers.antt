@@ -1,5 +1,4 @@
 use Rattle.be.proofs.Words.{put_le_halves}
-use borrow.Author.Rules.{rules}
 use Rattle.be.proofs.put_le32.Goals as goal
 
 pub returns : goal.returns

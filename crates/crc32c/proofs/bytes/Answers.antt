@@ -1,8 +1,8 @@
 use borrow.Author.Rules.{rules}
 use native.Mathlib.Omega.{arith}
-use Prim.Native.Nat.{ℕ, ◌≤◌, ◌-◌, ◌+◌}
-use mathlib.Core.Path.{◌≡◌, refl, ap, sym, ◌∙◌}
-use lib.ListN.{length, drop}
+use Prim.Native.Nat.{ℕ, ◌+◌}
+use mathlib.Core.Path.{refl, ap, sym, ◌∙◌}
+use lib.ListN.{drop}
 use Rattle.crc32c.specs.Crc.{crc_from}
 use Rattle.crc32c.proofs.Steps.{from_drop, from_end}
 use Rattle.crc32c.proofs.bytes.Goals as goal

@@ -2,7 +2,6 @@ use Rattle.crc32c.specs.Crc.{Table}
 use Prim.Native.Nat.{◌%◌}
 use native.Mathlib.Nat.{mod-lt}
 use lib.Dec.{lit<}
-use borrow.Author.Rules.{rules}
 use Rattle.crc32c.proofs.first.Goals as goal
 
 pub returns : goal.returns

@@ -5,7 +5,6 @@ use lib.ListN.{length, drop, length-drop}
 use lib.Seq.{take_all, length-take-le}
 use Rattle.crc32c.specs.Crc.{crc_from}
 use Rattle.crc32c.proofs.SealLaws.{sum_in_runs}
-use borrow.Author.Rules.{rules}
 use Rattle.crc32c.proofs.in_runs.Goals as goal
 
 pub slice_bounds-over-end : goal.slice_bounds-over-end

@@ -2,7 +2,6 @@ use Rattle.crc32c.specs.Crc.{Later}
 use Prim.Native.Nat.{◌%◌}
 use native.Mathlib.Nat.{mod-lt}
 use lib.Dec.{lit<}
-use borrow.Author.Rules.{rules}
 use Rattle.crc32c.proofs.later.Goals as goal
 
 pub returns : goal.returns

@@ -1,5 +1,4 @@
 use Rattle.crc32c.proofs.Slices.{next_law}
-use borrow.Author.Rules.{rules}
 use Rattle.crc32c.proofs.next.Goals as goal
 
 pub returns : goal.returns

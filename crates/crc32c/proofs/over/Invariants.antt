@@ -1,11 +1,7 @@
 use Prim.Native.Nat.{◌≤◌, ◌-◌}
-use mathlib.Core.Path.{◌≡◌, refl, sym, ap, ◌∙◌}
-use native.Mathlib.Omega.{arith}
-use lib.ListN.{length, drop, length-drop}
-use lib.Seq.{take_all}
+use mathlib.Core.Path.{◌≡◌}
+use lib.ListN.{length, drop}
 use Rattle.crc32c.specs.Crc.{crc_from}
-use Rattle.be.proofs.Parts.{bytes_all}
-use Rattle.crc32c.proofs.Slices.{turn_on}
 use Rattle.crc32c.proofs.over.Given as goal
 
 abbrev pub invariant-loop-i : goal.invariant-loop-i

@@ -1,5 +1,4 @@
 use Rattle.crc32c.proofs.Slices.{zeros_law}
-use borrow.Author.Rules.{rules}
 use Rattle.crc32c.proofs.over_zeros.Goals as goal
 
 pub returns : goal.returns

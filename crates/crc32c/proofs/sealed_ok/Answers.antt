@@ -1,5 +1,4 @@
 use Rattle.crc32c.proofs.SealLaws.{ok_law}
-use borrow.Author.Rules.{rules}
 use Rattle.crc32c.proofs.sealed_ok.Goals as goal
 
 pub returns : goal.returns

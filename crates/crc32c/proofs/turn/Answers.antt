@@ -4,7 +4,6 @@ use native.Mathlib.Omega.{arith}
 use lib.Bits.{bit_xor, xor_lt}
 use Rattle.crc32c.specs.Crc.{poly_steps}
 use Rattle.crc32c.proofs.Slices.{turn_law}
-use borrow.Author.Rules.{rules}
 use Rattle.crc32c.proofs.turn.Goals as goal
 
 pub returns : goal.returns

@@ -1,4 +1,3 @@
-use borrow.Author.Rules.{rules}
 use Rattle.dinode.specs.Core.{attributes_ok}
 use Rattle.dinode.proofs.attributes.Goals as goal
 

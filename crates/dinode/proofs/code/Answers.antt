@@ -1,7 +1,5 @@
 use native.Mathlib.Omega.{arith}
 use mathlib.Core.Path.{sym, ◌∙◌, ap}
-use borrow.Author.Tests.{not-true, not-false}
-use borrow.Author.Rules.{rules}
 use Rattle.dinode.specs.Core.{version_ok}
 use Rattle.dinode.proofs.Sound.{size_long}
 use Rattle.dinode.proofs.Codes.{not_sized, not_magic, not_version, not_inside, all_three}

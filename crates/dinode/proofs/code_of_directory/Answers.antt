@@ -1,6 +1,5 @@
 use native.Mathlib.Omega.{arith}
 use mathlib.Core.Path.{sym, ◌∙◌}
-use borrow.Author.Rules.{rules}
 use Rattle.dinode.specs.Core.{directory_code, directory_ok}
 use Rattle.dinode.proofs.Sound.{sound_size}
 use Rattle.dinode.proofs.Codes.{kind_first, kind_holds, kind_fails}

@@ -1,5 +1,4 @@
 use native.Mathlib.Omega.{arith}
-use borrow.Author.Rules.{rules}
 use mathlib.Core.Path.{sym, ◌∙◌}
 use Rattle.dinode.proofs.Sound.{sound_size, directory_sound}
 use Rattle.dinode.proofs.Codes.{length_whole, length_part}

@@ -1,4 +1,3 @@
-use borrow.Author.Rules.{rules}
 use Rattle.dinode.specs.Core.{directory_ok}
 use Rattle.dinode.proofs.directory.Goals as goal
 

@@ -1,5 +1,4 @@
 use Rattle.dinode.specs.Core.{core_of}
-use borrow.Author.Rules.{rules}
 use Rattle.dinode.proofs.fields.Goals as goal
 
 pub returns : goal.returns

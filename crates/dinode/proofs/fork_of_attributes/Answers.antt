@@ -1,6 +1,5 @@
 use native.Mathlib.Omega.{arith}
 use mathlib.Core.Path.{sym, ◌∙◌, ap}
-use borrow.Author.Rules.{rules}
 use Rattle.dinode.specs.declared.Fork.TheVariants.{Refused}
 use Rattle.dinode.proofs.Sound.{sound_size, sound_fits, attributes_sound}
 use Rattle.dinode.proofs.Codes.{attributes_refused, attributes_there}

@@ -1,4 +1,3 @@
-use borrow.Author.Rules.{rules}
 use mathlib.Core.Path.{sym, ◌∙◌, ap}
 use Rattle.dinode.specs.declared.Fork.TheVariants.{Refused}
 use Rattle.dinode.proofs.Codes.{directory_refused, directory_there}

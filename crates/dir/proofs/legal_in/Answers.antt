@@ -2,7 +2,6 @@ use mathlib.Core.Path.{ap}
 use mathlib.Core.Bool.{Bool, not, ◌&&◌}
 use lib.Dec.{eqb}
 use Rattle.dir.specs.Target.{legal_in}
-use borrow.Author.Rules.{rules}
 use Rattle.dir.proofs.legal_in.Goals as goal
 
 pub returns : goal.returns

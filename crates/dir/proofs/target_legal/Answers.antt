@@ -1,7 +1,6 @@
 use mathlib.Core.Path.{ap₂}
 use mathlib.Core.Bool.{Bool, ◌&&◌}
 use Rattle.dir.specs.Target.{legal_target}
-use borrow.Author.Rules.{rules}
 use Rattle.dir.proofs.target_legal.Goals as goal
 
 pub returns : goal.returns

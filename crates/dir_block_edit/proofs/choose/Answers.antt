@@ -1,5 +1,4 @@
 use native.Mathlib.Omega.{arith}
-use borrow.Author.Rules.{rules}
 use Rattle.be.proofs.Parts.{bytes_all}
 use Rattle.name.proofs.Hashing.{hash_lt}
 use Rattle.dir_block_laws.proofs.SlotSearch.{tiled}

@@ -6,7 +6,6 @@ use lib.ListN.{length}
 use Rattle.edition.proofs.Sizes.{entry_size_least}
 use Rattle.dir_block_laws.proofs.SlotSearch.{slots_room, tiled}
 use Rattle.dir_block_edit.proofs.RoomTaken.{room_a, room_b, room_none, first_inside}
-use borrow.Author.Rules.{rules}
 use Rattle.dir_block_edit.proofs.choose_ab.Goals as goal
 
 pub insert_a-requires : goal.insert_a-requires

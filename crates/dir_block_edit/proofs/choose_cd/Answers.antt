@@ -7,7 +7,6 @@ use lib.ListN.{length}
 use Rattle.edition.proofs.Sizes.{entry_size_least, entry_size_most}
 use Rattle.dir_block_laws.proofs.SlotSearch.{tiled}
 use Rattle.dir_block_laws.proofs.InsertStores.{other_inside, other_before}
-use borrow.Author.Rules.{rules}
 use Rattle.dir_block_edit.proofs.choose_cd.Goals as goal
 
 pub returns-then-k-lt8 : goal.returns-then-k-lt8

@@ -9,7 +9,6 @@ use Rattle.dir_block_laws.proofs.RecordSteps.{stale_read}
 use Rattle.dir_block_laws.proofs.SlotSearch.{tiled}
 use Rattle.dir_block_laws.proofs.GapsBeside.{entry_found, long_found, found_room}
 use Rattle.dir_block_laws.proofs.StoresTiled.{remove_stores}
-use borrow.Author.Rules.{rules}
 use Rattle.dir_block_edit.proofs.free_entry.Goals as goal
 
 pub overflow_add-at : goal.overflow_add-at

@@ -4,7 +4,6 @@ use mathlib.Core.List.{List}
 use Rattle.edition.specs.declared.Edition.{Edition}
 use Rattle.dir.specs.declared.Target.{Target}
 use Rattle.dir_block_rules.specs.Change.{insert_code, insert_bytes}
-use borrow.Author.Rules.{rules}
 use Rattle.dir_block_edit.proofs.insert.Goals as goal
 
 -- what was done for the edition that was made

@@ -2,7 +2,6 @@ use Prim.Native.Nat.{◌-◌, ◌/◌}
 use native.Mathlib.Omega.{arith}
 use Rattle.dir_block_laws.proofs.SlotSearch.{slots_room}
 use Rattle.dir_block_laws.proofs.InsertStores.{done_a}
-use borrow.Author.Rules.{rules}
 use Rattle.dir_block_edit.proofs.insert_a.Goals as goal
 
 pub put_first-requires : goal.put_first-requires

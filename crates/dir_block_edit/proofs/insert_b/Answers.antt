@@ -4,7 +4,6 @@ use mathlib.Core.Path.{◌∙◌}
 use Rattle.dir_block_laws.proofs.SlotSearch.{slots_room}
 use Rattle.dir_block_laws.proofs.InsertStores.{done_b}
 use Rattle.dir_block_index.proofs.LiveSlotsPacked.{live_count, few_stale}
-use borrow.Author.Rules.{rules}
 use Rattle.dir_block_edit.proofs.insert_b.Goals as goal
 
 pub overflow_mul-stale : goal.overflow_mul-stale

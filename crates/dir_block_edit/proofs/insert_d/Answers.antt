@@ -3,7 +3,6 @@ use native.Mathlib.Omega.{arith}
 use mathlib.Core.Path.{◌∙◌}
 use Rattle.dir_block_laws.proofs.SlotSearch.{slots_room}
 use Rattle.dir_block_laws.proofs.InsertStores.{done_d}
-use borrow.Author.Rules.{rules}
 use Rattle.dir_block_edit.proofs.insert_d.Goals as goal
 
 pub grow-requires : goal.grow-requires

@@ -4,7 +4,6 @@ use Rattle.be.proofs.Parts.{bytes_all}
 use Rattle.dir.specs.Target.{legal_in}
 use Rattle.dir_block_laws.proofs.SlotSearch.{ready_of}
 use Rattle.dir_block_edit.proofs.Refused.{clear, insert_tested, insert_refused}
-use borrow.Author.Rules.{rules}
 use Rattle.dir_block_edit.proofs.insert_in.Goals as goal
 
 pub returns-then-t-ne0 : goal.returns-then-t-ne0

@@ -29,7 +29,6 @@ use Rattle.dir_block_laws.proofs.InsertStores.{insert_tiled}
 use Rattle.dir_block_laws.proofs.StoresTiled.{stores_changed}
 use Rattle.dir_block_edit.specs.Chosen.{chosen}
 use Rattle.dir_block_edit.proofs.RoomTaken.{insert_there, insert_no_room, insert_made}
-use borrow.Author.Rules.{rules}
 use Rattle.dir_block_edit.proofs.insert_ready.Goals as goal
 
 stale-small : (e : Edition) → Sane e → (b : List ℕ) → Ready e b → (st : ℕ) → st ≡ stale_of b → st < 8192

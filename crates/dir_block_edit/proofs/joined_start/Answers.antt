@@ -8,7 +8,6 @@ use Rattle.dir_block_laws.specs.Tiled.{Tiled}
 use Rattle.dir_block_laws.specs.Pass.{EntryAt}
 use Rattle.dir_block_laws.proofs.RecordSteps.{end_fits}
 use Rattle.dir_block_laws.proofs.GapsBeside.{entry_inside, entry_least, before_none, before_is_gap, before_is_entry, entry_place, prior_at}
-use borrow.Author.Rules.{rules}
 use Rattle.dir_block_edit.proofs.joined_start.Goals as goal
 
 inside : (e : Edition) (b : List ℕ) (t : Tiled e b) (o : ℕ) → EntryAt e b o → (e.header ≤ o) × (o + 8 ≤ length b)

@@ -1,5 +1,4 @@
 use Rattle.dir_block_edit.proofs.EntryStored.{placed}
-use borrow.Author.Rules.{rules}
 use Rattle.dir_block_edit.proofs.put_first.Goals as goal
 
 pub returns : goal.returns

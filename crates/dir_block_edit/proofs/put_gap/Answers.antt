@@ -1,5 +1,4 @@
 use Rattle.dir_block_laws.proofs.StoresTiled.{gap_stores, no_gap_stores}
-use borrow.Author.Rules.{rules}
 use Rattle.dir_block_edit.proofs.put_gap.Goals as goal
 
 pub returns-then-n-eq0 : goal.returns-then-n-eq0

@@ -3,7 +3,6 @@ use mathlib.Core.Path.{◌≡◌}
 use mathlib.Core.List.{List}
 use Rattle.edition.specs.declared.Edition.{Edition}
 use Rattle.dir_block_rules.specs.Change.{remove_code, remove_bytes}
-use borrow.Author.Rules.{rules}
 use Rattle.dir_block_edit.proofs.remove.Goals as goal
 
 -- what was done for the edition that was made

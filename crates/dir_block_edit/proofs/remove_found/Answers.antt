@@ -19,7 +19,6 @@ use Rattle.dir_block_laws.proofs.RecordSteps.{head_end, end_fits}
 use Rattle.dir_block_laws.proofs.SlotSearch.{tiled}
 use Rattle.dir_block_laws.proofs.StoresTiled.{remove_tiled, stores_changed}
 use Rattle.dir_block_laws.proofs.JoinedGaps.{from_stored}
-use borrow.Author.Rules.{rules}
 use Rattle.dir_block_edit.proofs.remove_found.Goals as goal
 
 -- what the code knows of the block c that is left, from the pairs stored in b

@@ -1,4 +1,3 @@
-use borrow.Author.Rules.{rules}
 use mathlib.Core.Path.{sym, ◌∙◌}
 use Rattle.name.proofs.Legality.{legal_long}
 use Rattle.dir_block_laws.proofs.SlotSearch.{ready_of}

@@ -1,7 +1,5 @@
 use native.Mathlib.Omega.{arith}
-use borrow.Author.Rules.{rules}
 use mathlib.Core.Path.{sym, ◌∙◌, ap}
-use borrow.Author.Tests.{not-true, not-false}
 use Rattle.dir_block_rules.specs.Lookup.{Sought}
 use Rattle.dir_block_laws.proofs.RecordSteps.{count_read, end_read}
 use Rattle.dir_block_laws.proofs.SlotSearch.{slots_room}

@@ -1,7 +1,5 @@
 use mathlib.Core.Path.{sym, ◌∙◌}
-use borrow.Author.Tests.{not-true, not-false}
 use Rattle.dir_block_edit.proofs.Refused.{by_request, by_fixed, by_rest}
-use borrow.Author.Rules.{rules}
 use Rattle.dir_block_edit.proofs.request.Goals as goal
 
 pub returns-then-not-legal : goal.returns-then-not-legal

@@ -1,12 +1,9 @@
 use Prim.Native.Nat.{◌-◌, ◌≤◌}
-use native.Mathlib.Omega.{arith}
-use mathlib.Core.Path.{◌≡◌, refl}
+use mathlib.Core.Path.{◌≡◌}
 use mathlib.Core.Bool.{true}
 use lib.ListN.{take}
 use Rattle.be.specs.Lists.{every}
 use Rattle.dir_block_rules.specs.Block.{slots, is_live}
-use Rattle.dir_block_laws.proofs.SlotSearch.{slots_room, slot_read}
-use Rattle.dir_block_laws.proofs.IndexStores.{stale_turn, stale_none, stale_at}
 use Rattle.dir_block_index.proofs.first_stale.Given as goal
 
 abbrev pub invariant-loop-j : goal.invariant-loop-j

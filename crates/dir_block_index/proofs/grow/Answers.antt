@@ -1,7 +1,6 @@
 use native.Mathlib.Omega.{arith}
 use Rattle.dir_block_laws.proofs.SlotSearch.{slots_room}
 use Rattle.dir_block_laws.proofs.IndexStores.{grow_index}
-use borrow.Author.Rules.{rules}
 use Rattle.dir_block_index.proofs.grow.Goals as goal
 
 pub overflow_mul-i : goal.overflow_mul-i

@@ -1,7 +1,6 @@
 use native.Mathlib.Omega.{arith}
 use Rattle.dir_block_laws.proofs.SlotSearch.{slots_room}
 use Rattle.dir_block_laws.proofs.IndexStores.{reuse_down, reuse_up}
-use borrow.Author.Rules.{rules}
 use Rattle.dir_block_index.proofs.move_one.Goals as goal
 
 pub overflow_mul-j : goal.overflow_mul-j

@@ -1,5 +1,5 @@
 use Rattle.be.proofs.Writes.{length_put}
-use Prim.Native.Nat.{◌+◌, ◌-◌, ◌≤◌, ◌*◌}
+use Prim.Native.Nat.{◌+◌, ◌-◌, ◌*◌}
 use native.Mathlib.Omega.{arith}
 use mathlib.Core.Path.{◌≡◌, refl, sym, ◌∙◌, ap}
 use mathlib.Core.List.{List}

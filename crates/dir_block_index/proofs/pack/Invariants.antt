@@ -1,13 +1,9 @@
-use Rattle.be.proofs.Writes.{length_put}
-use Prim.Native.Nat.{◌+◌, ◌-◌, ◌≤◌, ◌*◌}
-use native.Mathlib.Omega.{arith}
-use mathlib.Core.Path.{◌≡◌, refl, sym, ◌∙◌, ap}
-use mathlib.Core.List.{List}
-use lib.ListN.{length, drop}
-use Rattle.be.specs.Lists.{keep}
+use Prim.Native.Nat.{◌+◌, ◌≤◌, ◌*◌}
+use mathlib.Core.Path.{◌≡◌}
+use lib.ListN.{length}
 use Rattle.be.specs.Bytes.{put}
-use Rattle.dir_block_rules.specs.Block.{Slot, slots_in, slot_bytes, is_live}
-use Rattle.dir_block_index.proofs.LiveSlotsPacked.{live_from, live_few, pack_start, pack_turn, pack_end}
+use Rattle.dir_block_rules.specs.Block.{slot_bytes}
+use Rattle.dir_block_index.proofs.LiveSlotsPacked.{live_from}
 use Rattle.dir_block_index.proofs.pack.Given as goal
 
 abbrev pub invariant-loop-i : goal.invariant-loop-i

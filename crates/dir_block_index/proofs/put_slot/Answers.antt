@@ -1,6 +1,5 @@
 use mathlib.Core.Path.{refl}
 use Rattle.dir_block_laws.proofs.IndexStores.{slot_stored}
-use borrow.Author.Rules.{rules}
 use Rattle.dir_block_index.proofs.put_slot.Goals as goal
 
 pub returns : goal.returns

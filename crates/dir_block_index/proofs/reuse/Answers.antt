@@ -2,7 +2,6 @@ use Prim.Native.Nat.{◌-◌}
 use native.Mathlib.Omega.{arith}
 use Rattle.dir_block_laws.proofs.SlotSearch.{slots_room}
 use Rattle.dir_block_laws.proofs.IndexStores.{reuse_index, stale_some}
-use borrow.Author.Rules.{rules}
 use Rattle.dir_block_index.proofs.reuse.Goals as goal
 
 pub overflow_sub-n : goal.overflow_sub-n

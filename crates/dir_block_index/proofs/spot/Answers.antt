@@ -1,5 +1,4 @@
 use Rattle.dir_block_laws.proofs.IndexStores.{spot_found}
-use borrow.Author.Rules.{rules}
 use Rattle.dir_block_index.proofs.spot.Goals as goal
 
 pub returns : goal.returns

@@ -1,7 +1,6 @@
 use native.Mathlib.Omega.{arith}
 use Rattle.dir_block_laws.proofs.SlotSearch.{slots_room}
 use Rattle.dir_block_index.proofs.LiveSlotsPacked.{squeezed, squeeze_room, first_room, few_stale}
-use borrow.Author.Rules.{rules}
 use Rattle.dir_block_index.proofs.squeeze.Goals as goal
 
 pub overflow_mul-p : goal.overflow_mul-p

@@ -1,10 +1,5 @@
-use Prim.Native.Nat.{◌-◌, ◌≤◌}
 use native.Mathlib.Omega.{arith}
 use mathlib.Core.Path.{◌≡◌}
-use mathlib.Core.Bool.{true}
-use lib.ListN.{drop, take}
-use Rattle.dir_block_rules.specs.Block.{slots}
-use Rattle.dir_block_laws.specs.SlotIndex.{all_below, all_from}
 use Rattle.dir_block_laws.proofs.SlotSearch.{slots_room, search_start, turn_left, turn_right}
 use Rattle.dir_block_lookup.proofs.first_slot.Goals as goal
 

@@ -1,5 +1,4 @@
 use native.Mathlib.Omega.{arith}
-use borrow.Author.Rules.{rules}
 use mathlib.Core.Path.{sym, ◌∙◌, ap}
 use Rattle.name.proofs.Legality.{legal_long}
 use Rattle.dir.specs.declared.Looked.TheVariants.{Refused}

@@ -1,7 +1,6 @@
 use Prim.Native.Nat.{ℕ, ◌+◌, ◌-◌}
 use native.Mathlib.Omega.{arith}
 use mathlib.Core.Path.{◌≡◌, ◌∙◌, ap}
-use borrow.Author.Rules.{rules}
 use Rattle.be.specs.Bytes.{byte, part}
 use Rattle.name.specs.Name.{same_name}
 use Rattle.dir_block_lookup.proofs.named.Goals as goal

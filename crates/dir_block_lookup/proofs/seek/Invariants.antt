@@ -1,11 +1,5 @@
-use mathlib.Core.List.{◌∷◌}
-use Prim.Native.Nat.{ℕ, ◌-◌, ◌≤◌, ◌+◌}
-use native.Mathlib.Omega.{arith}
-use mathlib.Core.Path.{◌≡◌, refl, sym, ◌∙◌, subst}
-use mathlib.Core.Logic.{⊎_elim}
-use lib.ListN.{drop}
-use Rattle.dir_block_rules.specs.Block.{slots, slot, Slot}
-use Rattle.dir_block_laws.proofs.SlotSearch.{slots_room, Run, run_start, run_other, run_end, run_stale, run_differs, run_hit, slot_read, live_inside, ordered, length_slots}
+use Prim.Native.Nat.{◌-◌, ◌≤◌}
+use Rattle.dir_block_laws.proofs.SlotSearch.{Run}
 use Rattle.dir_block_lookup.proofs.seek.Given as goal
 
 abbrev pub invariant-loop-i : goal.invariant-loop-i

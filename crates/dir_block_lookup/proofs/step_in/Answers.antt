@@ -1,7 +1,5 @@
 use native.Mathlib.Omega.{arith}
 use mathlib.Core.Path.{sym, ◌∙◌, ap}
-use borrow.Author.Rules.{rules}
-use borrow.Author.Tests.{not-true, not-false}
 use Rattle.dir.specs.declared.Walked.TheVariants.{Refused}
 use Rattle.dir_block_laws.proofs.SlotSearch.{ready_of}
 use Rattle.dir_block_lookup.proofs.CallAnswers.{step_block, step_asked}

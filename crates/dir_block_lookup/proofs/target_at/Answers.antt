@@ -1,6 +1,5 @@
 use Prim.Native.Nat.{ℕ, ◌+◌}
 use mathlib.Core.Path.{◌∙◌, ap, ap₂}
-use borrow.Author.Rules.{rules}
 use Rattle.be.specs.Bytes.{field}
 use Rattle.dir.specs.Target.{target}
 use Rattle.dir_block_lookup.proofs.target_at.Goals as goal

@@ -1,5 +1,4 @@
 use native.Mathlib.Omega.{arith}
-use borrow.Author.Rules.{rules}
 use mathlib.Core.Path.{sym, ◌∙◌}
 use Rattle.dir_block_laws.proofs.RecordSteps.{end_fits, place_within}
 use Rattle.dir_block_laws.proofs.BothEnds.{spot_of, back_fits, back_gap, back_entry}

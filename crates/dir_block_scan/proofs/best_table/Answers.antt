@@ -3,7 +3,6 @@ use Rattle.dir_block_scan.proofs.TableStored.{three_of, best_joined}
 use Rattle.dir_block_laws.proofs.RecordSteps.{room_for, count_read, end_read}
 use Rattle.dir_block_laws.proofs.LastGap.{end_place}
 use Rattle.dir_block_laws.proofs.BothEnds.{all_gaps}
-use borrow.Author.Rules.{rules}
 use Rattle.dir_block_scan.proofs.best_table.Goals as goal
 
 pub overflow_sub-n : goal.overflow_sub-n

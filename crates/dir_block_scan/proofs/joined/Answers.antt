@@ -1,5 +1,4 @@
 use Rattle.dir_block_scan.proofs.TableStored.{table_joined}
-use borrow.Author.Rules.{rules}
 use Rattle.dir_block_scan.proofs.joined.Goals as goal
 
 pub returns : goal.returns

@@ -2,7 +2,6 @@ use native.Mathlib.Omega.{arith}
 use mathlib.Core.Path.{sym, ◌∙◌}
 use Rattle.dir_block_laws.proofs.RecordSteps.{room_for}
 use Rattle.dir_block_scan.proofs.TableStored.{best_joined}
-use borrow.Author.Rules.{rules}
 use Rattle.dir_block_scan.proofs.joined_table.Goals as goal
 
 pub put_table-requires : goal.put_table-requires

@@ -1,5 +1,4 @@
 use mathlib.Core.Path.{◌∙◌, ap}
-use borrow.Author.Rules.{rules}
 use Rattle.dir_block_laws.specs.BestSoFar.{ins, ins_all}
 use Rattle.dir_block_scan.proofs.merged.Goals as goal
 

@@ -1,4 +1,3 @@
-use borrow.Author.Rules.{rules}
 use Rattle.dir_block_scan.proofs.TableStored.{besides_two}
 use Rattle.dir_block_scan.proofs.others.Goals as goal
 

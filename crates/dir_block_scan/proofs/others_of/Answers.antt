@@ -1,6 +1,5 @@
 use native.Mathlib.Omega.{arith}
 use mathlib.Core.Path.{sym, ◌∙◌}
-use borrow.Author.Rules.{rules}
 use Rattle.dir_block_laws.proofs.RecordSteps.{head_end, end_fits}
 use Rattle.dir_block_laws.proofs.SlotSearch.{tiled}
 use Rattle.dir_block_laws.proofs.BothEnds.{last_place, all_others}

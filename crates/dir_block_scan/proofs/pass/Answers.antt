@@ -1,7 +1,4 @@
 use native.Mathlib.Omega.{arith}
-use borrow.Author.Rules.{rules}
-use Prim.Native.Nat.{◌-◌, ◌≤◌}
-use Rattle.dir_block_laws.specs.Pass.{GapsBefore, GapsUpTo}
 use Rattle.dir_block_laws.proofs.RecordSteps.{place_within}
 use Rattle.dir_block_laws.proofs.BothEnds.{spot_of, front_start, back_start, both_met}
 use Rattle.dir_block_scan.specs.Table.{table}

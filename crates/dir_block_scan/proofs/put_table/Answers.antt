@@ -1,5 +1,4 @@
 use Rattle.dir_block_scan.proofs.TableStored.{table_stored}
-use borrow.Author.Rules.{rules}
 use Rattle.dir_block_scan.proofs.put_table.Goals as goal
 
 pub returns : goal.returns

@@ -1,5 +1,4 @@
 use Rattle.dir_block_rules.proofs.StoredPairs.{pairs_read}
-use borrow.Author.Rules.{rules}
 use Rattle.dir_block_scan.proofs.stored.Goals as goal
 
 pub returns : goal.returns

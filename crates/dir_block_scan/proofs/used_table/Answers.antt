@@ -1,7 +1,6 @@
 use Prim.Native.Nat.{ℕ}
 use native.Mathlib.Omega.{arith}
 use mathlib.Core.Path.{sym, ◌∙◌, ap}
-use borrow.Author.Rules.{rules}
 use Rattle.edition.proofs.Sizes.{entry_size_least, entry_size_most}
 use Rattle.dir_block_rules.specs.Verdict.{pair}
 use Rattle.dir_block_laws.specs.UsedTable.{used_table}

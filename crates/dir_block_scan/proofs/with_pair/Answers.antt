@@ -1,4 +1,3 @@
-use borrow.Author.Rules.{rules}
 use borrow.Author.Tests.{lt-ltb, le-ltb}
 use Rattle.dir_block_laws.specs.BestSoFar.{ins}
 use Rattle.dir_block_scan.proofs.with_pair.Goals as goal

@@ -1,5 +1,4 @@
 use mathlib.Core.Path.{sym, ◌∙◌}
-use borrow.Author.Rules.{rules}
 use Rattle.dir_block_laws.specs.BestSoFar.{ins_at}
 use Rattle.dir_block_scan.proofs.with_pair_at.Goals as goal
 

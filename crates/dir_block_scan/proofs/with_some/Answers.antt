@@ -1,4 +1,3 @@
-use borrow.Author.Rules.{rules}
 use Rattle.dir_block_scan.proofs.with_some.Goals as goal
 
 pub returns-then-put : goal.returns-then-put

@@ -1,6 +1,4 @@
 use native.Mathlib.Omega.{arith}
-use borrow.Author.Rules.{rules}
-use borrow.Author.Tests.{not-true, not-false}
 use Rattle.dir_block_test.proofs.EarlyTests.{end_1, sizes, end_2, end_4, end_4', block_parts, end_span}
 use Rattle.dir_block_test.proofs.code.Goals as goal
 

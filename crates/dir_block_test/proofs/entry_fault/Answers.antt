@@ -1,8 +1,6 @@
 use Prim.Native.Nat.{ℕ, ◌+◌, ◌-◌}
 use native.Mathlib.Omega.{arith}
 use mathlib.Core.Path.{◌≡◌}
-use borrow.Author.Rules.{rules}
-use borrow.Author.Tests.{not-true, not-false}
 use Rattle.be.specs.Bytes.{byte}
 use Rattle.dir_block_test.proofs.EntryWalk.{fault_name, fault_number, fault_index, fault_none}
 use Rattle.dir_block_test.proofs.entry_fault.Goals as goal

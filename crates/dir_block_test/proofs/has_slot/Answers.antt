@@ -1,5 +1,4 @@
 use mathlib.Core.Path.{refl}
-use borrow.Author.Rules.{rules}
 use Rattle.dir_block_test.specs.Passes.{hint}
 use Rattle.dir_block_test.proofs.has_slot.Goals as goal
 

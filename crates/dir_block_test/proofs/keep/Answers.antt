@@ -1,6 +1,5 @@
 use mathlib.Core.Path.{sym}
 use lib.Seq.{set_out}
-use borrow.Author.Rules.{rules}
 use Rattle.dir_block_test.proofs.keep.Goals as goal
 
 pub returns-else-a-cells : goal.returns-else-a-cells

@@ -1,5 +1,3 @@
-use borrow.Author.Rules.{rules}
-use borrow.Author.Tests.{not-true, not-false}
 use Rattle.dir_block_test.proofs.NamePlaces.{fits_illegal, fits_other, fits_dot, fits_dotdot}
 use Rattle.dir_block_test.proofs.name_fits.Goals as goal
 

@@ -1,6 +1,4 @@
 use mathlib.Core.Path.{sym, ◌∙◌}
-use borrow.Author.Rules.{rules}
-use borrow.Author.Tests.{not-true, not-false}
 use Rattle.dir_block_test.proofs.OwnWord.{fits_not, fits_other, fits_own}
 use Rattle.dir_block_test.proofs.number_fits.Goals as goal
 

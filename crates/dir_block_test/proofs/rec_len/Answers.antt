@@ -1,5 +1,4 @@
 use native.Mathlib.Omega.{arith}
-use borrow.Author.Rules.{rules}
 use Rattle.dir_block_test.proofs.WholeRecord.{rec_gap, rec_short, rec_entry}
 use Rattle.dir_block_test.proofs.rec_len.Goals as goal
 

@@ -1,10 +1,7 @@
 use Prim.Native.Nat.{◌-◌}
-use native.Mathlib.Omega.{arith}
 use mathlib.Core.Path.{◌≡◌}
-use borrow.Author.Rules.{rules}
 use Rattle.dir_block_test.specs.Passes.{cells_of}
-use Rattle.dir_block_test.proofs.SlotWalk.{Ordering, ordering_start, ordering_on, ordering_end, level_end}
-use Rattle.dir_block_test.proofs.SlotTable.{cells_on, cells_none, cells_end, cells_long}
+use Rattle.dir_block_test.proofs.SlotWalk.{Ordering}
 use Rattle.dir_block_test.proofs.slots.Given as goal
 
 abbrev pub invariant-loop-i : goal.invariant-loop-i

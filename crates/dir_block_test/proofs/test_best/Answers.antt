@@ -1,7 +1,6 @@
 use native.Mathlib.Omega.{arith}
 use mathlib.Core.Bool.{true}
 use mathlib.Core.Path.{refl, sym, ◌∙◌}
-use borrow.Author.Tests.{not-true, not-false}
 use Rattle.dir_block_test.proofs.SlotWalk.{level_once}
 use Rattle.dir_block_test.proofs.LaterTests.{reach, end_9, end_10, end_0}
 use Rattle.dir_block_test.proofs.test_best.Goals as goal

@@ -1,6 +1,5 @@
 use native.Mathlib.Omega.{arith}
 use mathlib.Core.Path.{refl}
-use borrow.Author.Rules.{rules}
 use Rattle.dir_block_test.proofs.test_data.Goals as goal
 
 pub test_data_with-requires-2 : goal.test_data_with-requires-2

@@ -1,5 +1,4 @@
 use native.Mathlib.Omega.{arith}
-use borrow.Author.Rules.{rules}
 use Rattle.dir_block_test.proofs.EarlyTests.{end_5, tiled_parts, tiled_count, end_tile, faulted}
 use Rattle.dir_block_test.proofs.LaterTests.{best_fits_is}
 use Rattle.dir_block_test.proofs.SlotTable.{cells_long}

@@ -3,8 +3,6 @@ use native.Mathlib.Omega.{arith}
 use mathlib.Core.Bool.{Bool, ◌&&◌}
 use mathlib.Core.Path.{refl, ap}
 use lib.Dec.{eqb}
-use borrow.Author.Rules.{rules}
-use borrow.Author.Tests.{not-true, not-false}
 use Rattle.dir_block_test.proofs.LaterTests.{end_6, end_6', end_7, end_8, end_8', end_index, indexed_ok, room_8, both_there}
 use Rattle.dir_block_test.proofs.test_entries.Goals as goal
 

@@ -1,11 +1,7 @@
-use Prim.Native.Nat.{ℕ, ◌+◌, ◌-◌, ◌≤◌}
-use native.Mathlib.Omega.{arith}
-use mathlib.Core.Path.{sym, ◌∙◌}
-use borrow.Author.Rules.{rules}
-use borrow.Author.Tests.{not-true, not-false}
+use Prim.Native.Nat.{◌-◌}
 use Rattle.dir_block_rules.specs.Verdict.{pair}
 use Rattle.dir_block_test.specs.Passes.{hint, own_at}
-use Rattle.dir_block_test.proofs.RecordWalk.{Walking, walking_start, walking_end, walking_not, walking_room, walking_broken, walking_fits, walking_entry, walking_stop, walking_gap_on, hd, hd_gap}
+use Rattle.dir_block_test.proofs.RecordWalk.{Walking}
 use Rattle.dir_block_test.proofs.walk.Given as goal
 
 abbrev pub invariant-loop-o : goal.invariant-loop-o

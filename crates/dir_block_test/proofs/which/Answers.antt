@@ -1,4 +1,3 @@
-use borrow.Author.Rules.{rules}
 use Rattle.dir_block_test.proofs.BestPass.{which_first, which_second, which_third, which_longer, which_other}
 use Rattle.dir_block_test.proofs.which.Goals as goal
 

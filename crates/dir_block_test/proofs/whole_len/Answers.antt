@@ -1,5 +1,4 @@
 use native.Mathlib.Omega.{arith}
-use borrow.Author.Rules.{rules}
 use mathlib.Core.Path.{sym, ◌∙◌}
 use Rattle.dir_block_test.proofs.WholeRecord.{len_short, len_long, len_uneven, len_untagged, len_good}
 use Rattle.dir_block_test.proofs.whole_len.Goals as goal

@@ -1,8 +1,5 @@
 use native.Mathlib.Omega.{arith}
-use borrow.Author.Rules.{rules}
-use Prim.Native.Nat.{◌-◌, ◌≤◌}
-use borrow.Author.Tests.{not-false}
-use Rattle.dir_block_twice.proofs.SortedSlots.{AscendsTo, ascends_on, ascends_all}
+use Rattle.dir_block_twice.proofs.SortedSlots.{ascends_on, ascends_all}
 use Rattle.dir_block_twice.proofs.ascending.Goals as goal
 
 pub loop-k-init : goal.loop-k-init

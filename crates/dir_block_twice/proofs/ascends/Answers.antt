@@ -1,4 +1,3 @@
-use borrow.Author.Rules.{rules}
 use Rattle.dir_block_twice.proofs.NameOrder.{before_at}
 use Rattle.dir_block_twice.proofs.ascends.Goals as goal
 

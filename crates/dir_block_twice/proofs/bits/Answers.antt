@@ -1,4 +1,3 @@
-use borrow.Author.Rules.{rules}
 use Rattle.dir_block_twice.proofs.SeenKeys.{bits_are}
 use Rattle.dir_block_twice.proofs.bits.Goals as goal
 

@@ -1,8 +1,5 @@
-use borrow.Author.Rules.{rules}
-use Prim.Native.Nat.{◌-◌}
 use mathlib.Core.Path.{sym, ◌∙◌}
-use Rattle.dir_block_twice.specs.Twice.{hash_at, addr_at}
-use Rattle.dir_block_twice.proofs.TwinWalk.{Clashing, clash_start, clash_end, clash_past, clash_stale, clash_hit, clash_on, reach_at, same_at}
+use Rattle.dir_block_twice.proofs.TwinWalk.{clash_start, clash_end, clash_past, clash_stale, clash_hit, clash_on, reach_at, same_at}
 use Rattle.dir_block_twice.proofs.clash.Goals as goal
 use Rattle.dir_block_twice.proofs.clash.Goals.{then-a-ne0+else-same_names, else-a-ne0}
 

@@ -1,9 +1,6 @@
-use borrow.Author.Rules.{rules}
 use Prim.Native.Nat.{◌-◌}
-use mathlib.Core.Path.{sym, ◌∙◌}
-use mathlib.Core.Logic.{⊎_elim}
 use Rattle.dir_block_twice.specs.Twice.{hash_at, addr_at}
-use Rattle.dir_block_twice.proofs.TwinWalk.{Clashing, clash_start, clash_end, clash_past, clash_stale, clash_hit, clash_on, reach_at, same_at}
+use Rattle.dir_block_twice.proofs.TwinWalk.{Clashing}
 use Rattle.dir_block_twice.proofs.clash.Given as goal
 
 abbrev pub invariant-loop-j : goal.invariant-loop-j

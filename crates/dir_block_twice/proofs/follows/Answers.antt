@@ -1,4 +1,3 @@
-use borrow.Author.Rules.{rules}
 use Rattle.dir_block_twice.proofs.TwinKeys.{follows_first, follows_next}
 use Rattle.dir_block_twice.proofs.follows.Goals as goal
 

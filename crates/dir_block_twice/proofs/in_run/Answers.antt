@@ -1,4 +1,3 @@
-use borrow.Author.Rules.{rules}
 use Rattle.dir_block_twice.proofs.TwinKeys.{either_first, either_second}
 use Rattle.dir_block_twice.proofs.in_run.Goals as goal
 

@@ -1,5 +1,4 @@
 use native.Mathlib.Omega.{arith}
-use borrow.Author.Rules.{rules}
 use mathlib.Core.Path.{◌∙◌}
 use Rattle.be.proofs.Bools.{clash}
 use Rattle.dir_block_twice.proofs.SortedSlots.{ascends_less, sorted_once}

@@ -1,4 +1,3 @@
-use borrow.Author.Rules.{rules}
 use Rattle.dir_block_twice.proofs.NameOrder.{live_here, live_past}
 use Rattle.dir_block_twice.proofs.live.Goals as goal
 

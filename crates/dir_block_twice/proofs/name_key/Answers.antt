@@ -1,7 +1,6 @@
 use Prim.Native.Nat.{ℕ, ◌+◌, ◌-◌}
 use native.Mathlib.Omega.{arith}
 use mathlib.Core.Path.{◌≡◌, ◌∙◌, ap}
-use borrow.Author.Rules.{rules}
 use Rattle.be.specs.Bytes.{byte, part}
 use Rattle.name_words.specs.Words.{key_of}
 use Rattle.dir_block_twice.proofs.name_key.Goals as goal

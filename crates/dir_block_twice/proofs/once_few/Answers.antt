@@ -1,4 +1,3 @@
-use borrow.Author.Rules.{rules}
 use Rattle.dir_block_twice.proofs.once_few.Goals as goal
 
 pub returns-then-few : goal.returns-then-few

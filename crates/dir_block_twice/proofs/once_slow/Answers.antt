@@ -1,5 +1,4 @@
 use native.Mathlib.Omega.{arith}
-use borrow.Author.Rules.{rules}
 use Rattle.dir_block_twice.proofs.once_slow.Goals as goal
 
 pub returns-then-all : goal.returns-then-all

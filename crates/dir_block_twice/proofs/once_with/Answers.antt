@@ -1,11 +1,10 @@
 use native.Mathlib.Omega.{arith}
 use borrow.Author.Rules.{rules}
-use Prim.Native.Nat.{◌+◌, ◌-◌, ◌≤◌, ◌<◌}
+use Prim.Native.Nat.{◌+◌, ◌-◌, ◌<◌}
 use mathlib.Core.Path.{◌≡◌, refl, ◌∙◌}
-use lib.ListN.{length}
 use Rattle.be.proofs.Bools.{clash}
 use Rattle.dir_block_twice.proofs.TwinWalk.{twin_live}
-use Rattle.dir_block_twice.proofs.TwinKeys.{Downing, down_start, down_end, down_marks, twin_twice, down_on}
+use Rattle.dir_block_twice.proofs.TwinKeys.{down_start, down_end, down_marks, twin_twice, down_on}
 use Rattle.dir_block_twice.proofs.once_with.Goals as goal
 
 pub loop-i-init : goal.loop-i-init

@@ -1,11 +1,7 @@
-use native.Mathlib.Omega.{arith}
-use borrow.Author.Rules.{rules}
-use Prim.Native.Nat.{◌+◌, ◌-◌, ◌≤◌, ◌<◌}
-use mathlib.Core.Path.{◌≡◌, refl, ◌∙◌}
+use Prim.Native.Nat.{◌+◌, ◌-◌, ◌≤◌}
+use mathlib.Core.Path.{◌≡◌}
 use lib.ListN.{length}
-use Rattle.be.proofs.Bools.{clash}
-use Rattle.dir_block_twice.proofs.TwinWalk.{twin_live}
-use Rattle.dir_block_twice.proofs.TwinKeys.{Downing, down_start, down_end, down_marks, twin_twice, down_on}
+use Rattle.dir_block_twice.proofs.TwinKeys.{Downing}
 use Rattle.dir_block_twice.proofs.once_with.Given as goal
 
 abbrev pub invariant-loop-i : goal.invariant-loop-i

@@ -1,4 +1,3 @@
-use borrow.Author.Rules.{rules}
 use mathlib.Core.Bool.{false≢true}
 use Rattle.dir_block_twice.proofs.SortedSlots.{placed_is}
 use Rattle.dir_block_twice.proofs.placed.Goals as goal

@@ -1,8 +1,6 @@
 use native.Mathlib.Omega.{arith}
-use borrow.Author.Rules.{rules}
-use Prim.Native.Nat.{◌-◌}
 use mathlib.Core.Bool.{false≢true}
-use Rattle.dir_block_twice.proofs.SortedSlots.{RankedTo, ranked_on, ranked_all}
+use Rattle.dir_block_twice.proofs.SortedSlots.{ranked_on, ranked_all}
 use Rattle.dir_block_twice.proofs.ranked.Goals as goal
 
 pub loop-i-init : goal.loop-i-init

@@ -1,8 +1,5 @@
-use native.Mathlib.Omega.{arith}
-use borrow.Author.Rules.{rules}
 use Prim.Native.Nat.{◌-◌}
-use mathlib.Core.Bool.{false≢true}
-use Rattle.dir_block_twice.proofs.SortedSlots.{RankedTo, ranked_on, ranked_all}
+use Rattle.dir_block_twice.proofs.SortedSlots.{RankedTo}
 use Rattle.dir_block_twice.proofs.ranked.Given as goal
 
 abbrev pub invariant-loop-i : goal.invariant-loop-i

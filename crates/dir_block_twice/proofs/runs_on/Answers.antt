@@ -1,4 +1,3 @@
-use borrow.Author.Rules.{rules}
 use Rattle.dir_block_twice.proofs.TwinWalk.{runs_last, runs_next}
 use Rattle.dir_block_twice.proofs.runs_on.Goals as goal
 

@@ -1,9 +1,6 @@
 use Prim.Native.Nat.{◌-◌, ◌≤◌}
-use native.Mathlib.Omega.{arith}
-use borrow.Author.Rules.{rules}
 use lib.ListN.{length}
 use Rattle.dir_block_twice.specs.Twice.{Undecided}
-use Rattle.dir_block_twice.proofs.NameOrder.{alike_start, alike_word}
 use Rattle.dir_block_twice.proofs.same_start.Given as goal
 
 abbrev pub invariant-loop-k : goal.invariant-loop-k

@@ -1,8 +1,4 @@
 use native.Mathlib.Omega.{arith}
-use borrow.Author.Rules.{rules}
-use Prim.Native.Nat.{◌-◌, ◌≤◌}
-use mathlib.Core.Path.{◌≡◌}
-use lib.ListN.{length}
 use Rattle.dir_block_twice.proofs.sift.Goals as goal
 
 pub ascends-requires : goal.ascends-requires

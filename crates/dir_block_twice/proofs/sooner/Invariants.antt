@@ -1,9 +1,6 @@
-use native.Mathlib.Omega.{arith}
-use borrow.Author.Rules.{rules}
 use Prim.Native.Nat.{◌-◌}
 use lib.ListN.{length}
 use Rattle.dir_block_twice.specs.Twice.{Undecided}
-use Rattle.dir_block_twice.proofs.NameOrder.{both_left, both_right, alike_differ, alike_on, alike_end}
 use Rattle.dir_block_twice.proofs.sooner.Given as goal
 
 abbrev pub invariant-loop-k : goal.invariant-loop-k

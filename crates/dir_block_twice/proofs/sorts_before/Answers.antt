@@ -1,8 +1,6 @@
 use native.Mathlib.Omega.{arith}
-use borrow.Author.Rules.{rules}
 use Prim.Native.Nat.{◌<◌}
 use mathlib.Core.Path.{sym, ◌∙◌}
-use borrow.Author.Tests.{not-true, not-false}
 use Rattle.dir_block_twice.proofs.TwinWalk.{reach_at}
 use Rattle.dir_block_twice.proofs.NameOrder.{live_below, live_addr, before_left, before_right, before_names}
 use Rattle.dir_block_twice.proofs.sorts_before.Goals as goal

@@ -1,8 +1,6 @@
 use native.Mathlib.Omega.{arith}
-use borrow.Author.Rules.{rules}
 use Prim.Native.Nat.{◌/◌}
 use mathlib.Core.Path.{refl}
-use borrow.Author.Tests.{not-true}
 use Rattle.dir_block_twice.proofs.TwinWalk.{reach_past}
 use Rattle.dir_block_twice.proofs.SeenKeys.{cell_lt}
 use Rattle.dir_block_twice.proofs.TwinKeys.{noted_apart, noted_stale, noted_new}

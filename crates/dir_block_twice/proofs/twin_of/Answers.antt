@@ -1,6 +1,4 @@
-use borrow.Author.Rules.{rules}
 use mathlib.Core.Path.{sym, ◌∙◌}
-use borrow.Author.Tests.{not-false}
 use Rattle.be.proofs.Bools.{clash}
 use Rattle.dir_block_twice.proofs.TwinWalk.{twin_live}
 use Rattle.dir_block_twice.proofs.TwinKeys.{twin_twice}

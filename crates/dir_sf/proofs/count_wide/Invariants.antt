@@ -1,8 +1,6 @@
 use Prim.Native.Nat.{◌-◌}
-use borrow.Author.Rules.{rules}
 use Rattle.dir_sf.specs.Entry.{width_of}
-use Rattle.dir_sf.proofs.Run.{run_one}
-use Rattle.dir_sf.proofs.Tests.{Wide, wide_start, wide_on, wide_done}
+use Rattle.dir_sf.proofs.Tests.{Wide}
 use Rattle.dir_sf.proofs.count_wide.Given as goal
 
 abbrev pub invariant-loop-i : goal.invariant-loop-i

@@ -1,8 +1,6 @@
 use Prim.Native.Nat.{◌-◌}
-use borrow.Author.Rules.{rules}
 use Rattle.dir_sf.specs.Entry.{width_of}
-use Rattle.dir_sf.proofs.Run.{run_one}
-use Rattle.dir_sf.proofs.Seeks.{Seek, seek_start, seek_on, found_index, seek_none}
+use Rattle.dir_sf.proofs.Seeks.{Seek}
 use Rattle.dir_sf.proofs.find.Given as goal
 
 abbrev pub invariant-loop-i : goal.invariant-loop-i

@@ -1,4 +1,3 @@
-use borrow.Author.Rules.{rules}
 use Rattle.dir_sf.proofs.Inodes.{bounded}
 use Rattle.dir_sf.proofs.fork_long.Goals as goal
 

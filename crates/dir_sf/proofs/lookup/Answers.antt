@@ -1,4 +1,3 @@
-use borrow.Author.Rules.{rules}
 use Rattle.dir_sf.proofs.Tested.{lookup_made}
 use Rattle.dir_sf.proofs.lookup.Goals as goal
 

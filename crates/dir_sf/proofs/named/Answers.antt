@@ -1,9 +1,6 @@
-use Prim.Native.Nat.{◌-◌}
 use borrow.Author.Rules.{rules}
-use Rattle.dir_sf.specs.Entry.{width_of}
 use Rattle.dir_sf.proofs.Run.{run_one}
-use Rattle.dir_sf.proofs.Tests.{Every, every_start, named_stop, named_on, named_done}
-use Rattle.dir_sf.specs.Fork.{name_ok}
+use Rattle.dir_sf.proofs.Tests.{every_start, named_stop, named_on, named_done}
 use Rattle.dir_sf.proofs.named.Goals as goal
 
 pub loop-i-init : goal.loop-i-init

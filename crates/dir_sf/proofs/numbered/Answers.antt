@@ -1,8 +1,6 @@
-use Prim.Native.Nat.{◌-◌}
 use borrow.Author.Rules.{rules}
-use Rattle.dir_sf.specs.Entry.{width_of}
 use Rattle.dir_sf.proofs.Run.{run_one}
-use Rattle.dir_sf.proofs.Tests.{Every, number_ok, every_start, numbered_stop, numbered_on, numbered_done}
+use Rattle.dir_sf.proofs.Tests.{every_start, numbered_stop, numbered_on, numbered_done}
 use Rattle.dir_sf.proofs.numbered.Goals as goal
 
 pub loop-i-init : goal.loop-i-init

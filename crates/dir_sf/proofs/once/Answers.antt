@@ -1,8 +1,6 @@
 use borrow.Author.Rules.{rules}
-use Prim.Native.Nat.{◌-◌}
-use Rattle.dir_sf.specs.Entry.{width_of}
 use Rattle.dir_sf.proofs.Run.{run_one}
-use Rattle.dir_sf.proofs.Tests.{Once, once_start, once_inside, once_enough, once_stop, once_on, once_done}
+use Rattle.dir_sf.proofs.Tests.{once_start, once_inside, once_enough, once_stop, once_on, once_done}
 use Rattle.dir_sf.proofs.once.Goals as goal
 
 pub loop-i-init : goal.loop-i-init

@@ -1,4 +1,3 @@
-use borrow.Author.Rules.{rules}
 use Rattle.dir_sf.proofs.Walks.{step_made}
 use Rattle.dir_sf.proofs.step_at.Goals as goal
 

@@ -1,8 +1,6 @@
-use Prim.Native.Nat.{◌-◌, ◌+◌}
 use borrow.Author.Rules.{rules}
-use Rattle.dir_sf.specs.Entry.{width_of}
 use Rattle.dir_sf.proofs.Run.{run_one}
-use Rattle.dir_sf.proofs.Walks.{Walk, walk_start, walk_on, walk_hit, walk_end, walk_off}
+use Rattle.dir_sf.proofs.Walks.{walk_start, walk_on, walk_hit, walk_end, walk_off}
 use Rattle.dir_sf.proofs.step_over.Goals as goal
 
 pub loop-i-init : goal.loop-i-init

@@ -1,8 +1,6 @@
 use Prim.Native.Nat.{◌-◌, ◌+◌}
-use borrow.Author.Rules.{rules}
 use Rattle.dir_sf.specs.Entry.{width_of}
-use Rattle.dir_sf.proofs.Run.{run_one}
-use Rattle.dir_sf.proofs.Walks.{Walk, walk_start, walk_on, walk_hit, walk_end, walk_off}
+use Rattle.dir_sf.proofs.Walks.{Walk}
 use Rattle.dir_sf.proofs.step_over.Given as goal
 
 abbrev pub invariant-loop-i : goal.invariant-loop-i

@@ -1,6 +1,5 @@
 use Prim.Native.Nat.{ℕ}
 use mathlib.Core.Path.{ap₂}
-use borrow.Author.Rules.{rules}
 use Rattle.dir.specs.Target.{target}
 use Rattle.dir_sf.proofs.target_at.Goals as goal
 

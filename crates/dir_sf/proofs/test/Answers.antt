@@ -1,4 +1,3 @@
-use borrow.Author.Rules.{rules}
 use Rattle.dir_sf.proofs.Inodes.{test_made}
 use Rattle.dir_sf.proofs.test.Goals as goal
 

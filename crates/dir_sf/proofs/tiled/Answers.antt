@@ -1,7 +1,5 @@
-use Prim.Native.Nat.{◌-◌}
 use borrow.Author.Rules.{rules}
-use Rattle.dir_sf.specs.Entry.{width_of}
-use Rattle.dir_sf.proofs.Tests.{Tile, tile_start, tile_none, tile_short, tile_odd, tile_low, tile_on, tile_over, tile_done}
+use Rattle.dir_sf.proofs.Tests.{tile_start, tile_none, tile_short, tile_odd, tile_low, tile_on, tile_over, tile_done}
 use Rattle.dir_sf.proofs.tiled.Goals as goal
 
 pub loop-i-init : goal.loop-i-init

@@ -1,7 +1,6 @@
 use Prim.Native.Nat.{◌-◌}
-use borrow.Author.Rules.{rules}
 use Rattle.dir_sf.specs.Entry.{width_of}
-use Rattle.dir_sf.proofs.Tests.{Tile, tile_start, tile_none, tile_short, tile_odd, tile_low, tile_on, tile_over, tile_done}
+use Rattle.dir_sf.proofs.Tests.{Tile}
 use Rattle.dir_sf.proofs.tiled.Given as goal
 
 abbrev pub invariant-loop-i : goal.invariant-loop-i

@@ -1,8 +1,6 @@
 use borrow.Author.Rules.{rules}
-use Prim.Native.Nat.{◌-◌}
-use Rattle.dir_sf.specs.Entry.{width_of}
 use Rattle.dir_sf.proofs.Run.{run_one}
-use Rattle.dir_sf_edit.proofs.Copies.{Copy, copy_start, copy_room, copy_on, copy_bytes, copy_end}
+use Rattle.dir_sf_edit.proofs.Copies.{copy_start, copy_room, copy_on, copy_bytes, copy_end}
 use Rattle.dir_sf_edit.proofs.copy_entries.Goals as goal
 
 pub loop-i-init : goal.loop-i-init

@@ -1,8 +1,6 @@
 use Prim.Native.Nat.{◌-◌}
-use borrow.Author.Rules.{rules}
-use Rattle.dir_sf_edit.proofs.TagScans.{Ends, ends_start, ends_on, ends_done}
+use Rattle.dir_sf_edit.proofs.TagScans.{Ends}
 use Rattle.dir_sf.specs.Entry.{width_of}
-use Rattle.dir_sf.proofs.Run.{run_one}
 use Rattle.dir_sf_edit.proofs.end_of.Given as goal
 
 abbrev pub invariant-loop-i : goal.invariant-loop-i

@@ -1,7 +1,5 @@
-use Prim.Native.Nat.{◌-◌}
 use borrow.Author.Rules.{rules}
-use Rattle.dir_sf_edit.proofs.TagScans.{Gaps, gaps_start, gaps_found, gaps_on, gaps_done}
-use Rattle.dir_sf.specs.Entry.{width_of}
+use Rattle.dir_sf_edit.proofs.TagScans.{gaps_start, gaps_found, gaps_on, gaps_done}
 use Rattle.dir_sf.proofs.Run.{run_one}
 use Rattle.dir_sf_edit.proofs.gap_of.Goals as goal
 

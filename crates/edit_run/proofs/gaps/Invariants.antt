@@ -1,4 +1,4 @@
-use Rattle.std.proofs.Common.{◌-◌, ◌≤◌, rules}
+use Rattle.std.proofs.Common.{◌-◌, ◌≤◌}
 use Rattle.edit_run.proofs.gaps.Given as goal
 
 abbrev pub invariant-loop-o : goal.invariant-loop-o

@@ -1,4 +1,4 @@
-use Rattle.std.proofs.Common.{sym, arith, length-take-le, rules}
+use Rattle.std.proofs.Common.{sym, arith, length-take-le}
 use Rattle.edit_run.proofs.insert_part.Goals as goal
 
 pub slice_bounds-insert-end : goal.slice_bounds-insert-end

@@ -1,4 +1,4 @@
-use Rattle.std.proofs.Common.{◌/◌, mod-lt, arith, rules}
+use Rattle.std.proofs.Common.{◌/◌, mod-lt, arith}
 use Rattle.edit_run.proofs.pick.Goals as goal
 
 pub returns : goal.returns

@@ -1,4 +1,4 @@
-use Rattle.std.proofs.Common.{sym, arith, length-take-le, rules}
+use Rattle.std.proofs.Common.{sym, arith, length-take-le}
 use Rattle.edit_run.proofs.try_remove.Goals as goal
 
 pub slice_bounds-remove-end : goal.slice_bounds-remove-end

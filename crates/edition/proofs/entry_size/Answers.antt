@@ -1,6 +1,5 @@
 use native.Mathlib.Omega.{arith}
 use mathlib.Core.Path.{refl}
-use borrow.Author.Rules.{rules}
 use Rattle.edition.specs.Edition.{entry_size}
 use Rattle.edition.proofs.entry_size.Goals as goal
 

@@ -1,6 +1,5 @@
 use native.Mathlib.Omega.{arith}
 use mathlib.Core.Path.{refl, sym, ◌∙◌}
-use borrow.Author.Rules.{rules}
 use Rattle.dir_block_laws.proofs.SlotSearch.{ready_of}
 use Rattle.list.proofs.WholeInput.{passed}
 use Rattle.list.proofs.answer.Goals as goal

@@ -1,5 +1,4 @@
 use native.Mathlib.Omega.{arith}
-use borrow.Author.Rules.{rules}
 use mathlib.Core.Path.{◌∙◌}
 use Rattle.list.proofs.WholeInput.{none_after, too_long}
 use Rattle.list.proofs.code.Goals as goal

@@ -1,5 +1,4 @@
 use native.Mathlib.Omega.{arith}
-use borrow.Author.Rules.{rules}
 use Rattle.dir_block_laws.proofs.RecordSteps.{count_read, stale_read}
 use Rattle.dir_block_laws.proofs.SlotSearch.{slots_room, stale_within}
 use Rattle.list.proofs.head.Goals as goal

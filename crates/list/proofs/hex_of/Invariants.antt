@@ -1,9 +1,6 @@
 use Prim.Native.Nat.{◌≤◌, ◌-◌}
-use native.Mathlib.Omega.{arith}
 use mathlib.Core.Path.{◌≡◌}
-use borrow.Author.Rules.{rules}
-use lib.ListN.{length, length-set}
-use Rattle.io.proofs.Counting.{prefix_len_of_le}
+use lib.ListN.{length}
 use Rattle.list.proofs.hex_of.Given as goal
 
 abbrev pub invariant-loop-i : goal.invariant-loop-i

@@ -1,11 +1,10 @@
 use native.Mathlib.Omega.{arith}
 use borrow.Author.Rules.{rules}
-use Prim.Native.Nat.{◌+◌, ◌-◌, ◌≤◌, ◌<◌}
-use mathlib.Core.Path.{◌≡◌, subst}
+use Prim.Native.Nat.{◌+◌, ◌≤◌, ◌<◌}
+use mathlib.Core.Path.{subst}
 use lib.ListN.{length, length-take}
 use Rattle.dir.specs.declared.Seen.{Seen}
 use Rattle.dir.specs.Answers.{seen_start, seen_len}
-use Rattle.dir_block_laws.specs.Pass.{Place}
 use Rattle.dir_block_laws.proofs.RecordSteps.{place_start}
 use Rattle.list.proofs.listing.Goals as goal
 

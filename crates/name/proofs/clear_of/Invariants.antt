@@ -1,12 +1,10 @@
 use Prim.Native.Nat.{◌-◌}
 use mathlib.Core.Bool.{◌&&◌}
-use mathlib.Core.Path.{◌≡◌, refl}
-use borrow.Author.Rules.{rules}
+use mathlib.Core.Path.{◌≡◌}
 use lib.Dec.{eqb}
 use lib.ListN.{length, drop}
 use Rattle.be.specs.Lists.{every}
 use Rattle.name.specs.Name.{clear_of}
-use Rattle.name.proofs.Scans.{every_turn, every_done}
 use Rattle.name.proofs.clear_of.Given as goal
 
 abbrev pub invariant-loop-i : goal.invariant-loop-i

@@ -1,12 +1,7 @@
 use Prim.Native.Nat.{◌-◌}
-use native.Mathlib.Omega.{arith}
-use mathlib.Core.Path.{refl, sym, ◌∙◌}
-use borrow.Author.Rules.{rules}
-use borrow.Author.Tests.{not-true, not-false}
 use lib.ListN.{length}
 use Rattle.be.specs.Lists.{same}
-use Rattle.name.proofs.Scans.{Alike, unlike}
-use Rattle.name.proofs.EqualWords.{alike_run, alike_run_not}
+use Rattle.name.proofs.Scans.{Alike}
 use Rattle.name.proofs.equal.Given as goal
 
 abbrev pub invariant-loop-i : goal.invariant-loop-i

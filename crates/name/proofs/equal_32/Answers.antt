@@ -1,4 +1,3 @@
-use borrow.Author.Rules.{rules}
 use Rattle.name.proofs.EqualWords.{run_same}
 use Rattle.name.proofs.equal_32.Goals as goal
 

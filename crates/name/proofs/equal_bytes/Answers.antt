@@ -1,9 +1,6 @@
-use Prim.Native.Nat.{◌-◌}
 use mathlib.Core.Path.{refl}
 use borrow.Author.Rules.{rules}
-use lib.ListN.{length}
-use Rattle.be.specs.Lists.{same}
-use Rattle.name.proofs.Scans.{Alike, alike_next, alike_not, alike_done}
+use Rattle.name.proofs.Scans.{alike_next, alike_not, alike_done}
 use Rattle.name.proofs.equal_bytes.Goals as goal
 
 pub loop-i-init : goal.loop-i-init

@@ -1,9 +1,7 @@
 use Prim.Native.Nat.{◌-◌}
-use mathlib.Core.Path.{refl}
-use borrow.Author.Rules.{rules}
 use lib.ListN.{length}
 use Rattle.be.specs.Lists.{same}
-use Rattle.name.proofs.Scans.{Alike, alike_next, alike_not, alike_done}
+use Rattle.name.proofs.Scans.{Alike}
 use Rattle.name.proofs.equal_bytes.Given as goal
 
 abbrev pub invariant-loop-i : goal.invariant-loop-i

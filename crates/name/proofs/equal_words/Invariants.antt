@@ -1,9 +1,7 @@
 use Prim.Native.Nat.{◌-◌}
-use native.Mathlib.Omega.{arith}
 use lib.ListN.{length}
 use Rattle.be.specs.Lists.{same}
 use Rattle.name.proofs.Scans.{Alike}
-use Rattle.name.proofs.EqualWords.{alike_word, alike_word_not, last_words}
 use Rattle.name.proofs.equal_words.Given as goal
 
 abbrev pub invariant-loop-i : goal.invariant-loop-i

@@ -1,12 +1,7 @@
-use mathlib.Core.Path.{◌≡◌, ◌∙◌, ap}
-use Prim.Native.Nat.{ℕ, ◌≤◌, ◌+◌, ◌-◌, ◌%◌}
-use native.Mathlib.Omega.{arith}
-use borrow.Author.Rules.{rules}
+use mathlib.Core.Path.{◌≡◌}
+use Prim.Native.Nat.{◌≤◌, ◌-◌, ◌%◌}
 use lib.ListN.{length, drop}
-use Rattle.name.specs.Name.{hash_from, hash_of}
-use Rattle.name.proofs.Scans.{four_at}
-use Rattle.name.proofs.Hashing.{hash_turn, hash_end}
-use Rattle.name.proofs.FirstBytes.{first_long}
+use Rattle.name.specs.Name.{hash_from}
 use Rattle.name.proofs.hash32.Given as goal
 
 -- whole fours are left

@@ -1,5 +1,4 @@
 use mathlib.Core.Path.{refl, ◌∙◌}
-use borrow.Author.Rules.{rules}
 use Rattle.name.proofs.FirstBytes.{first_is}
 use Rattle.name.proofs.hash_first.Goals as goal
 

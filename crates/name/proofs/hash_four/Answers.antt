@@ -1,4 +1,3 @@
-use borrow.Author.Rules.{rules}
 use Rattle.name.proofs.Hashing.{four_is}
 use Rattle.name.proofs.hash_four.Goals as goal
 

@@ -1,6 +1,5 @@
 use mathlib.Core.Path.{refl, ap, ◌∙◌}
 use native.Mathlib.Omega.{arith}
-use borrow.Author.Rules.{rules}
 use Rattle.name.specs.Name.{hash_from}
 use Rattle.name.proofs.Hashing.{hash_end}
 use Rattle.name.proofs.FirstBytes.{first_short}

@@ -1,5 +1,4 @@
 use Rattle.name.specs.Name.{same_name}
-use borrow.Author.Rules.{rules}
 use Rattle.name.proofs.matches.Goals as goal
 
 pub returns : goal.returns

@@ -1,5 +1,4 @@
 use native.Mathlib.Omega.{arith}
-use borrow.Author.Rules.{rules}
 use Rattle.name.proofs.Rotation.{rol_or}
 use Rattle.name.proofs.rotated.Goals as goal
 

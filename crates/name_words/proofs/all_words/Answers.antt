@@ -1,5 +1,4 @@
 use mathlib.Core.Path.{sym, ◌∙◌}
-use borrow.Author.Rules.{rules}
 use Rattle.name_words.proofs.all_words.Goals as goal
 
 pub returns : goal.returns

@@ -1,7 +1,6 @@
 use Prim.Native.Nat.{◌-◌}
 use mathlib.Core.Path.{◌≡◌, ap, ◌∙◌}
 use native.Mathlib.Omega.{arith}
-use borrow.Author.Rules.{rules}
 use Rattle.be.specs.Lists.{every}
 use Rattle.be.specs.Bytes.{part}
 use Rattle.be.specs.Words.{to_le}

@@ -1,13 +1,9 @@
 use Prim.Native.Nat.{ℕ, ◌-◌, ◌≤◌, ◌<◌}
-use mathlib.Core.Path.{◌≡◌, sym, ap, ◌∙◌}
-use mathlib.Core.Bool.{◌&&◌}
+use mathlib.Core.Path.{sym, ap, ◌∙◌}
 use native.Mathlib.Omega.{arith}
 use lib.ListN.{length}
-use borrow.Author.Rules.{rules}
 use Rattle.be.specs.Bytes.{byte, part}
-use Rattle.be.specs.Lists.{every}
-use Rattle.name.specs.Name.{hash_from, legal_byte}
-use Rattle.name_words.specs.Words.{marked, bytes_32}
+use Rattle.name.specs.Name.{hash_from}
 use Rattle.name_words.proofs.MarkedLanes.{marked_none}
 use Rattle.name_words.proofs.Overlay.{chunk_turn, hash_none}
 use Rattle.name_words.proofs.chunks.Goals as goal

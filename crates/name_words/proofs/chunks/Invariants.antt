@@ -1,15 +1,10 @@
-use Prim.Native.Nat.{ℕ, ◌-◌, ◌≤◌, ◌<◌}
-use mathlib.Core.Path.{◌≡◌, sym, ap, ◌∙◌}
+use Prim.Native.Nat.{◌-◌, ◌<◌}
+use mathlib.Core.Path.{◌≡◌}
 use mathlib.Core.Bool.{◌&&◌}
-use native.Mathlib.Omega.{arith}
-use lib.ListN.{length}
-use borrow.Author.Rules.{rules}
-use Rattle.be.specs.Bytes.{byte, part}
+use Rattle.be.specs.Bytes.{part}
 use Rattle.be.specs.Lists.{every}
 use Rattle.name.specs.Name.{hash_from, legal_byte}
 use Rattle.name_words.specs.Words.{marked, bytes_32}
-use Rattle.name_words.proofs.MarkedLanes.{marked_none}
-use Rattle.name_words.proofs.Overlay.{chunk_turn, hash_none}
 use Rattle.name_words.proofs.chunks.Given as goal
 
 abbrev pub invariant-loop-i : goal.invariant-loop-i

@@ -1,4 +1,3 @@
-use borrow.Author.Rules.{rules}
 use Rattle.name_words.proofs.WordWalk.{before_end}
 use Rattle.name_words.proofs.end_word.Goals as goal
 

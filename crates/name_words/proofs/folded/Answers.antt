@@ -1,5 +1,4 @@
 use Rattle.name_words.proofs.Overlay.{fold_law}
-use borrow.Author.Rules.{rules}
 use Rattle.name_words.proofs.folded.Goals as goal
 
 pub returns : goal.returns

@@ -1,6 +1,5 @@
 use mathlib.Core.Path.{sym, ◌∙◌}
 use native.Mathlib.Omega.{arith}
-use borrow.Author.Rules.{rules}
 use Rattle.name_words.proofs.WholeName.{hash_whole}
 use Rattle.name_words.proofs.hash.Goals as goal
 

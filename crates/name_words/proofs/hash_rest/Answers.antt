@@ -3,7 +3,6 @@ use mathlib.Core.Path.{◌≡◌, refl, sym, ap, ◌∙◌}
 use native.Mathlib.Omega.{arith}
 use lib.Dec.{lit≤}
 use lib.ListN.{length}
-use borrow.Author.Rules.{rules}
 use Rattle.be.specs.Bytes.{byte, part}
 use Rattle.be.specs.Words.{to_le}
 use Rattle.be.proofs.Words.{word_bytes}

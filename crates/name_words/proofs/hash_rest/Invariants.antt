@@ -1,14 +1,8 @@
-use Prim.Native.Nat.{ℕ, ◌-◌, ◌<◌}
-use mathlib.Core.Path.{◌≡◌, refl, sym, ap, ◌∙◌}
-use native.Mathlib.Omega.{arith}
-use lib.Dec.{lit≤}
+use Prim.Native.Nat.{◌-◌, ◌<◌}
+use mathlib.Core.Path.{◌≡◌}
 use lib.ListN.{length}
-use borrow.Author.Rules.{rules}
-use Rattle.be.specs.Bytes.{byte, part}
-use Rattle.be.specs.Words.{to_le}
-use Rattle.be.proofs.Words.{word_bytes}
+use Rattle.be.specs.Bytes.{part}
 use Rattle.name.specs.Name.{hash_from}
-use Rattle.name_words.proofs.WordWalk.{hash_on}
 use Rattle.name_words.proofs.hash_rest.Given as goal
 
 abbrev pub invariant-loop-i : goal.invariant-loop-i

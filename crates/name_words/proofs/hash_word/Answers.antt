@@ -2,7 +2,6 @@ use Prim.Native.Nat.{◌*◌, ◌/◌, ◌%◌, ◌^◌}
 use lib.Bits.{bit_and, bit_xor}
 use mathlib.Core.Path.{refl}
 use Rattle.name_words.proofs.HashWords.{hash_word_law, hi_lt}
-use borrow.Author.Rules.{rules}
 use Rattle.name_words.proofs.hash_word.Goals as goal
 
 pub overflow_cast-hi : goal.overflow_cast-hi

@@ -1,6 +1,5 @@
 use Prim.Native.Nat.{◌-◌}
 use native.Mathlib.Omega.{arith}
-use borrow.Author.Rules.{rules}
 use Rattle.name_words.proofs.Keys.{two_range, key_none, key_some}
 use Rattle.name_words.proofs.key.Goals as goal
 

@@ -1,4 +1,3 @@
-use borrow.Author.Rules.{rules}
 use Rattle.name_words.proofs.Keys.{key_of_two}
 use Rattle.name_words.proofs.key_of_two.Goals as goal
 

@@ -1,10 +1,8 @@
-use Prim.Native.Nat.{ℕ, ◌+◌, ◌-◌, ◌/◌, ◌≤◌, ◌<◌}
-use mathlib.Core.Path.{◌≡◌, refl, sym, ◌∙◌}
+use Prim.Native.Nat.{ℕ, ◌+◌, ◌≤◌, ◌<◌}
+use mathlib.Core.Path.{refl, sym, ◌∙◌}
 use native.Mathlib.Omega.{arith}
 use lib.ListN.{length}
-use borrow.Author.Rules.{rules}
-use Rattle.be.specs.Bytes.{byte, part}
-use Rattle.name_words.specs.Words.{key_from}
+use Rattle.be.specs.Bytes.{byte}
 use Rattle.name_words.proofs.Keys.{key_turn, key_end}
 use Rattle.name_words.proofs.key_words.Goals as goal
 

@@ -1,11 +1,7 @@
-use Prim.Native.Nat.{ℕ, ◌+◌, ◌-◌, ◌/◌, ◌≤◌, ◌<◌}
-use mathlib.Core.Path.{◌≡◌, refl, sym, ◌∙◌}
-use native.Mathlib.Omega.{arith}
-use lib.ListN.{length}
-use borrow.Author.Rules.{rules}
-use Rattle.be.specs.Bytes.{byte, part}
+use Prim.Native.Nat.{◌-◌, ◌/◌, ◌<◌}
+use mathlib.Core.Path.{◌≡◌}
+use Rattle.be.specs.Bytes.{part}
 use Rattle.name_words.specs.Words.{key_from}
-use Rattle.name_words.proofs.Keys.{key_turn, key_end}
 use Rattle.name_words.proofs.key_words.Given as goal
 
 abbrev pub invariant-loop-i : goal.invariant-loop-i

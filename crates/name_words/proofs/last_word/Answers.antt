@@ -1,6 +1,5 @@
 use native.Mathlib.Nat.{mod-lt}
 use lib.Dec.{lit<}
-use borrow.Author.Rules.{rules}
 use Rattle.name_words.proofs.LastWord.{joined_hash, turn_pos}
 use Rattle.name_words.proofs.MarkedLanes.{marked_more}
 use Rattle.name_words.proofs.last_word.Goals as goal

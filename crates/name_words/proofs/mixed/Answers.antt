@@ -1,5 +1,4 @@
 use mathlib.Core.Path.{refl}
-use borrow.Author.Rules.{rules}
 use Rattle.name_words.specs.Words.{mix}
 use Rattle.name_words.proofs.mixed.Goals as goal
 

@@ -1,4 +1,3 @@
-use borrow.Author.Rules.{rules}
 use Rattle.name_words.proofs.MarkedLanes.{marked_more}
 use Rattle.name_words.proofs.next_word.Goals as goal
 

@@ -1,4 +1,3 @@
-use borrow.Author.Rules.{rules}
 use Rattle.name_words.proofs.InodeNumbers.{number_at}
 use Rattle.name_words.proofs.number_legal_at.Goals as goal
 

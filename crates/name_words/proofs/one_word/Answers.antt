@@ -1,4 +1,3 @@
-use borrow.Author.Rules.{rules}
 use Rattle.name_words.proofs.LastWord.{one_hash, one_marked, one_pos}
 use Rattle.name_words.proofs.one_word.Goals as goal
 

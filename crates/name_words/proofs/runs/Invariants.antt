@@ -1,12 +1,9 @@
-use Prim.Native.Nat.{ℕ, ◌-◌, ◌<◌}
-use mathlib.Core.Path.{◌≡◌, sym, ap, ◌∙◌}
-use native.Mathlib.Omega.{arith}
+use Prim.Native.Nat.{◌-◌, ◌<◌}
+use mathlib.Core.Path.{◌≡◌}
 use lib.ListN.{length}
-use borrow.Author.Rules.{rules}
-use Rattle.be.specs.Bytes.{byte, part}
+use Rattle.be.specs.Bytes.{part}
 use Rattle.name.specs.Name.{hash_from}
 use Rattle.name_words.specs.Words.{bytes_32}
-use Rattle.name_words.proofs.Overlay.{chunk_hash, hash_none}
 use Rattle.name_words.proofs.runs.Given as goal
 
 abbrev pub invariant-loop-i : goal.invariant-loop-i

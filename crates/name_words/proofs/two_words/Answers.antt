@@ -2,7 +2,6 @@ use Prim.Native.Nat.{ℕ, ◌-◌, ◌<◌}
 use mathlib.Core.Path.{◌∙◌, ap₂}
 use mathlib.Core.Bool.{Bool, ◌&&◌}
 use native.Mathlib.Omega.{arith}
-use borrow.Author.Rules.{rules}
 use Rattle.be.specs.Bytes.{byte}
 use Rattle.name_words.proofs.LastWord.{one_hash}
 use Rattle.name_words.proofs.MarkedLanes.{marked_and}

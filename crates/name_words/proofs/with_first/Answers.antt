@@ -1,6 +1,5 @@
 use native.Mathlib.Nat.{mod-lt}
 use lib.Dec.{lit<}
-use borrow.Author.Rules.{rules}
 use Rattle.name_words.proofs.LastWord.{joined_hash, one_hash, turn_pos}
 use Rattle.name_words.proofs.with_first.Goals as goal
 

@@ -1,5 +1,4 @@
 use lib.Dec.{lit<}
-use borrow.Author.Rules.{rules}
 use Rattle.name_words.proofs.LastWord.{joined_hash}
 use Rattle.name_words.proofs.with_word.Goals as goal
 

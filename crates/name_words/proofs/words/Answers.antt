@@ -4,7 +4,6 @@ use mathlib.Core.Bool.{◌&&◌}
 use mathlib.Core.List.{List}
 use native.Mathlib.Omega.{arith}
 use lib.ListN.{length}
-use borrow.Author.Rules.{rules}
 use Rattle.be.specs.Bytes.{byte, part}
 use Rattle.be.specs.Lists.{every}
 use Rattle.be.specs.Words.{to_le}

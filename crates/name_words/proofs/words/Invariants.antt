@@ -1,16 +1,10 @@
-use Prim.Native.Nat.{ℕ, ◌+◌, ◌-◌, ◌≤◌, ◌<◌}
-use mathlib.Core.Path.{◌≡◌, refl, sym, ap, ◌∙◌}
+use Prim.Native.Nat.{◌-◌, ◌<◌}
+use mathlib.Core.Path.{◌≡◌}
 use mathlib.Core.Bool.{◌&&◌}
-use mathlib.Core.List.{List}
-use native.Mathlib.Omega.{arith}
-use lib.ListN.{length}
-use borrow.Author.Rules.{rules}
-use Rattle.be.specs.Bytes.{byte, part}
+use Rattle.be.specs.Bytes.{part}
 use Rattle.be.specs.Lists.{every}
-use Rattle.be.specs.Words.{to_le}
 use Rattle.name.specs.Name.{hash_from, legal_byte}
 use Rattle.name_words.specs.Words.{marked}
-use Rattle.name_words.proofs.WordWalk.{turn, end_word}
 use Rattle.name_words.proofs.words.Given as goal
 
 abbrev pub invariant-loop-i : goal.invariant-loop-i

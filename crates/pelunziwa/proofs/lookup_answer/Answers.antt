@@ -1,5 +1,4 @@
 use mathlib.Core.Path.{sym, ◌∙◌, ap}
-use borrow.Author.Rules.{rules}
 use Rattle.dir.specs.Answers.{looked_code, looked_target}
 use Rattle.pelunziwa.specs.Answers.{as_found}
 use Rattle.pelunziwa.proofs.lookup_answer.Goals as goal

@@ -1,5 +1,4 @@
 use mathlib.Core.Path.{sym, ◌∙◌, ap}
-use borrow.Author.Rules.{rules}
 use Rattle.pelunziwa.specs.Answers.{as_seen}
 use Rattle.pelunziwa.proofs.seen_step.Goals as goal
 

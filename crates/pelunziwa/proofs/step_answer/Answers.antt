@@ -1,5 +1,4 @@
 use mathlib.Core.Path.{sym, ◌∙◌, ap}
-use borrow.Author.Rules.{rules}
 use Rattle.dir.specs.Answers.{walked_code}
 use Rattle.pelunziwa.specs.Answers.{as_step}
 use Rattle.pelunziwa.proofs.step_answer.Goals as goal

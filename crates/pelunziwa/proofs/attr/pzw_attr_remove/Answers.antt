@@ -1,4 +1,3 @@
-use borrow.Author.Rules.{rules}
 use Rattle.attr_sf.proofs.SmallCodes.{lookup_small}
 use Rattle.pelunziwa.proofs.attr.pzw_attr_remove.Goals as goal
 

@@ -1,4 +1,3 @@
-use borrow.Author.Rules.{rules}
 use Rattle.attr_sf.proofs.SmallCodes.{set_small}
 use Rattle.pelunziwa.proofs.attr.pzw_attr_set.Goals as goal
 

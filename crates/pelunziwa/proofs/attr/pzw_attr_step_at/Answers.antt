@@ -1,5 +1,4 @@
 use mathlib.Core.Path.{sym, ◌∙◌, ap}
-use borrow.Author.Rules.{rules}
 use Rattle.attr_sf.specs.Walk.{walked_code}
 use Rattle.attr_sf.proofs.SmallCodes.{step_small}
 use Rattle.pelunziwa.specs.Answers.{as_attr_step}

@@ -1,5 +1,4 @@
 use mathlib.Core.Path.{◌∙◌, ap}
-use borrow.Author.Rules.{rules}
 use Rattle.dir_block_rules.proofs.SmallCodes.{step_small}
 use Rattle.pelunziwa.specs.Answers.{as_step}
 use Rattle.pelunziwa.proofs.block.pzw_block_step.Goals as goal

@@ -1,4 +1,3 @@
-use borrow.Author.Rules.{rules}
 use Rattle.dir_block_rules.proofs.SmallCodes.{verdict_small}
 use Rattle.pelunziwa.proofs.block.pzw_block_test.Goals as goal
 

@@ -1,5 +1,4 @@
 use mathlib.Core.Path.{sym, ◌∙◌, ap}
-use borrow.Author.Rules.{rules}
 use Rattle.dinode.specs.Core.{tested_code}
 use Rattle.be.proofs.Parts.{bytes_all}
 use Rattle.dinode.proofs.SmallCodes.{inode_small}

@@ -1,4 +1,3 @@
-use borrow.Author.Rules.{rules}
 use Rattle.dir_sf.proofs.SmallCodes.{insert_small}
 use Rattle.pelunziwa.proofs.sfdir.pzw_sfdir_insert.Goals as goal
 

@@ -1,5 +1,4 @@
 use mathlib.Core.Path.{◌∙◌, ap}
-use borrow.Author.Rules.{rules}
 use Rattle.be.proofs.Parts.{bytes_all}
 use Rattle.edition.specs.Edition.{v4}
 use Rattle.edition.proofs.Sizes.{v4_sane}

@@ -1,5 +1,4 @@
 use mathlib.Core.Path.{◌∙◌, ap}
-use borrow.Author.Rules.{rules}
 use Rattle.dir_sf.proofs.SmallCodes.{step_small}
 use Rattle.pelunziwa.specs.Answers.{as_step}
 use Rattle.pelunziwa.proofs.sfdir.pzw_sfdir_step.Goals as goal
