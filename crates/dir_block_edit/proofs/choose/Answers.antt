@@ -19,9 +19,9 @@ longest-m-requires c =
 
 pub choose_ab-requires : goal.choose_ab-requires
 choose_ab-requires c =
-    record { sane = c.requires.sane; end_value = (c.requires.end_value.0, (c.requires.end_value.1.0, (c.requires.end_value.1.1, omega (arith, c.if-stale-gt0.true)))); spot = c.spot-p.ensures; scanned = c.longest-m.ensures.0; h_value = (c.requires.h_value.0, (c.entry_size-need.ensures.0, c.requires.h_value.1)) }
+    record { sane = c.requires.sane; end_value = (c.requires.end_value.0, (c.requires.end_value.1.0, (c.requires.end_value.1.1, omega arith))); spot = c.spot-p.ensures; scanned = c.longest-m.ensures.0; h_value = (c.requires.h_value.0, (c.entry_size-need.ensures.0, c.requires.h_value.1)) }
 
 pub choose_cd-requires : goal.choose_cd-requires
 choose_cd-requires c =
     let b = c.args.b.now in
-    let o = survey_next _ b (tiled _ b c.requires.sane.1) _ _ _ _ _ c.requires.surveyed c.args.name.now in record { sane = c.requires.sane; end_value = (c.requires.end_value.0, (c.requires.end_value.1.0, omega (arith, c.requires.end_value, c.if-stale-gt0.false))); spot = c.spot-p.ensures; scanned = c.longest-m.ensures.0; name_value = o; h_value = (c.requires.h_value.0, (c.entry_size-need.ensures.0, c.requires.h_value.1)) }
+    let o = survey_next _ b (tiled _ b c.requires.sane.1) _ _ _ _ _ c.requires.surveyed c.args.name.now in record { sane = c.requires.sane; end_value = (c.requires.end_value.0, (c.requires.end_value.1.0, omega (arith, c.requires.end_value))); spot = c.spot-p.ensures; scanned = c.longest-m.ensures.0; name_value = o; h_value = (c.requires.h_value.0, (c.entry_size-need.ensures.0, c.requires.h_value.1)) }
