@@ -3,7 +3,7 @@
 use Rattle.std.specs.Prelude.{ℕ, Bool, cond, eqb}
 
 infixr 10 ◌unless◌then◌ ◌and_then◌
--- the answer of a test that fails, and behind it the answer of those that follow: 'SIZE unless size-ok b then ..'
+-- the answer of a test that fails, and behind it the answer of those that follow: 'SIZE unless size_ok b then ..'
 abbrev pub ◌unless◌then◌ : {A : Type 0} → A → Bool → A → A
 x unless t then rest = cond t rest x
 

@@ -113,8 +113,8 @@ module _ (e : Edition) (b n : List ℕ) (i : Target) where
       let in_a = writes_a m in
       let in_b = writes_b m in
       let in_c = writes_c m in
-      let in-d = writes_d m in
-      cond (case_a m) in_a (cond (case_b m) in_b (cond (case_c m) in_c in-d))
+      let in_d = writes_d m in
+      cond (case_a m) in_a (cond (case_b m) in_b (cond (case_c m) in_c in_d))
 
   -- the block's refusal; 11 ASKED: name, number or type not legal, or the directory's own number; 12 FIXED; 14 EXISTS; 15 NOROOM
   unfoldable pub insert_code : ℕ

@@ -1,4 +1,4 @@
--- The parts of a tile-count block: what the tests that come later rely on.
+-- The parts of a tile_count block: what the tests that come later rely on.
 -- Assumes nothing.
 use Prim.Native.Nat.{ℕ, zero, suc, ◌+◌, ◌-◌, ◌%◌, ◌^◌, ◌≤◌, ◌<◌}
 use native.Mathlib.Omega.{arith}
