@@ -2,17 +2,13 @@
 -- Assumes nothing.
 use Prim.Native.Nat.{ℕ, ◌+◌, ◌-◌, ◌*◌, ◌≤◌, ◌<◌}
 use mathlib.Core.Bool.{Bool, true, false}
-use mathlib.Core.Path.{◌≡◌, refl, sym}
+use mathlib.Core.Path.{◌≡◌}
 use mathlib.Core.List.{List}
-use lib.Dec.{eqb}
 use lib.ListN.{length}
-use borrow.Author.Tests.{eq-eqb, eqb-true, ne_eqb, le-leb, lt-leb}
+use borrow.Author.Tests.{eq-eqb, ne_eqb, le-leb, lt-leb}
 use Rattle.be.specs.Bytes.{byte, field}
-use Rattle.be.proofs.Bools.{by_cases}
 use Rattle.edition.specs.declared.Edition.{Edition}
-use Rattle.dinode.specs.declared.Tested.TheVariants.{Sound, Refused as TestedRefused}
-use Rattle.dinode.specs.declared.Fork.TheVariants.{At, Refused}
-use Rattle.dinode.specs.Core.{inode_size, version_ok, magic_ok, kind_ok, and_kind, inode_code, directory_code, attributes_code, attr_start, attr_length, data_length, core_of, tested, tested_code, directory_fork, attributes_fork}
+use Rattle.dinode.specs.Core.{inode_size, version_ok, magic_ok, kind_ok, and_kind, inode_code, attr_start, data_length}
 
 -- a test more, after the tests that gave n
 module _ (n : ℕ) (good : Bool) where
@@ -48,23 +44,6 @@ module _ (e : Edition) (b : List ℕ) where
   unfolding inode_code magic_ok kind_ok attr_start
   all_three h m v l = rw (h, eq-eqb _ _ m, v, le-leb _ _ l)
 
-  pub tested_sound : inode_code e b ≡ 0 → Sound (core_of b) ≡ tested e b
-  unfolding tested
-  tested_sound h = rw h
-
-  pub tested_not : (inode_code e b ≡ 0 → ⊥) → TestedRefused (inode_code e b) ≡ tested e b
-  unfolding tested
-  tested_not h = rw (ne_eqb _ _ h)
-
-  -- a test's number
-  pub tested_is : tested_code (tested e b) ≡ inode_code e b
-  unfolding tested
-  tested_is = by_cases (eqb (inode_code e b) 0) (λ q. rw q (sym (eqb-true _ _ q))) (λ q. rw q refl)
-
-  pub directory_refused : (directory_code e b ≡ 0 → ⊥) → Refused (directory_code e b) ≡ directory_fork e b
-  unfolding directory_fork
-  directory_refused h = rw (ne_eqb _ _ h)
-
   pub length_whole : byte 82 b ≡ 0 → length b - e.literal ≡ data_length e b
   unfolding data_length
   length_whole f = rw f
@@ -72,15 +51,3 @@ module _ (e : Edition) (b : List ℕ) where
   pub length_part : (byte 82 b ≡ 0 → ⊥) → 8 * byte 82 b ≡ data_length e b
   unfolding data_length
   length_part f = rw (ne_eqb _ _ f)
-
-  pub directory_there : directory_code e b ≡ 0 → At e.literal (data_length e b) ≡ directory_fork e b
-  unfolding directory_fork
-  directory_there h = rw h
-
-  pub attributes_refused : (attributes_code e b ≡ 0 → ⊥) → Refused (attributes_code e b) ≡ attributes_fork e b
-  unfolding attributes_fork
-  attributes_refused h = rw (ne_eqb _ _ h)
-
-  pub attributes_there : attributes_code e b ≡ 0 → At (e.literal + 8 * byte 82 b) (length b - (e.literal + 8 * byte 82 b)) ≡ attributes_fork e b
-  unfolding attributes_fork attr_length attr_start
-  attributes_there h = rw h

@@ -1,15 +1,12 @@
 -- The inode core: which bytes are an inode, the fields that are handed out, and where its two forks lie.
 -- Assumes nothing.
-use Rattle.std.specs.Prelude.{ℕ, ◌+◌, ◌-◌, ◌*◌, ◌/◌, Bool, cond, not, ◌&&◌, ◌||◌, List, eqb, leb, length, drop}
-use Rattle.refusal.specs.Refusal.{SIZE, MAGIC, KIND}
+use Rattle.std.specs.Prelude.{ℕ, ◌+◌, ◌-◌, ◌*◌, ◌/◌, Bool, cond, not, ◌&&◌, ◌||◌, List, eqb, leb, length, drop, Result}
+use Rattle.refusal.specs.Refusal.{SIZE, MAGIC, KIND, answered, outcome}
 use Rattle.be.specs.Codes.{◌unless◌then◌, ◌and_then◌}
 use Rattle.be.specs.Bytes.{byte, field, part}
 use Rattle.edition.specs.declared.Edition.{Edition}
 use Rattle.dinode.specs.declared.Core.{Core}
-use Rattle.dinode.specs.declared.Tested.{Tested}
-use Rattle.dinode.specs.declared.Tested.TheVariants.{Sound, Refused as TestedRefused}
 use Rattle.dinode.specs.declared.Fork.{Fork}
-use Rattle.dinode.specs.declared.Fork.TheVariants.{At, Refused}
 
 -- Inode: 256, 512, 1,024 or 2,048 bytes
 unfoldable pub inode_size : ℕ → Bool
@@ -90,19 +87,21 @@ directory_code e b = and_kind (inode_code e b) (directory_ok b)
 unfoldable pub attributes_code : Edition → List ℕ → ℕ
 attributes_code e b = and_kind (inode_code e b) (attributes_ok b)
 
--- what the test of an inode answers
-unfoldable pub tested : Edition → List ℕ → Tested
-tested e b = cond (eqb (inode_code e b) 0) (Sound (core_of b)) (TestedRefused (inode_code e b))
+-- what the test of an inode answers: the fields, or the number of the first test that fails
+unfoldable pub tested : Edition → List ℕ → Result Core ℕ
+tested e b = answered (inode_code e b) (core_of b)
 
 -- its number, 0 when it hands the fields out
-abbrev pub tested_code : Tested → ℕ
-tested_code (Sound c) = 0
-tested_code (TestedRefused k) = k
+abbrev pub tested_code : Result Core ℕ → ℕ
+tested_code = outcome
+
+abbrev pub fork_at : ℕ → ℕ → Fork
+fork_at s n = record { start = s; len = n }
 
 -- what the directory calls are told of the data fork
-unfoldable pub directory_fork : Edition → List ℕ → Fork
-directory_fork e b = cond (eqb (directory_code e b) 0) (At e.literal (data_length e b)) (Refused (directory_code e b))
+unfoldable pub directory_fork : Edition → List ℕ → Result Fork ℕ
+directory_fork e b = answered (directory_code e b) (fork_at e.literal (data_length e b))
 
 -- what the attribute calls are told of the attribute fork
-unfoldable pub attributes_fork : Edition → List ℕ → Fork
-attributes_fork e b = cond (eqb (attributes_code e b) 0) (At (attr_start e b) (attr_length e b)) (Refused (attributes_code e b))
+unfoldable pub attributes_fork : Edition → List ℕ → Result Fork ℕ
+attributes_fork e b = answered (attributes_code e b) (fork_at (attr_start e b) (attr_length e b))

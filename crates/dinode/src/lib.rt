@@ -3,10 +3,12 @@
 
 ghost use Rattle.std.specs.Prelude.{◌≡◌, ◌≤◌, length};
 ghost use Rattle.edition.specs.Edition.{v4, Sane};
+ghost use Rattle.refusal.specs.Refusal.{code, numbered};
 ghost use Rattle.dinode.specs.Core.{core_of, inode_size, version_ok, directory_ok, attributes_ok, data_length};
-ghost use Rattle.dinode.specs.Core.{inode_code, directory_code, attributes_code, tested, tested_code, directory_fork, attributes_fork};
+ghost use Rattle.dinode.specs.Core.{inode_code, directory_code, attributes_code, tested, directory_fork, attributes_fork};
 
 use edition::{Edition, V4};
+use refusal::Refusal;
 
 // Where the size field lies.
 pub const SIZE_PLACE: usize = 56;
@@ -23,18 +25,11 @@ pub struct Core {
     pub aformat: usize,
 }
 
-// What the test of an inode finds: its fields, or the number of the first test that fails.
+// Where a fork lies in the inode.
 #[derive(Clone, Copy)]
-pub enum Tested {
-    Sound(Core),
-    Refused(usize),
-}
-
-// Where a fork lies in the inode, start and length, or the number of the first test that fails.
-#[derive(Clone, Copy)]
-pub enum Fork {
-    At(usize, usize),
-    Refused(usize),
+pub struct Fork {
+    pub start: usize,
+    pub len: usize,
 }
 
 // Whether an inode may have this many bytes.
@@ -74,35 +69,32 @@ fn fields(b: &[u8]) -> Core
     }
 }
 
-// Tests 1 to 3: 0, or the number of the first that fails.
-fn code(e: Edition, b: &[u8]) -> usize
+// Tests 1 to 3.
+fn check(e: Edition, b: &[u8]) -> Result<(), Refusal>
     requires { Sane e }
-    ensures { result ≡ inode_code e b.now }
+    ensures { code result ≡ inode_code e b.now }
 {
     if !sized(b.len()) {
-        return refusal::SIZE;
+        return Err(Refusal::Size);
     }
     if be::be16(b, 0) != 0x494e {
-        return refusal::MAGIC;
+        return Err(Refusal::Magic);
     }
     if !versioned(e, be::be8(b, 4)) {
-        return refusal::KIND;
+        return Err(Refusal::Kind);
     }
     if b.len() < e.literal + 8 * be::be8(b, 82) {
-        return refusal::KIND;
+        return Err(Refusal::Kind);
     }
-    0
+    Ok(())
 }
 
 // Tests any bytes as an inode of the V4 edition, and hands the fields out.
-pub fn test(b: &[u8]) -> Tested
-    ensures { (result ≡ tested v4 b.now) × (tested_code result ≡ inode_code v4 b.now) }
+pub fn test(b: &[u8]) -> Result<Core, Refusal>
+    ensures { (numbered result ≡ tested v4 b.now) × (code result ≡ inode_code v4 b.now) }
 {
-    let n = code(V4::edition(), b);
-    if n == 0 {
-        return Tested::Sound(fields(b));
-    }
-    Tested::Refused(n)
+    check(V4::edition(), b)?;
+    Ok(fields(b))
 }
 
 // Whether the inode is a local directory's.
@@ -122,33 +114,27 @@ fn attributes(b: &[u8]) -> bool
 }
 
 // Tests 1 to 3 of a directory's inode.
-fn code_of_directory(e: Edition, b: &[u8]) -> usize
+fn check_directory(e: Edition, b: &[u8]) -> Result<(), Refusal>
     requires { Sane e }
-    ensures { result ≡ directory_code e b.now }
+    ensures { code result ≡ directory_code e b.now }
 {
-    let n = code(e, b);
-    if n != 0 {
-        return n;
+    check(e, b)?;
+    if !directory(b) {
+        return Err(Refusal::Kind);
     }
-    if directory(b) {
-        return 0;
-    }
-    refusal::KIND
+    Ok(())
 }
 
 // Tests 1 to 3 of an inode with attributes.
-fn code_of_attributes(e: Edition, b: &[u8]) -> usize
+fn check_attributes(e: Edition, b: &[u8]) -> Result<(), Refusal>
     requires { Sane e }
-    ensures { result ≡ attributes_code e b.now }
+    ensures { code result ≡ attributes_code e b.now }
 {
-    let n = code(e, b);
-    if n != 0 {
-        return n;
+    check(e, b)?;
+    if !attributes(b) {
+        return Err(Refusal::Kind);
     }
-    if attributes(b) {
-        return 0;
-    }
-    refusal::KIND
+    Ok(())
 }
 
 // How long the data fork of a directory that passes the tests is.
@@ -164,26 +150,26 @@ pub fn data_long(e: Edition, b: &[u8]) -> usize
 }
 
 // The data fork of a local directory.
-pub fn fork_of_directory(e: Edition, b: &[u8]) -> Fork
+pub fn fork_of_directory(e: Edition, b: &[u8]) -> Result<Fork, Refusal>
     requires { Sane e }
-    ensures { result ≡ directory_fork e b.now }
+    ensures { numbered result ≡ directory_fork e b.now }
 {
-    let n = code_of_directory(e, b);
-    if n != 0 {
-        return Fork::Refused(n);
-    }
-    Fork::At(e.literal, data_long(e, b))
+    check_directory(e, b)?;
+    Ok(Fork {
+        start: e.literal,
+        len: data_long(e, b),
+    })
 }
 
 // The attribute fork of an inode with local attributes.
-pub fn fork_of_attributes(e: Edition, b: &[u8]) -> Fork
+pub fn fork_of_attributes(e: Edition, b: &[u8]) -> Result<Fork, Refusal>
     requires { Sane e }
-    ensures { result ≡ attributes_fork e b.now }
+    ensures { numbered result ≡ attributes_fork e b.now }
 {
-    let n = code_of_attributes(e, b);
-    if n != 0 {
-        return Fork::Refused(n);
-    }
+    check_attributes(e, b)?;
     let start = e.literal + 8 * be::be8(b, 82);
-    Fork::At(start, b.len() - start)
+    Ok(Fork {
+        start,
+        len: b.len() - start,
+    })
 }

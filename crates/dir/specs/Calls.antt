@@ -1,6 +1,6 @@
 -- The calls on a directory, and their replies.
 -- Assumes nothing.
-use Rattle.std.specs.Prelude.{ℕ, cond, List, eqb}
+use Rattle.std.specs.Prelude.{ℕ, cond, List, eqb, Result}
 use Rattle.dir.specs.declared.Target.{Target}
 use Rattle.dir.specs.declared.Looked.{Looked}
 use Rattle.dir.specs.Answers.{looked_code, looked_target}
@@ -21,7 +21,7 @@ call_name (insert n t) = n
 call_name (remove n) = n
 
 -- a lookup's reply, tag and names compared left out
-abbrev pub found_or : Looked → Reply
+abbrev pub found_or : Result Looked ℕ → Reply
 found_or a = cond (eqb (looked_code a) 0) (found (looked_target a)) (refuse (looked_code a))
 
 -- a change's reply, by its number

@@ -16,7 +16,8 @@ pub struct Target {
     pub kind: usize,
 }
 
-// What a lookup finds: what the name stands for, its entry's tag, and `compared`, the names compared in a block, 0 in a short form.
+// What a lookup that is not refused finds: what the name stands for, its entry's tag, and `compared`, the names compared in a block, 0 in a
+// short form; or no such entry.
 #[derive(Clone, Copy)]
 pub enum Looked {
     Found {
@@ -27,7 +28,6 @@ pub enum Looked {
     Absent {
         compared: usize,
     },
-    Refused(usize),
 }
 
 // A live entry: what its name stands for, its tag, and where the name lies in the lent bytes.
@@ -52,13 +52,6 @@ pub enum Seen {
 pub struct Step {
     pub next: usize,
     pub seen: Seen,
-}
-
-// What a step of the walk answers.
-#[derive(Clone, Copy)]
-pub enum Walked {
-    Stepped(Step),
-    Refused(usize),
 }
 
 // The file type at an offset; 0 where the edition has none.

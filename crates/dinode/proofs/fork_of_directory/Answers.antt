@@ -1,12 +1,11 @@
-use mathlib.Core.Path.{sym, ◌∙◌, ap}
-use Rattle.dinode.specs.declared.Fork.TheVariants.{Refused}
-use Rattle.dinode.proofs.Codes.{directory_refused, directory_there}
+use Rattle.refusal.proofs.Passed.{passed_on, given}
+use Rattle.dinode.specs.Core.{directory_fork}
 use Rattle.dinode.proofs.fork_of_directory.Goals as goal
 
-pub returns-then-n-ne0 : goal.returns-then-n-ne0
-returns-then-n-ne0 c =
-    ap Refused c.code_of_directory-n.ensures ∙ directory_refused _ _ (λ q. c.if-n-ne0.true (c.code_of_directory-n.ensures ∙ q))
+pub returns-in_err-check_directory : goal.returns-in_err-check_directory
+unfolding directory_fork
+returns-in_err-check_directory c = passed_on _ _ _ c.from_residual.ensures.1 c.in_err-check_directory.ensures
 
 pub returns : goal.returns
-returns c =
-    rw c.data_long.ensures (directory_there _ _ (sym c.code_of_directory-n.ensures ∙ c.if-n-ne0.false))
+unfolding directory_fork
+returns c = rw c.data_long.ensures (given _ c.in_ok-check_directory.ensures)

@@ -3,7 +3,7 @@ use mathlib.Core.Path.{sym, ◌∙◌, ap}
 use Rattle.dinode.specs.Core.{version_ok}
 use Rattle.dinode.proofs.Sound.{size_long}
 use Rattle.dinode.proofs.Codes.{not_sized, not_magic, not_version, not_inside, all_three}
-use Rattle.dinode.proofs.code.Goals as goal
+use Rattle.dinode.proofs.check.Goals as goal
 
 pub returns-then-not-sized : goal.returns-then-not-sized
 returns-then-not-sized c = not_sized _ _ (sym c.sized.ensures ∙ c.if-not-sized.true)
