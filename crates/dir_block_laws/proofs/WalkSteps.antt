@@ -9,6 +9,7 @@ use lib.Dec.{eqb}
 use lib.ListN.{length, take, drop, get_or, length-take, take-append-drop, get_or-append}
 use lib.Seq.{get_or-drop}
 use borrow.Author.Tests.{eq-eqb, ne_eqb}
+use Rattle.std.specs.Prelude.{Ok}
 use Rattle.be.specs.Lists.{every, some_of, keep}
 use Rattle.be.specs.Bytes.{byte, field}
 use Rattle.be.proofs.Bools.{every_cons, every_append, and_both, by_cases}
@@ -18,7 +19,6 @@ use Rattle.edition.proofs.Sizes.{entry_size_least}
 use Rattle.dir.specs.declared.Seen.{Seen}
 use Rattle.dir.specs.declared.Seen.TheVariants.{Live, Gap}
 use Rattle.dir.specs.declared.Step.{Step}
-use Rattle.dir.specs.declared.Walked.TheVariants.{Stepped}
 use Rattle.dir_block_rules.specs.Record.{Rec, size, gap_start, namelen, target_of}
 use Rattle.dir_block_rules.specs.Block.{records, data_end}
 use Rattle.dir.specs.Answers.{seen_start, seen_len}
@@ -108,7 +108,7 @@ module _ (e : Edition) (sane : Sane e) (b : List ℕ) (r : Ready e b) where
       record {
         says =
             sym (ap (walk_step e b) (sym s.place) ∙ step_at e sane b r.are_bytes r.ok s.before y w.later w.is
-            ∙ ap₂ (λ (m : ℕ) (z : Seen). Stepped (record { next = m; seen = z })) (ap₂ (λ (i j : ℕ). i + j) v.off_is q) k);
+            ∙ ap₂ (λ (m : ℕ) (z : Seen). Ok (record { next = m; seen = z })) (ap₂ (λ (i j : ℕ). i + j) v.off_is q) k);
         leads = over e b t p n s w q;
         on = λ (h : p < data_end b). omega (arith, v.is_whole.least);
         within = omega (arith, v.fits);

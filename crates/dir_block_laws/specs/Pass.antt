@@ -1,12 +1,11 @@
 -- A pass over the records of a block, in its midst and at its end.
 -- Assumes nothing.
-use Rattle.std.specs.Prelude.{ℕ, ◌+◌, ◌%◌, ◌≤◌, ◌<◌, ◌≡◌, false, List, [], ◌++◌, ◌∷◌, length}
+use Rattle.std.specs.Prelude.{ℕ, ◌+◌, ◌%◌, ◌≤◌, ◌<◌, ◌≡◌, false, List, [], ◌++◌, ◌∷◌, length, Ok}
 use Rattle.edition.specs.declared.Edition.{Edition}
 use Rattle.dir_block_rules.specs.Record.{Rec, size, gaps, besides, is_gap, join}
 use Rattle.dir_block_rules.specs.Block.{records, data_end}
 use Rattle.dir_block_rules.specs.Verdict.{Pair}
 use Rattle.dir.specs.declared.Step.{Step}
-use Rattle.dir.specs.declared.Walked.TheVariants.{Stepped}
 use Rattle.dir.specs.Answers.{seen_start, seen_len}
 use Rattle.dir_block_rules.specs.Walk.{is_place, walk_step}
 use Rattle.dir_block_rules.specs.Room.{touching}
@@ -70,7 +69,7 @@ pub record Inside (e : Edition) (b : List ℕ) (o l : ℕ) : Type 0 where
 
 -- the step r from place p: what it says, and where it leads; no place lies between
 pub record Steps (e : Edition) (b : List ℕ) (p : ℕ) (r : Step) : Type 0 where
-  pub says : Stepped r ≡ walk_step e b p
+  pub says : Ok r ≡ walk_step e b p
   pub leads : Place e b r.next
   pub on : p < data_end b → p < r.next
   pub within : r.next ≤ data_end b

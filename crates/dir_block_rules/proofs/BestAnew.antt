@@ -5,6 +5,7 @@ use mathlib.Core.Bool.{true, false}
 use mathlib.Core.Path.{◌≡◌, refl, ap}
 use lib.Dec.{eqb}
 use borrow.Author.Tests.{eqb-true}
+use Rattle.std.specs.Prelude.{Result}
 use Rattle.be.proofs.Bools.{by_cases, clash}
 use Rattle.edition.specs.declared.Edition.{Edition}
 use Rattle.edition.specs.Edition.{v4, Sane}
@@ -28,7 +29,7 @@ use Rattle.dir_block_rules.proofs.InsertCases.{Inserted}
 use Rattle.dir_block_rules.proofs.LookupFinds.{Removed}
 use Rattle.dir_block_rules.proofs.BestRanked.{kept_rises, table_ranks}
 
-found_not_done : (a : Looked) → is_done (found_or a) ≡ false
+found_not_done : (a : Result Looked ℕ) → is_done (found_or a) ≡ false
 found_not_done a = by_cases (eqb (looked_code a) 0) (λ z. rw z refl) (λ z. rw z refl)
 
 done_is_0 : (k : ℕ) → done_or k ≡ done → k ≡ 0

@@ -8,6 +8,7 @@ use mathlib.Core.Path.{◌≡◌, refl, sym, ◌∙◌, ap, ap₂, subst}
 use mathlib.Core.List.{List, [], ◌∷◌, ◌++◌}
 use lib.Dec.{eqb}
 use borrow.Author.Tests.{eq-eqb}
+use Rattle.std.specs.Prelude.{Ok}
 use Rattle.refusal.specs.Refusal.{ABSENT}
 use Rattle.be.specs.Lists.{some_of, tally}
 use Rattle.be.specs.Bytes.{bytes}
@@ -96,7 +97,7 @@ module _ (e : Edition) (sane : Sane e) (b : List ℕ) (h : bytes b ≡ true) (a 
 
   module _ (l : legal_name e n ≡ true) where
     looked_found : (xs : List Rec) (r : Rec) (ys : List Rec) → entries (records e b) ≡ xs ++ r ∷ ys → same_name e n (name r) ≡ true
-        → lookup e b n ≡ Found (target_of e r) (tag r) (names_compared e b n)
+        → lookup e b n ≡ Ok (Found (target_of e r) (tag r) (names_compared e b n))
     unfolding lookup lookup_refusal
     looked_found xs r ys q sn =
         let t : Split (entries (records e b)) = record { before = xs; here = r; behind = ys; is = q } in
@@ -108,9 +109,9 @@ module _ (e : Edition) (sane : Sane e) (b : List ℕ) (h : bytes b ≡ true) (a 
         let tr : target_at e b (sought e b n).at ≡ target_of e r =
         target_found e sane b h a n ht ∙ ap (target_of e) (one_entry e (entries (records e b)) (good_of e sane b h a).once t s rs) in
         let tg : (sought e b n).at ≡ tag r = tag_found e sane b h a n ht ∙ ap tag (one_entry e (entries (records e b)) (good_of e sane b h a).once t s rs) in
-        rw (a, l, ht) (ap₂ (λ (i : Target) (g : ℕ). Found i g (names_compared e b n)) tr tg)
+        rw (a, l, ht) (ap₂ (λ (i : Target) (g : ℕ). Ok (Found i g (names_compared e b n))) tr tg)
 
-    looked_absent : borne e b n ≡ false → lookup e b n ≡ Absent (names_compared e b n)
+    looked_absent : borne e b n ≡ false → lookup e b n ≡ Ok (Absent (names_compared e b n))
     unfolding lookup lookup_refusal
     looked_absent q = rw (a, l, hit_of e sane b h a n ∙ q) refl
 

@@ -9,6 +9,8 @@ use mathlib.Core.List.{List, [], ◌∷◌, ◌++◌, map, append_assoc, append-
 use lib.Dec.{eqb, ltb}
 use lib.ListN.{length, length-append}
 use borrow.Author.Tests.{eq-eqb, eqb-true, ne_eqb, lt-ltb}
+use Rattle.dir.specs.declared.Step.{Step}
+use Rattle.std.specs.Prelude.{Result, Ok, Err}
 use Rattle.refusal.specs.Refusal.{ASKED}
 use Rattle.be.specs.Lists.{some_of}
 use Rattle.be.specs.Bytes.{bytes}
@@ -16,8 +18,6 @@ use Rattle.edition.specs.declared.Edition.{Edition}
 use Rattle.dir_block_rules.specs.Record.{Rec, size, tag}
 use Rattle.dir_block_rules.specs.Block.{records, data_end}
 use Rattle.dir_block_rules.specs.Verdict.{Accepted}
-use Rattle.dir.specs.declared.Walked.{Walked}
-use Rattle.dir.specs.declared.Walked.TheVariants.{Stepped, Refused}
 use Rattle.dir.specs.Answers.{walked_code, walked_next, walked_seen}
 use Rattle.dir_block_rules.specs.Walk.{record_at, step_over, step_end, is_place, step_code, walk_step, walk, step_next, step_seen}
 use Rattle.dir_block_rules.specs.Claims.{climbs, Walks, WalkRight}
@@ -62,7 +62,7 @@ climbs_laid e o (r ∷ s ∷ rs) l =
     (climbs_laid e (o + size r) (s ∷ rs) l.2)
 
 module _ (e : Edition) (sane : Sane e) (b : List ℕ) (h : bytes b ≡ true) (a : Accepted e b) where
-  pub step_at : (xs : List Rec) (y : Rec) (ys : List Rec) → records e b ≡ xs ++ y ∷ ys → walk_step e b (e.header + length (join xs)) ≡ Stepped (step_over e y)
+  pub step_at : (xs : List Rec) (y : Rec) (ys : List Rec) → records e b ≡ xs ++ y ∷ ys → walk_step e b (e.header + length (join xs)) ≡ Ok (step_over e y)
   unfolding walk_step step_code
   step_at xs y ys q =
       let p : ℕ = e.header + length (join xs) in
@@ -77,30 +77,30 @@ module _ (e : Edition) (sane : Sane e) (b : List ℕ) (h : bytes b ≡ true) (a 
       rw (a, far, is, here) refl
 
   -- at the data's end a step says end again
-  pub at_end : walk_step e b (data_end b) ≡ Stepped (step_end (data_end b))
+  pub at_end : walk_step e b (data_end b) ≡ Ok (step_end (data_end b))
   unfolding walk_step step_code
   at_end = rw (a, eq-eqb (data_end b) (data_end b) refl) refl
 
   walk_from : (xs ys : List Rec) → records e b ≡ xs ++ ys
-      → walk e b (suc (length ys)) (e.header + length (join xs)) ≡ map (λ r. Stepped (step_over e r)) ys ++ (Stepped (step_end (data_end b)) ∷ [])
+      → walk e b (suc (length ys)) (e.header + length (join xs)) ≡ map (λ r. Ok (step_over e r)) ys ++ (Ok (step_end (data_end b)) ∷ [])
   unfolding walk
   walk_from xs [] q =
       let p : e.header + length (join xs) ≡ data_end b = sym (end_of_data e sane b h a ∙ ap (λ (r : List Rec). e.header + length (join r)) (q ∙ append-nil xs)) in
-      rw p (ap (λ (s : Walked). s ∷ []) at_end)
+      rw p (ap (λ (s : Result Step ℕ). s ∷ []) at_end)
   walk_from xs (y ∷ ys) q =
-      let s : walk_step e b (e.header + length (join xs)) ≡ Stepped (step_over e y) = step_at xs y ys q in
+      let s : walk_step e b (e.header + length (join xs)) ≡ Ok (step_over e y) = step_at xs y ys q in
       let w : Laid e (e.header + length (join xs)) (y ∷ ys) = laid_back e e.header xs (y ∷ ys) (subst (λ (r : List Rec). Laid e e.header r) q (fit_of e sane b h a).laid) in
       let nx : y.off + size y ≡ e.header + length (join (xs ++ (y ∷ []))) =
       omega (arith, w.0, ap length (join_append xs (y ∷ [])), length-append (join xs) (y.raw ++ []), ap length (append-nil y.raw)) in
-      ap₂ (λ (t : Walked) (m : List Walked). t ∷ m) s
-      (ap (λ (t : Walked). walk e b (suc (length ys)) (walked_next t)) s ∙ ap (walk e b (suc (length ys))) nx
+      ap₂ (λ (t : Result Step ℕ) (m : List (Result Step ℕ)). t ∷ m) s
+      (ap (λ (t : Result Step ℕ). walk e b (suc (length ys)) (walked_next t)) s ∙ ap (walk e b (suc (length ys))) nx
       ∙ walk_from (xs ++ (y ∷ [])) ys (q ∙ sym (append_assoc xs (y ∷ []) ys)))
 
   -- as many steps as there are records, plus one
-  whole_walk : walk e b (suc (length (records e b))) e.header ≡ map (λ r. Stepped (step_over e r)) (records e b) ++ (Stepped (step_end (data_end b)) ∷ [])
+  whole_walk : walk e b (suc (length (records e b))) e.header ≡ map (λ r. Ok (step_over e r)) (records e b) ++ (Ok (step_end (data_end b)) ∷ [])
   whole_walk = ap (walk e b (suc (length (records e b)))) (sym (add-zero e.header)) ∙ walk_from [] (records e b) refl
 
-  elsewhere : (p : ℕ) → is_place p (data_end b) (records e b) ≡ false → walk_step e b p ≡ Refused ASKED
+  elsewhere : (p : ℕ) → is_place p (data_end b) (records e b) ≡ false → walk_step e b p ≡ Err ASKED
   unfolding walk_step step_code
   elsewhere p q = rw (a, q) refl
 

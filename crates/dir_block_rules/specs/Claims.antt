@@ -1,7 +1,7 @@
 -- What is claimed of a block besides demand 3, each over every edition of sane sizes. The starred numbers stand in Starred.antt.
 -- Their proofs: proofs/LookupRight.antt, OwnRight.antt, WholeWalk.antt, BestAnew.antt, SlotOrder.antt, Capacity.antt, TwoBytes.antt.
 -- Assumes nothing.
-use Rattle.std.specs.Prelude.{ℕ, suc, ◌+◌, ◌-◌, ◌*◌, ◌/◌, ◌^◌, ◌≤◌, ◌<◌, Bool, true, false, not, cond, ◌&&◌, ◌||◌, ◌≡◌, List, [], ◌∷◌, ◌++◌, map, eqb, leb, ltb, length, take, drop}
+use Rattle.std.specs.Prelude.{ℕ, suc, ◌+◌, ◌-◌, ◌*◌, ◌/◌, ◌^◌, ◌≤◌, ◌<◌, Bool, true, false, not, cond, ◌&&◌, ◌||◌, ◌≡◌, List, [], ◌∷◌, ◌++◌, map, eqb, leb, ltb, length, take, drop, Ok, Err}
 use Rattle.refusal.specs.Refusal.{ASKED, ABSENT}
 use Rattle.be.specs.Lists.{every, some_of, keep}
 use Rattle.be.specs.Bytes.{bytes, part}
@@ -10,7 +10,6 @@ use Rattle.edition.specs.Edition.{largest_block, entry_size}
 use Rattle.name.specs.Name.{legal_name, same_name, fixed_name, dot}
 use Rattle.dir.specs.declared.Target.{Target}
 use Rattle.dir.specs.declared.Looked.TheVariants.{Found, Absent}
-use Rattle.dir.specs.declared.Walked.TheVariants.{Stepped, Refused}
 use Rattle.dir_block_rules.specs.Record.{Rec, size, is_gap, entries, gaps, name, target_of, tag}
 use Rattle.dir_block_rules.specs.Block.{records, data_end, Slot}
 use Rattle.dir_block_rules.specs.Verdict.{Accepted, size_ok, rising, Pair, pair, best_pairs, zero_pair, is_gap_of}
@@ -30,8 +29,8 @@ borne e b n = some_of (λ r. same_name e n (name r)) (entries (records e b))
 -- says, and is absent exactly when none does; both tell the names compared
 pub record LooksUp (e : Edition) (b n : List ℕ) : Type 0 where
   pub found : (xs : List Rec) (r : Rec) (ys : List Rec) → entries (records e b) ≡ xs ++ r ∷ ys → same_name e n (name r) ≡ true
-      → (lookup e b n ≡ Found (target_of e r) (tag r) (names_compared e b n)) × (part (tag r) (size r) b ≡ r.raw)
-  pub absent : borne e b n ≡ false → lookup e b n ≡ Absent (names_compared e b n)
+      → (lookup e b n ≡ Ok (Found (target_of e r) (tag r) (names_compared e b n))) × (part (tag r) (size r) b ≡ r.raw)
+  pub absent : borne e b n ≡ false → lookup e b n ≡ Ok (Absent (names_compared e b n))
   pub exactly : looked_code (lookup e b n) ≡ cond (borne e b n) 0 ABSENT
 
 unfoldable pub LookupRight : Edition → Type 0
@@ -56,12 +55,12 @@ climbs (m ∷ n ∷ ns) = ltb m n && climbs (n ∷ ns)
 -- records plus one steps; at the end a step says end again; a live entry's name is the part of the block that its step says; a record's
 -- tag, gaps' too, is as it stores it and where its bytes stand; any other place is refused with 11
 pub record Walks (e : Edition) (b : List ℕ) : Type 0 where
-  pub whole : walk e b (suc (length (records e b))) e.header ≡ map (λ r. Stepped (step_over e r)) (records e b) ++ (Stepped (step_end (data_end b)) ∷ [])
+  pub whole : walk e b (suc (length (records e b))) e.header ≡ map (λ r. Ok (step_over e r)) (records e b) ++ (Ok (step_end (data_end b)) ∷ [])
   pub rises : climbs (map tag (records e b)) ≡ true
-  pub again : walk_step e b (data_end b) ≡ Stepped (step_end (data_end b))
+  pub again : walk_step e b (data_end b) ≡ Ok (step_end (data_end b))
   pub names : (xs : List Rec) (r : Rec) (ys : List Rec) → records e b ≡ xs ++ r ∷ ys → is_gap r ≡ false → part (entry_of e r).start (entry_of e r).len b ≡ name r
   pub tags : (xs : List Rec) (r : Rec) (ys : List Rec) → records e b ≡ xs ++ r ∷ ys → ((entry_of e r).tag ≡ tag r) × (part (tag r) (size r) b ≡ r.raw)
-  pub elsewhere : (p : ℕ) → is_place p (data_end b) (records e b) ≡ false → walk_step e b p ≡ Refused ASKED
+  pub elsewhere : (p : ℕ) → is_place p (data_end b) (records e b) ≡ false → walk_step e b p ≡ Err ASKED
 
 unfoldable pub WalkRight : Edition → Type 0
 WalkRight e = (b : List ℕ) → bytes b ≡ true → Accepted e b → Walks e b

@@ -1,14 +1,15 @@
 -- Lookup of a name in a block, with the names compared.
 -- Assumes nothing.
-use Rattle.std.specs.Prelude.{ℕ, suc, ◌+◌, ◌*◌, Bool, true, false, cond, ◌&&◌, ◌≡◌, List, [], ◌∷◌, eqb}
-use Rattle.refusal.specs.Refusal.{ASKED, ABSENT}
+use Rattle.std.specs.Prelude.{ℕ, suc, ◌+◌, ◌*◌, Bool, true, false, cond, ◌&&◌, ◌≡◌, List, [], ◌∷◌, eqb, Result}
+use Rattle.refusal.specs.declared.Refusal.{Refusal}
+use Rattle.refusal.specs.Refusal.{ASKED, ABSENT, answered, numbered}
 use Rattle.be.specs.Lists.{tally}
 use Rattle.be.specs.Bytes.{byte, field, part}
 use Rattle.be.specs.Codes.{◌unless◌then◌, ◌and_then◌}
 use Rattle.edition.specs.declared.Edition.{Edition}
 use Rattle.name.specs.Name.{hash_of, same_name, legal_name}
 use Rattle.dir.specs.declared.Looked.{Looked}
-use Rattle.dir.specs.declared.Looked.TheVariants.{Found, Absent, Refused}
+use Rattle.dir.specs.declared.Looked.TheVariants.{Found, Absent}
 use Rattle.dir.specs.declared.Target.{Target}
 use Rattle.dir.specs.Target.{target, no_target}
 use Rattle.dir.specs.Answers.{looked_code, looked_target, looked_tag, looked_compared}
@@ -101,11 +102,12 @@ looked_of e b n =
     (Found (target_at e b (sought e b n).at) (sought e b n).at (names_compared e b n))
     (Absent (names_compared e b n))
 
-unfoldable pub lookup : Edition → List ℕ → List ℕ → Looked
-lookup e b n = cond (eqb (lookup_refusal e b n) 0) (looked_of e b n) (Refused (lookup_refusal e b n))
+unfoldable pub lookup : Edition → List ℕ → List ℕ → Result Looked ℕ
+lookup e b n = answered (lookup_refusal e b n) (looked_of e b n)
 
 -- what a lookup promises of its answer: the answer itself, and its number and values
-abbrev pub LookupPromise : Edition → List ℕ → List ℕ → Looked → Type 0
+abbrev pub LookupPromise : Edition → List ℕ → List ℕ → Result Looked Refusal → Type 0
 LookupPromise e b n r =
-    (r ≡ lookup e b n) × (looked_code r ≡ lookup_code e b n) × (looked_target r ≡ lookup_target e b n) × (looked_tag r ≡ lookup_tag e b n)
-    × (looked_compared r ≡ lookup_compared e b n)
+    let a = numbered r in
+    (a ≡ lookup e b n) × (looked_code a ≡ lookup_code e b n) × (looked_target a ≡ lookup_target e b n) × (looked_tag a ≡ lookup_tag e b n)
+    × (looked_compared a ≡ lookup_compared e b n)

@@ -1,7 +1,8 @@
 -- One step of the walk over a block, and repeated steps.
 -- Assumes nothing.
-use Rattle.std.specs.Prelude.{ℕ, zero, suc, ◌+◌, Bool, cond, ◌||◌, ◌≡◌, List, [], ◌∷◌, eqb}
-use Rattle.refusal.specs.Refusal.{ASKED}
+use Rattle.std.specs.Prelude.{ℕ, zero, suc, ◌+◌, Bool, cond, ◌||◌, ◌≡◌, List, [], ◌∷◌, eqb, Result}
+use Rattle.refusal.specs.declared.Refusal.{Refusal}
+use Rattle.refusal.specs.Refusal.{ASKED, answered, numbered}
 use Rattle.be.specs.Lists.{some_of}
 use Rattle.be.specs.Codes.{◌unless◌then◌, ◌and_then◌}
 use Rattle.edition.specs.declared.Edition.{Edition}
@@ -9,8 +10,6 @@ use Rattle.dir.specs.declared.Entry.{Entry}
 use Rattle.dir.specs.declared.Seen.{Seen}
 use Rattle.dir.specs.declared.Seen.TheVariants.{Live, Gap, End}
 use Rattle.dir.specs.declared.Step.{Step}
-use Rattle.dir.specs.declared.Walked.{Walked}
-use Rattle.dir.specs.declared.Walked.TheVariants.{Stepped, Refused}
 use Rattle.dir.specs.Answers.{walked_code, walked_next, walked_seen}
 use Rattle.dir_block_rules.specs.Record.{Rec, rec, size, is_gap, namelen, target_of}
 use Rattle.dir_block_rules.specs.Block.{records, data_end}
@@ -58,15 +57,16 @@ unfoldable pub step_seen : Edition → List ℕ → ℕ → Seen
 step_seen e b p = cond (eqb (step_code e b p) 0) (step_from e b p).seen End
 
 -- one step: live entry, gap or end, together with where the walk now stands
-unfoldable pub walk_step : Edition → List ℕ → ℕ → Walked
-walk_step e b p = cond (eqb (step_code e b p) 0) (Stepped (step_from e b p)) (Refused (step_code e b p))
+unfoldable pub walk_step : Edition → List ℕ → ℕ → Result Step ℕ
+walk_step e b p = answered (step_code e b p) (step_from e b p)
 
 -- what a step promises of its answer: the answer itself, and its number and values
-abbrev pub StepPromise : Edition → List ℕ → ℕ → Walked → Type 0
+abbrev pub StepPromise : Edition → List ℕ → ℕ → Result Step Refusal → Type 0
 StepPromise e b p r =
-    (r ≡ walk_step e b p) × (walked_code r ≡ step_code e b p) × (walked_next r ≡ step_next e b p) × (walked_seen r ≡ step_seen e b p)
+    let a = numbered r in
+    (a ≡ walk_step e b p) × (walked_code a ≡ step_code e b p) × (walked_next a ≡ step_next e b p) × (walked_seen a ≡ step_seen e b p)
 
 -- k steps, each from where the one before stands
-unfoldable pub walk : Edition → List ℕ → ℕ → ℕ → List Walked
+unfoldable pub walk : Edition → List ℕ → ℕ → ℕ → List (Result Step ℕ)
 walk e b zero p = []
 walk e b (suc k) p = walk_step e b p ∷ walk e b k (walked_next (walk_step e b p))

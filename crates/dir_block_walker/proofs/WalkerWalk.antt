@@ -13,8 +13,6 @@ use Rattle.be.proofs.Bools.{by_cases, and_left, and_right}
 use Rattle.edition.specs.Edition.{v4}
 use Rattle.dir.specs.declared.Seen.TheVariants.{Live, Gap, End}
 use Rattle.dir.specs.declared.Step.{Step}
-use Rattle.dir.specs.declared.Walked.{Walked}
-use Rattle.dir.specs.declared.Walked.TheVariants.{Stepped, Refused}
 use Rattle.dir.specs.Answers.{walked_next}
 use Rattle.dir_block_rules.specs.Record.{Rec, is_gap}
 use Rattle.dir_block_rules.specs.Block.{records, data_end}
@@ -25,26 +23,26 @@ use Rattle.dir_block_walker.specs.Place.{place_after, nth_place, answers}
 use Rattle.dir_block_walker.specs.Laws.{WalkerWalks, WalkerRight}
 
 -- a step that is done
-unfoldable stepped : Walked → Bool
-stepped (Stepped s) = true
-stepped (Refused k) = false
+unfoldable stepped : Result Step ℕ → Bool
+stepped (Ok s) = true
+stepped (Err k) = false
 
 -- leads a walker where it leads the plain walk
-after_is : (p : ℕ) (s : Walked) → stepped s ≡ true → place_after p s ≡ walked_next s
+after_is : (p : ℕ) (s : Result Step ℕ) → stepped s ≡ true → place_after p s ≡ walked_next s
 unfolding stepped
-after_is p (Stepped s) h = refl
-after_is p (Refused k) h = absurd (false≢true h)
+after_is p (Ok s) h = refl
+after_is p (Err k) h = absurd (false≢true h)
 
-all_stepped : (rs : List Rec) (t : Step) → every stepped (map (λ r. Stepped (step_over v4 r)) rs ++ (Stepped t ∷ [])) ≡ true
+all_stepped : (rs : List Rec) (t : Step) → every stepped (map (λ r. Ok (step_over v4 r)) rs ++ (Ok t ∷ [])) ≡ true
 unfolding stepped
 all_stepped [] t = refl
 all_stepped (r ∷ rs) t = all_stepped rs t
 
-last_of : Walked → List Walked → Walked
+last_of : Result Step ℕ → List (Result Step ℕ) → Result Step ℕ
 last_of s [] = s
 last_of s (t ∷ ts) = last_of t ts
 
-last_is : (s : Walked) (ts : List Walked) (t : Walked) → last_of s (ts ++ (t ∷ [])) ≡ t
+last_is : (s : Result Step ℕ) (ts : List (Result Step ℕ)) (t : Result Step ℕ) → last_of s (ts ++ (t ∷ [])) ≡ t
 unfolding last_of
 last_is s [] t = refl
 last_is s (u ∷ ts) t = last_is u ts t
@@ -55,7 +53,7 @@ module _ (b : List ℕ) where
   on p zero = p
   on p (suc n) = place_after (on p n) (walk_step v4 b (on p n))
 
-  unfoldable met_from : ℕ → ℕ → List Walked
+  unfoldable met_from : ℕ → ℕ → List (Result Step ℕ)
   met_from p zero = []
   met_from p (suc n) = met_from p n ++ (walk_step v4 b (on p n) ∷ [])
 
@@ -67,7 +65,7 @@ module _ (b : List ℕ) where
   answers_met : (n : ℕ) → answers b n ≡ met_from v4.header n
   unfolding answers met_from
   answers_met zero = refl
-  answers_met (suc n) = ap₂ (λ (l : List Walked) (p : ℕ). l ++ (walk_step v4 b p ∷ [])) (answers_met n) (nth_on n)
+  answers_met (suc n) = ap₂ (λ (l : List (Result Step ℕ)) (p : ℕ). l ++ (walk_step v4 b p ∷ [])) (answers_met n) (nth_on n)
 
   -- the first step apart
   on_first : (p n : ℕ) → on p (suc n) ≡ on (place_after p (walk_step v4 b p)) n
@@ -78,14 +76,14 @@ module _ (b : List ℕ) where
   met_first : (p n : ℕ) → met_from p (suc n) ≡ walk_step v4 b p ∷ met_from (place_after p (walk_step v4 b p)) n
   unfolding met_from on
   met_first p zero = refl
-  met_first p (suc n) = ap₂ (λ (l : List Walked) (q : ℕ). l ++ (walk_step v4 b q ∷ [])) (met_first p n) (on_first p n)
+  met_first p (suc n) = ap₂ (λ (l : List (Result Step ℕ)) (q : ℕ). l ++ (walk_step v4 b q ∷ [])) (met_first p n) (on_first p n)
 
   met_walk : (n p : ℕ) → every stepped (walk v4 b n p) ≡ true → met_from p n ≡ walk v4 b n p
   unfolding walk met_from
   met_walk zero p h = refl
   met_walk (suc n) p h =
       met_first p n
-      ∙ ap (λ (l : List Walked). walk_step v4 b p ∷ l)
+      ∙ ap (λ (l : List (Result Step ℕ)). walk_step v4 b p ∷ l)
       (ap (λ (q : ℕ). met_from q n) (after_is p (walk_step v4 b p) (and_left (stepped (walk_step v4 b p)) _ h))
       ∙ met_walk n (walked_next (walk_step v4 b p)) (and_right (stepped (walk_step v4 b p)) _ h))
 
@@ -97,29 +95,29 @@ module _ (b : List ℕ) where
       (λ g. let z : Gap ≡ End = rw g at q in let o : ◌≡◌ {A = ℕ} 0 1 = cc in omega arith)
       (λ g. let z : Live (entry_of v4 r) ≡ End = rw g at q in let o : ◌≡◌ {A = ℕ} 0 1 = cc in omega arith)
 
-  end_there : (p q : ℕ) → walk_step v4 b p ≡ Stepped (step_end q) → p ≡ data_end b
+  end_there : (p q : ℕ) → walk_step v4 b p ≡ Ok (step_end q) → p ≡ data_end b
   unfolding walk_step
   end_there p q h =
       by_cases (eqb (step_code v4 b p) 0)
       (λ k.
       by_cases (eqb p (data_end b)) (λ m. eqb-true p (data_end b) m)
       (λ m.
-      let z : Stepped (step_over v4 (record_at p (records v4 b))) ≡ Stepped (step_end q) = rw (k, m) at h in
+      let z : Ok (step_over v4 (record_at p (records v4 b))) ≡ Ok (step_end q) = rw (k, m) at h in
       let y : step_over v4 (record_at p (records v4 b)) ≡ step_end q = cc in absurd (seen_not_end (record_at p (records v4 b)) q y)))
-      (λ k. let z : Refused (step_code v4 b p) ≡ Stepped (step_end q) = rw k at h in let o : ◌≡◌ {A = ℕ} 0 1 = cc in absurd (omega arith))
+      (λ k. let z : Err (step_code v4 b p) ≡ Ok (step_end q) = rw k at h in let o : ◌≡◌ {A = ℕ} 0 1 = cc in absurd (omega arith))
 
   module _ (w : Walks v4 b) where
-    whole : answers b (suc (length (records v4 b))) ≡ map (λ r. Stepped (step_over v4 r)) (records v4 b) ++ (Stepped (step_end (data_end b)) ∷ [])
+    whole : answers b (suc (length (records v4 b))) ≡ map (λ r. Ok (step_over v4 r)) (records v4 b) ++ (Ok (step_end (data_end b)) ∷ [])
     whole =
         answers_met (suc (length (records v4 b)))
         ∙ met_walk (suc (length (records v4 b))) v4.header (rw w.whole (all_stepped (records v4 b) (step_end (data_end b)))) ∙ w.whole
 
-    last : walk_step v4 b (nth_place b (length (records v4 b))) ≡ Stepped (step_end (data_end b))
+    last : walk_step v4 b (nth_place b (length (records v4 b))) ≡ Ok (step_end (data_end b))
     unfolding answers
     last =
-        let e : Walked = Stepped (step_end (data_end b)) in
+        let e : Result Step ℕ = Ok (step_end (data_end b)) in
         sym (last_is e (answers b (length (records v4 b))) (walk_step v4 b (nth_place b (length (records v4 b)))))
-        ∙ ap (last_of e) whole ∙ last_is e (map (λ r. Stepped (step_over v4 r)) (records v4 b)) e
+        ∙ ap (last_of e) whole ∙ last_is e (map (λ r. Ok (step_over v4 r)) (records v4 b)) e
 
     stays : (k : ℕ) → nth_place b (length (records v4 b) + k) ≡ data_end b
     unfolding nth_place
