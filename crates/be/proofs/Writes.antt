@@ -6,7 +6,9 @@ use native.Mathlib.Omega.{arith}
 use mathlib.Core.Path.{◌≡◌, refl, sym, ◌∙◌, ap}
 use mathlib.Core.List.{List, [], ◌∷◌, ◌++◌}
 use lib.ListN.{length, take, drop, take-append-drop}
-use lib.Seq.{length-take-le}
+use lib.Seq.{length-take-le, drop-drop, paste}
+use borrow.Rule.Slice.PartMut.{put_mid}
+use Rattle.std.proofs.lemmas.List.{append_assoc}
 use Rattle.be.specs.Bytes.{be, to_be, part, field, put, written, Write}
 use Rattle.be.proofs.Numbers.{length_to_be, be_to_be, to_be_halves}
 use Rattle.be.proofs.Parts.{part_length, part_at, piece}
@@ -174,3 +176,15 @@ field_put b o n v h l =
     let k : length (to_be n v) ≡ n = length_to_be n v in
     let q : part o (length (to_be n v)) (put b o (to_be n v)) ≡ to_be n v = part_inside b o (to_be n v) (omega arith) in
     ap be (rw k at q) ∙ be_to_be n v l
+
+-- k bytes from o on were lent, and came back as xs
+pub lent_put : (b : List ℕ) (o k : ℕ) (xs : List ℕ) → o + k ≤ length b → length xs ≡ k → put_mid o k b xs ≡ put b o xs
+lent_put b o k xs h l =
+    let e : drop k (drop o b) ≡ drop (o + length xs) b = drop-drop k o b ∙ ap (λ (n : ℕ). drop (o + n) b) (sym l) in
+    ap (λ (r : List ℕ). take o b ++ (xs ++ r)) e ∙ sym (put_whole b o xs (omega (arith, h, l)))
+
+-- n bytes pasted at o
+pub paste_put : (b : List ℕ) (o n : ℕ) (s : List ℕ) → o + n ≤ length b → n ≤ length s → paste b o s n ≡ put b o (take n s)
+paste_put b o n s h l =
+    let k : length (take n s) ≡ n = length-take-le n s l in
+    append_assoc (take o b) (take n s) (drop (o + n) b) ∙ ap (λ (m : ℕ). take o b ++ (take n s ++ drop (o + m) b)) (sym k) ∙ sym (put_whole b o (take n s) (omega (arith, h, k)))

@@ -151,11 +151,7 @@ pub fn zero(b: &mut [u8], o: usize, n: usize)
     requires { o + n ≤ length b.old }
     ensures { b.new ≡ put b.old o (replicate n 0) }
 {
-    let mut i = 0;
-    while i < n {
-        b[o + i] = 0;
-        i += 1;
-    }
+    b[o..o + n].fill(0);
 }
 
 // Copies all of src to a place.
@@ -163,33 +159,13 @@ pub fn copy_into(b: &mut [u8], o: usize, src: &[u8])
     requires { o + length src.now ≤ length b.old }
     ensures { b.new ≡ put b.old o src.now }
 {
-    let mut i = 0;
-    while i < src.len() {
-        b[o + i] = src[i];
-        i += 1;
-    }
+    b[o..o + src.len()].copy_from_slice(src);
 }
 
-// Moves n bytes to a lower place. The two runs may overlap.
-pub fn move_down(b: &mut [u8], from: usize, to: usize, n: usize)
-    requires { (to ≤ from) × (from + n ≤ length b.old) }
+// Moves n bytes to another place. The two runs may overlap.
+pub fn move_bytes(b: &mut [u8], from: usize, to: usize, n: usize)
+    requires { (from + n ≤ length b.old) × (to + n ≤ length b.old) }
     ensures { b.new ≡ put b.old to (part from n b.old) }
 {
-    let mut i = 0;
-    while i < n {
-        b[to + i] = b[from + i];
-        i += 1;
-    }
-}
-
-// Moves n bytes to a higher place. The two runs may overlap.
-pub fn move_up(b: &mut [u8], from: usize, to: usize, n: usize)
-    requires { (from ≤ to) × (to + n ≤ length b.old) }
-    ensures { b.new ≡ put b.old to (part from n b.old) }
-{
-    let mut i = n;
-    while 0 < i {
-        i -= 1;
-        b[to + i] = b[from + i];
-    }
+    b.copy_within(from..from + n, to);
 }

@@ -1,20 +1,15 @@
-use mathlib.Core.Path.{◌≡◌, refl, sym, ◌∙◌}
-use Rattle.be.proofs.Stores.{put_sets, zero_turn}
 use native.Mathlib.Omega.{arith}
-use lib.ListN.{length-set}
+use Prim.Native.Nat.{ℕ, ◌+◌, ◌-◌}
+use mathlib.Core.Path.{◌≡◌, ap, ◌∙◌}
+use lib.ListN.{length-replicate, replicate, length}
+use Rattle.be.specs.Bytes.{put, part}
+use Rattle.be.proofs.Writes.{lent_put}
+use Rattle.be.proofs.Parts.{part_length}
 use Rattle.be.proofs.zero.Goals as goal
-
-pub loop-i-init : goal.loop-i-init
-loop-i-init c = (omega arith, refl, refl)
-
-pub loop-i-preserved : goal.loop-i-preserved
-loop-i-preserved c =
-    (omega arith, simp length-set c.loop-i.invariant.1, zero_turn _ _ _ _ c.loop-i.invariant.2)
-
-pub shape_of-b : goal.shape_of-b
-shape_of-b c = c.loop-i.invariant.1
 
 pub returns : goal.returns
 returns c =
-    let e : c.loop-i.i ≡ c.args.n = omega arith in
-    (rw e at c.loop-i.invariant.2) ∙ sym (put_sets _ _ _)
+    let a = c.args in
+    let k : length (part a.o (a.o + a.n - a.o) a.b.now) ≡ a.n = part_length a.o (a.o + a.n - a.o) a.b.now (omega arith) ∙ omega arith in
+    let e : c.fill.new.self ≡ replicate a.n 0 = c.fill.ensures.after (λ y q. q) ∙ ap (λ (m : ℕ). replicate m 0) k in
+    lent_put _ _ _ _ (omega arith) (ap length e ∙ length-replicate a.n 0 ∙ omega arith) ∙ ap (put a.b.now a.o) e
