@@ -1,22 +1,31 @@
 -- The order of names: it is strict, and a walk over two names decides it.
 -- Assumes nothing.
-use Prim.Native.Nat.{ℕ, suc, ◌+◌, ◌*◌, ◌≤◌, ◌<◌}
+use Prim.Native.Nat.{ℕ, ◌+◌, ◌*◌, ◌≤◌, ◌<◌}
 use native.Mathlib.Omega.{arith}
-use native.Mathlib.Numerals.{add-one}
-use mathlib.Core.Bool.{Bool, true, false, not, ◌&&◌, ◌||◌, false≢true}
+use mathlib.Core.Bool.{Bool, true, false, not, ◌&&◌, false≢true}
 use mathlib.Core.Path.{◌≡◌, refl, sym, ◌∙◌, ap, ap₂}
 use mathlib.Core.List.{List, [], ◌∷◌, ◌++◌}
 use lib.Dec.{eqb, ltb}
-use lib.ListN.{length, get_or, drop}
-use lib.Seq.{drop-cons, drop-length}
-use borrow.Author.Tests.{ltb-true, ltb-false, lt-ltb, le-ltb, eqb-true, eq-eqb, ne_eqb}
-use Rattle.be.proofs.Bools.{by_cases, or_cases, or_left, or_right, and_left, and_right, and_both, and_false, clash}
+use lib.ListN.{length, drop}
+use borrow.Author.Tests.{ltb-true, lt-ltb, le-ltb, eqb-true, eq-eqb, ne_eqb}
+use Rattle.be.proofs.Bools.{or_cases, or_left, or_right, and_left, and_right, and_both, and_false, clash}
+use Rattle.std.specs.Prelude.{Some}
+use Rattle.std.specs.Ordering.{nat_cmp, is_lt, is_some_and}
+use Rattle.std.specs.Cmp.Lexicographic.{slice_partial_cmp}
 use Rattle.be.specs.Bytes.{byte, part}
 use Rattle.be.specs.Words.{le}
 use Rattle.be.proofs.Parts.{piece}
 use Rattle.be.proofs.Words.{word_bytes}
 use Rattle.dir_block_rules.specs.Lookup.{name_at}
 use Rattle.dir_block_twice.specs.Twice.{lex, Undecided, addr_at, live_at, sorts_before}
+
+-- the library's order of slices
+pub lex_lt : (x y : List ℕ) → is_some_and is_lt (slice_partial_cmp (λ (a b : ℕ). Some (nat_cmp a b)) x y) ≡ lex x y
+unfolding lex
+lex_lt [] [] = refl
+lex_lt [] (b ∷ y) = refl
+lex_lt (a ∷ x) [] = refl
+lex_lt (a ∷ x) (b ∷ y) = grind (arith, lex_lt x y)
 
 pub lex_strict : (x : List ℕ) → lex x x ≡ false
 unfolding lex
@@ -60,49 +69,6 @@ alike_word x y kx ky k w u a l r p q e =
 module _ (x y : List ℕ) where
   pub alike_start : Undecided x y 0
   alike_start = record { left = omega arith; right = omega arith; so_far = refl }
-
-  abbrev both : ℕ → Bool
-  both k = ltb k (length x) && ltb k (length y)
-
-  pub both_left : (k : ℕ) → both k ≡ true → k < length x
-  both_left k h = ltb-true k (length x) (and_left (ltb k (length x)) (ltb k (length y)) h)
-
-  pub both_right : (k : ℕ) → both k ≡ true → k < length y
-  both_right k h = ltb-true k (length y) (and_right (ltb k (length x)) (ltb k (length y)) h)
-
-  module _ (k : ℕ) (w : Undecided x y k) where
-    ended : (z : List ℕ) → k ≤ length z → length z ≤ k → drop k z ≡ []
-    ended z l u = let q : k ≡ length z = omega arith in ap (λ (m : ℕ). drop m z) q ∙ drop-length z
-
-    pub alike_end : both k ≡ false → ltb (length x) (length y) ≡ lex x y
-    unfolding lex
-    alike_end h =
-        by_cases (ltb k (length y))
-        (λ q. let l : k < length y = ltb-true k (length y) q in
-        let u : length x ≤ k = by_cases (ltb k (length x)) (λ p. absurd (clash (and_both _ _ p q) h)) (λ p. ltb-false k (length x) p) in
-        lt-ltb (length x) (length y) (omega arith) ∙ sym (w.so_far ∙ rw (ended x w.left u, drop-cons y k 0 l)))
-        (λ q. le-ltb (length x) (length y) (omega (arith, ltb-false k (length y) q, w.left)) ∙ sym (w.so_far ∙ rw (ended y w.right (ltb-false k (length y) q))))
-
-    module _ (h : both k ≡ true) where
-      l : k < length y
-      l = both_right k h
-
-      u : k < length x
-      u = both_left k h
-
-      heads : lex x y ≡ (ltb (get_or x k 0) (get_or y k 0) || (eqb (get_or x k 0) (get_or y k 0) && lex (drop (suc k) x) (drop (suc k) y)))
-      unfolding lex
-      heads = w.so_far ∙ rw (drop-cons x k 0 u, drop-cons y k 0 l)
-
-      pub alike_differ : (get_or x k 0 ≡ get_or y k 0 → ⊥) → ltb (get_or x k 0) (get_or y k 0) ≡ lex x y
-      alike_differ d = sym (heads ∙ by_cases (ltb (get_or x k 0) (get_or y k 0)) (λ q. rw q) (λ q. rw (q, ne_eqb (get_or x k 0) (get_or y k 0) d)))
-
-      pub alike_on : get_or x k 0 ≡ get_or y k 0 → Undecided x y (k + 1)
-      alike_on d = record {
-        left = omega (arith, u);
-        right = omega (arith, l);
-        so_far = heads ∙ rw (add-one k, le-ltb (get_or x k 0) (get_or y k 0) (omega arith), eq-eqb (get_or x k 0) (get_or y k 0) d);
-      }
 
 -- slots that are live, and the order of their names
 module _ (b : List ℕ) (t n : ℕ) where

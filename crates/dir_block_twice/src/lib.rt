@@ -2,7 +2,7 @@
 // bits of a second hash are set already; where that still happens often, the names are sorted, and their order is tested.
 #![tactic(auto)]
 
-ghost use Rattle.std.specs.Prelude.{◌≡◌, true, false, ◌||◌, ◌+◌, ◌*◌, ◌≤◌, ◌<◌, eqb, length, get_or, set};
+ghost use Rattle.std.specs.Prelude.{◌≡◌, true, false, ◌||◌, ◌+◌, ◌*◌, ◌≤◌, ◌<◌, eqb, length, get_or, set, IfSome, IsSome};
 ghost use Rattle.std.specs.Int.Bits.{bit_and, bit_or};
 ghost use Rattle.be.specs.Bytes.{byte};
 ghost use Rattle.name.specs.Name.{same_name};
@@ -48,8 +48,7 @@ fn clash(e: Edition, b: &[u8], t: usize, n: usize, i: usize) -> bool
 {
     let h = slot_hash(b, t, i);
     let p = 8 * slot_addr(b, t, i);
-    let mut j = i + 1;
-    while j < n {
+    for j in i + 1..n {
         if slot_hash(b, t, j) != h {
             return false;
         }
@@ -59,7 +58,6 @@ fn clash(e: Edition, b: &[u8], t: usize, n: usize, i: usize) -> bool
                 return true;
             }
         }
-        j += 1;
     }
     false
 }
@@ -144,30 +142,8 @@ fn suspect<'a, 'b>(b: &'a [u8], t: usize, n: usize, i: usize, seen: &'b mut [u64
     note(seen, (k / 4096) & (cells - 1), bits(k))
 }
 
-// What a way to the answer shows: whether it came to one, and then whether no name is stored twice.
-#[derive(Clone, Copy)]
-struct Finding {
-    known: bool,
-    once: bool,
-}
-
-fn unknown() -> Finding
-    ensures { result.known ≡ false }
-{
-    Finding {
-        known: false,
-        once: false,
-    }
-}
-
-fn known(once: bool) -> Finding
-    ensures { (result.known ≡ true) × (result.once ≡ once) }
-{
-    Finding { known: true, once }
-}
-
 // Whether no name is stored twice, from the last slot down; what the table holds at first doesn't matter. Names that have their bits in
-// common can be made on purpose: no more than `turns` slots are compared with later ones.
+// common can be made on purpose: no more than `turns` slots are compared with later ones, and there is no answer where that is too few.
 fn once_with<'a, 'b>(
     e: Edition,
     b: &'a [u8],
@@ -175,26 +151,24 @@ fn once_with<'a, 'b>(
     n: usize,
     seen: &'b mut [u64],
     turns: usize,
-) -> Finding
+) -> Option<bool>
     requires { (t + 8 * n ≤ length b.now) × Reach b.now t n × (0 < length seen.old) }
-    ensures { (result.known ≡ true → result.once ≡ once_in e b.now (slots_from b.now t n 0))
-        × (n ≤ turns → result.known ≡ true) }
+    ensures answer { IfSome result (λ once. once ≡ once_in e b.now (slots_from b.now t n 0)) }
+    ensures enough { n ≤ turns → IsSome result }
 {
-    let mut i = n;
     let mut left = turns;
-    while 0 < i {
-        i -= 1;
+    for i in (0..n).rev() {
         if suspect(b, t, n, i, seen) {
             if left == 0 {
-                return unknown();
+                return None;
             }
             left -= 1;
             if clash(e, b, t, n, i) {
-                return known(false);
+                return Some(false);
             }
         }
     }
-    known(true)
+    Some(true)
 }
 
 // Whether slot i is one of the n, and live.
@@ -208,20 +182,11 @@ fn live(b: &[u8], t: usize, n: usize, i: usize) -> bool
     false
 }
 
-fn least(x: usize, y: usize) -> usize
-    ensures { (result ≤ x) × (result ≤ y) }
-{
-    if x < y {
-        return x;
-    }
-    y
-}
-
 // How many bytes at the start of both say nothing of their order, by eights: they are the same.
 fn same_start(x: &[u8], y: &[u8]) -> usize
     ensures { Undecided x.now y.now result }
 {
-    let n = least(x.len(), y.len());
+    let n = x.len().min(y.len());
     let mut k = 0;
     while 8 <= n - k {
         if be::le64(x, k) != be::le64(y, k) {
@@ -236,14 +201,8 @@ fn same_start(x: &[u8], y: &[u8]) -> usize
 fn sooner(x: &[u8], y: &[u8]) -> bool
     ensures { result ≡ lex x.now y.now }
 {
-    let mut k = same_start(x, y);
-    while (k < x.len()) & (k < y.len()) {
-        if x[k] != y[k] {
-            return x[k] < y[k];
-        }
-        k += 1;
-    }
-    x.len() < y.len()
+    let k = same_start(x, y);
+    x[k..] < y[k..]
 }
 
 // Whether the name of the entry at p comes before that of the one at q.
@@ -290,15 +249,6 @@ fn place(s: &mut [u16], k: usize, v: usize)
     }
 }
 
-fn swap(s: &mut [u16], p: usize, q: usize)
-    requires { (p < length s.old) × (q < length s.old) }
-    ensures { length s.new ≡ length s.old }
-{
-    let x = s[p];
-    s[p] = s[q];
-    s[q] = x;
-}
-
 // Whether the slots in cells p and q ascend.
 fn ascends(b: &[u8], t: usize, n: usize, order: &[u16], p: usize, q: usize) -> bool
     requires { (t + 8 * n ≤ length b.now) × Reach b.now t n × (p < length order.now) × (q < length order.now) }
@@ -332,7 +282,7 @@ fn sift<'a, 'b>(b: &'a [u8], t: usize, n: usize, order: &'b mut [u16], from: usi
         if !ascends(b, t, n, &order[..], top, k) {
             return;
         }
-        swap(order, top, k);
+        order.swap(top, k);
         top = k;
     }
 }
@@ -341,9 +291,7 @@ fn heap<'a, 'b>(b: &'a [u8], t: usize, n: usize, order: &'b mut [u16], m: usize)
     requires { (t + 8 * n ≤ length b.now) × Reach b.now t n × (m ≤ length order.old) × (m ≤ most_slots) }
     ensures { length order.new ≡ length order.old }
 {
-    let mut k = m / 2;
-    while 0 < k {
-        k -= 1;
+    for k in (0..m / 2).rev() {
         sift(b, t, n, order, k, m);
     }
 }
@@ -353,10 +301,8 @@ fn sort<'a, 'b>(b: &'a [u8], t: usize, n: usize, order: &'b mut [u16], m: usize)
     ensures { length order.new ≡ length order.old }
 {
     heap(b, t, n, order, m);
-    let mut k = m;
-    while 1 < k {
-        k -= 1;
-        swap(order, 0, k);
+    for k in (1..m).rev() {
+        order.swap(0, k);
         sift(b, t, n, order, 0, k);
     }
 }
@@ -366,16 +312,12 @@ fn gather<'a, 'b>(b: &'a [u8], t: usize, n: usize, order: &'b mut [u16]) -> usiz
     requires { (t + 8 * n ≤ length b.now) × (n ≤ most_slots) }
     ensures { (result ≤ n) × (length order.new ≡ length order.old) }
 {
-    let mut i = 0;
     let mut m = 0;
-    while i < n {
-        if slot_addr(b, t, i) == 0 {
-            i += 1;
-            continue;
+    for i in 0..n {
+        if slot_addr(b, t, i) != 0 {
+            place(order, m, i);
+            m += 1;
         }
-        place(order, m, i);
-        m += 1;
-        i += 1;
     }
     m
 }
@@ -385,10 +327,8 @@ fn rank_all<'a, 'b>(order: &'a [u16], m: usize, rank: &'b mut [u16])
     requires { (m ≤ length order.now) × (m ≤ most_slots) }
     ensures { length rank.new ≡ length rank.old }
 {
-    let mut k = 0;
-    while k < m {
+    for k in 0..m {
         place(rank, cell(order, k), k);
-        k += 1;
     }
 }
 
@@ -397,12 +337,10 @@ fn ascending(b: &[u8], t: usize, n: usize, order: &[u16], m: usize) -> usize
     requires { (t + 8 * n ≤ length b.now) × Reach b.now t n × (m ≤ length order.now) }
     ensures { Ascends b.now t n order.now result × (result < m → result + 1 < m) }
 {
-    let mut k = 0;
-    while k + 1 < m {
-        if !ascends(b, t, n, order, k, k + 1) {
-            return k;
+    for k in 1..m {
+        if !ascends(b, t, n, order, k - 1, k) {
+            return k - 1;
         }
-        k += 1;
     }
     m
 }
@@ -424,35 +362,41 @@ fn ranked(b: &[u8], t: usize, n: usize, order: &[u16], rank: &[u16], m: usize) -
     requires { (t + 8 * n ≤ length b.now) × (m ≤ length order.now) × (n ≤ length rank.now) }
     ensures { result ≡ true → Ranked b.now t n order.now rank.now m }
 {
-    let mut i = 0;
-    while i < n {
+    for i in 0..n {
         if live(b, t, n, i) & !placed(order, rank, m, i) {
             return false;
         }
-        i += 1;
     }
     true
 }
 
 // What slot i shows: that its name is stored twice, or nothing.
-fn twin_of(e: Edition, b: &[u8], t: usize, n: usize, i: usize) -> Finding
+fn twin_of(e: Edition, b: &[u8], t: usize, n: usize, i: usize) -> Option<bool>
     requires { (t + 8 * n ≤ length b.now) × Reach b.now t n }
-    ensures { result.known ≡ true → result.once ≡ once_in e b.now (slots_from b.now t n 0) }
+    ensures { IfSome result (λ once. once ≡ once_in e b.now (slots_from b.now t n 0)) }
 {
     if !live(b, t, n, i) {
-        return unknown();
+        return None;
     }
     if clash(e, b, t, n, i) {
-        return known(false);
+        return Some(false);
     }
-    unknown()
+    None
 }
 
 // The answer that an order of the live slots shows. Where all ascend, and each live slot is among them, no two have one name; where two
 // don't ascend, they have one name if the order is right, and the first of them has a twin.
-fn judge(e: Edition, b: &[u8], t: usize, n: usize, order: &[u16], rank: &[u16], m: usize) -> Finding
+fn judge(
+    e: Edition,
+    b: &[u8],
+    t: usize,
+    n: usize,
+    order: &[u16],
+    rank: &[u16],
+    m: usize,
+) -> Option<bool>
     requires { (t + 8 * n ≤ length b.now) × Reach b.now t n × (m ≤ length order.now) × (n ≤ length rank.now) }
-    ensures { result.known ≡ true → result.once ≡ once_in e b.now (slots_from b.now t n 0) }
+    ensures { IfSome result (λ once. once ≡ once_in e b.now (slots_from b.now t n 0)) }
 {
     let k = ascending(b, t, n, order, m);
     if k < m {
@@ -464,9 +408,9 @@ fn judge(e: Edition, b: &[u8], t: usize, n: usize, order: &[u16], rank: &[u16], 
         return twin_of(e, b, t, n, i);
     }
     if ranked(b, t, n, order, rank, m) {
-        return known(true);
+        return Some(true);
     }
-    unknown()
+    None
 }
 
 fn sorted_with<'a, 'b, 'c>(
@@ -476,9 +420,9 @@ fn sorted_with<'a, 'b, 'c>(
     n: usize,
     order: &'b mut [u16],
     rank: &'c mut [u16],
-) -> Finding
+) -> Option<bool>
     requires { (t + 8 * n ≤ length b.now) × Reach b.now t n × (n ≤ most_slots) × (n ≤ length order.old) × (n ≤ length rank.old) }
-    ensures { result.known ≡ true → result.once ≡ once_in e b.now (slots_from b.now t n 0) }
+    ensures { IfSome result (λ once. once ≡ once_in e b.now (slots_from b.now t n 0)) }
 {
     let m = gather(b, t, n, order);
     sort(b, t, n, order, m);
@@ -488,9 +432,9 @@ fn sorted_with<'a, 'b, 'c>(
 
 // By sorting the names, however many have their bits in common. The arrays have a cell for each slot that a block can have, and are made
 // only here.
-fn sorted(e: Edition, b: &[u8], t: usize, n: usize) -> Finding
+fn sorted(e: Edition, b: &[u8], t: usize, n: usize) -> Option<bool>
     requires { (t + 8 * n ≤ length b.now) × Reach b.now t n × (n ≤ most_slots) }
-    ensures { result.known ≡ true → result.once ≡ once_in e b.now (slots_from b.now t n 0) }
+    ensures { IfSome result (λ once. once ≡ once_in e b.now (slots_from b.now t n 0)) }
 {
     let mut order = [0u16; edition::LARGEST_BLOCK / 8];
     let mut rank = [0u16; edition::LARGEST_BLOCK / 8];
@@ -503,13 +447,12 @@ fn once_slow(e: Edition, b: &[u8], t: usize, n: usize) -> bool
     requires { (t + 8 * n ≤ length b.now) × Reach b.now t n × (n ≤ most_slots) }
     ensures { result ≡ once_in e b.now (slots_from b.now t n 0) }
 {
-    let all = sorted(e, b, t, n);
-    if all.known {
-        return all.once;
+    if let Some(once) = sorted(e, b, t, n) {
+        return once;
     }
     let mut seen = [0u64; 256];
     let last = once_with(e, b, t, n, &mut seen, n);
-    last.once
+    last.unwrap()
 }
 
 // Few names, by a table of the names seen. What is cleared for it, and how many slots are compared with later ones before the names are
@@ -520,8 +463,8 @@ fn once_few(e: Edition, b: &[u8], t: usize, n: usize) -> bool
 {
     let mut seen = [0u64; 256];
     let few = once_with(e, b, t, n, &mut seen, 2);
-    if few.known {
-        return few.once;
+    if let Some(once) = few {
+        return once;
     }
     once_slow(e, b, t, n)
 }
@@ -533,8 +476,8 @@ fn once_many(e: Edition, b: &[u8], t: usize, n: usize) -> bool
 {
     let mut seen = [0u64; 1024];
     let few = once_with(e, b, t, n, &mut seen, 24);
-    if few.known {
-        return few.once;
+    if let Some(once) = few {
+        return once;
     }
     once_slow(e, b, t, n)
 }

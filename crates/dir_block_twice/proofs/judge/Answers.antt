@@ -1,6 +1,4 @@
 use native.Mathlib.Omega.{arith}
-use mathlib.Core.Path.{◌∙◌}
-use Rattle.be.proofs.Bools.{clash}
 use Rattle.dir_block_twice.proofs.SortedSlots.{ascends_less, sorted_once}
 use Rattle.dir_block_twice.proofs.judge.Goals as goal
 
@@ -11,7 +9,4 @@ pub returns-then-ranked : goal.returns-then-ranked
 returns-then-ranked c =
     let a = c.args in
     let up = ascends_less a.b.now a.t a.n a.order.now _ a.m c.ascending-k.ensures.0 c.if-k-m.false in
-    λ z. c.known.ensures.1 ∙ sorted_once a.b.now a.t a.n a.order.now a.rank.now a.m up (c.ranked.ensures c.if-ranked.true) a.e
-
-pub returns : goal.returns
-returns c = λ z. absurd (clash z c.unknown.ensures)
+    sorted_once a.b.now a.t a.n a.order.now a.rank.now a.m up (c.ranked.ensures c.if-ranked.true) a.e

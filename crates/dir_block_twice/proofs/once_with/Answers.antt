@@ -2,7 +2,6 @@ use native.Mathlib.Omega.{arith}
 use borrow.Author.Rules.{rules}
 use Prim.Native.Nat.{◌+◌, ◌-◌, ◌<◌}
 use mathlib.Core.Path.{◌≡◌, refl, ◌∙◌}
-use Rattle.be.proofs.Bools.{clash}
 use Rattle.dir_block_twice.proofs.TwinWalk.{twin_live}
 use Rattle.dir_block_twice.proofs.TwinKeys.{down_start, down_end, down_marks, twin_twice, down_on}
 use Rattle.dir_block_twice.proofs.once_with.Goals as goal
@@ -19,7 +18,7 @@ suspect-requires c =
 
 pub returns-then-left-eq0 : goal.returns-then-left-eq0
 returns-then-left-eq0 c =
-    (λ z. absurd (clash z c.unknown.ensures), λ h. absurd (omega (arith, c.loop-i.invariant.0.within, c.loop-i.invariant.2)))
+    record { answer = tt; enough = λ h. absurd (omega (arith, c.loop-i.invariant.0.within, c.loop-i.invariant.2)) }
 
 pub clash-requires : goal.clash-requires
 clash-requires c =
@@ -32,7 +31,7 @@ returns-then-clash c =
     let l = c.loop-i in
     let u : l.i - 1 < a.n = omega (arith, l.invariant.0.within) in
     let h = twin_live a.e a.b.now a.t a.n (l.i - 1) _ (c.suspect.ensures.live c.if-suspect.true) c.clash.ensures ∙ c.if-clash.true in
-    (λ z. c.known.ensures.1 ∙ twin_twice a.e a.b.now a.t a.n (l.i - 1) u h, λ z. c.known.ensures.0)
+    record { answer = twin_twice a.e a.b.now a.t a.n (l.i - 1) u h; enough = λ z. refl }
 
 pub loop-i-preserved-else-clash : goal.loop-i-preserved-else-clash
 loop-i-preserved-else-clash c =
@@ -52,4 +51,4 @@ loop-i-preserved c =
     (down_on a.e a.b.now a.t a.n (l.i - 1) _ u q _ l.invariant.0 (c.suspect.ensures.alone c.if-suspect.false a.e) _ c.suspect.ensures.marks, search rules, omega (arith, l.invariant.0.within, l.invariant.2))
 
 pub returns : goal.returns
-returns c = (λ z. c.known-2.ensures.1 ∙ down_end _ _ _ _ _ _ c.loop-i.invariant.0 c.loop-i-test.false, λ z. c.known-2.ensures.0)
+returns c = record { answer = down_end _ _ _ _ _ _ c.loop-i.invariant.0 c.loop-i-test.false; enough = λ z. refl }

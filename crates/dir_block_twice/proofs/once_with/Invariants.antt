@@ -7,7 +7,3 @@ use Rattle.dir_block_twice.proofs.once_with.Given as goal
 abbrev pub invariant-loop-i : goal.invariant-loop-i
 invariant-loop-i l =
     Downing l.e l.b l.t l.n l.i l.seen × (length l.seen ≡ length l.initial.seen) × (l.turns ≤ l.left + (l.n - l.i))
-
-abbrev pub decreases-loop-i : goal.decreases-loop-i
-decreases-loop-i l =
-    l.i

@@ -1,12 +1,8 @@
 use mathlib.Core.Path.{sym, ◌∙◌}
-use Rattle.be.proofs.Bools.{clash}
 use Rattle.dir_block_twice.proofs.TwinWalk.{twin_live}
 use Rattle.dir_block_twice.proofs.TwinKeys.{twin_twice}
 use Rattle.dir_block_twice.proofs.NameOrder.{live_below, live_addr}
 use Rattle.dir_block_twice.proofs.twin_of.Goals as goal
-
-pub returns-then-not-live : goal.returns-then-not-live
-returns-then-not-live c = λ z. absurd (clash z c.unknown.ensures)
 
 pub clash-requires : goal.clash-requires
 clash-requires c =
@@ -17,7 +13,4 @@ pub returns-then-clash : goal.returns-then-clash
 returns-then-clash c =
     let a = c.args in
     let h = sym c.live.ensures ∙ c.if-not-live.false in
-    λ z. c.known.ensures.1 ∙ twin_twice a.e a.b.now a.t a.n a.i (live_below _ _ _ _ h) (twin_live a.e a.b.now a.t a.n a.i _ (live_addr _ _ _ _ h) c.clash.ensures ∙ c.if-clash.true)
-
-pub returns : goal.returns
-returns c = λ z. absurd (clash z c.unknown-2.ensures)
+    twin_twice a.e a.b.now a.t a.n a.i (live_below _ _ _ _ h) (twin_live a.e a.b.now a.t a.n a.i _ (live_addr _ _ _ _ h) c.clash.ensures ∙ c.if-clash.true)
