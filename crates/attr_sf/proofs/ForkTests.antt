@@ -46,28 +46,28 @@ module _ (f : List ℕ) where
           unfolding fork_verdict tile_ok names_ok flags_ok once_ok totsize count stored
           rest_is = rw (span_is, ← e, ← m, t)
 
-          module _ {r : ℕ} (q : r ≡ own_verdict (entries f n header)) where
-            pub not_own : (r ≡ 0 → ⊥) → r ≡ fork_verdict f
-            not_own d =
-                q
-                ∙ by_cases (every name_legal_of (entries f n header))
-                (λ u.
-                by_cases (every flags_legal_of (entries f n header)) (λ v. absurd (d (q ∙ rw (u, v)))) (λ v. rw (u, v) (rw (u, v) at rest_is)))
-                (λ u. rw u (rw u at rest_is))
+          pub not_own : {r : ℕ} → r ≡ own_verdict (entries f n header) → (r ≡ 0 → ⊥) → r ≡ fork_verdict f
+          not_own q d =
+              q
+              ∙ by_cases (every name_legal_of (entries f n header))
+              (λ u.
+              by_cases (every flags_legal_of (entries f n header)) (λ v. absurd (d (q ∙ rw (u, v)))) (λ v. rw (u, v) (rw (u, v) at rest_is)))
+              (λ u. rw u (rw u at rest_is))
 
-            own_passed : r ≡ 0 → (every name_legal_of (entries f n header) ≡ true) × (every flags_legal_of (entries f n header) ≡ true)
-            own_passed z = go (every name_legal_of (entries f n header)) (every flags_legal_of (entries f n header)) (sym q ∙ z)
+          module _ (q : 0 ≡ own_verdict (entries f n header)) where
+            own_passed : (every name_legal_of (entries f n header) ≡ true) × (every flags_legal_of (entries f n header) ≡ true)
+            own_passed = go (every name_legal_of (entries f n header)) (every flags_legal_of (entries f n header)) (sym q)
               where
                 go : (u v : Bool) → ◌≡◌ {A = ℕ} (cond u (cond v 0 7) 6) 0 → (u ≡ true) × (v ≡ true)
                 go true true h = (refl, refl)
                 go true false h = absurd (omega arith)
                 go false v h = absurd (omega arith)
 
-            pub not_once : r ≡ 0 → distinct (entries f n header) ≡ false → 10 ≡ fork_verdict f
-            not_once z d = let w = own_passed z in rw (w.0, w.1, d) at rest_is
+            pub not_once : distinct (entries f n header) ≡ false → 10 ≡ fork_verdict f
+            not_once d = rw (own_passed.0, own_passed.1, d) at rest_is
 
-            pub all_passed : r ≡ 0 → distinct (entries f n header) ≡ true → 0 ≡ fork_verdict f
-            all_passed z d = let w = own_passed z in rw (w.0, w.1, d) at rest_is
+            pub all_passed : distinct (entries f n header) ≡ true → 0 ≡ fork_verdict f
+            all_passed d = rw (own_passed.0, own_passed.1, d) at rest_is
 
 -- five tests that all pass
 five : (a b d g h : Bool) → ◌≡◌ {A = ℕ} (cond a (cond b (cond d (cond g (cond h 0 10) 7) 6) 5) 4) 0

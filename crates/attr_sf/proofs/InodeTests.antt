@@ -5,20 +5,22 @@ use native.Mathlib.Omega.{arith}
 use mathlib.Core.Bool.{Bool, true, false, cond}
 use mathlib.Core.Path.{◌≡◌, refl, sym, ◌∙◌, ap}
 use mathlib.Core.List.{List}
-use lib.Dec.{eqb}
 use lib.ListN.{length, take, drop, length-drop}
 use lib.Seq.{take_all}
-use borrow.Author.Tests.{ne_eqb, eqb-true, eqb-false}
-use Rattle.refusal.specs.Refusal.{ASKED}
+use borrow.Author.Tests.{ne_eqb}
+use Rattle.std.specs.Prelude.{Result, Ok, Err}
+use Rattle.std.specs.Result.{IsErrAnd}
+use Rattle.refusal.specs.declared.Refusal.{Refusal}
+use Rattle.refusal.specs.Refusal.{ASKED, number, numbered}
+use Rattle.refusal.proofs.Passed.{number_ne, passed_on, err_answered, ok_done, ok_given}
 use Rattle.be.proofs.Codes.{both}
-use Rattle.be.proofs.Bools.{by_cases, and_left, and_right}
+use Rattle.be.proofs.Bools.{and_left, and_right}
 use Rattle.be.specs.Codes.{◌and_then◌}
 use Rattle.edition.specs.declared.Edition.{Edition}
 use Rattle.name.specs.Name.{legal_attr_name}
 use Rattle.name.proofs.Legality.{attr_bounds}
-use Rattle.dinode.specs.Core.{attributes_code, attributes_fork, attr_start, attr_length, attr_fork}
+use Rattle.dinode.specs.Core.{attributes_code, attributes_fork, attr_start, attr_length, attr_fork, fork_at}
 use Rattle.dinode.specs.declared.Fork.{Fork}
-use Rattle.dinode.specs.declared.Fork.TheVariants.{At, Refused}
 use Rattle.dinode.proofs.Sound.{attributes_sound, sound_size, sound_fits}
 use Rattle.attr_sf.specs.Entry.{legal_key, legal_flags}
 use Rattle.attr_sf.specs.Fork.{fork_verdict}
@@ -31,8 +33,12 @@ pub holds : (k : Bool) (n : ℕ) → 0 < n → ◌≡◌ {A = ℕ} (cond k 0 n) 
 holds true n p h = refl
 holds false n p h = absurd (omega arith)
 
-at_never : {a n k : ℕ} → ◌≡◌ {A = Fork} (At a n) (Refused k) → ⊥
-at_never h = let q : ◌≡◌ {A = ℕ} 0 1 = cc in omega arith
+-- a refusal is that of the tests, whatever more is asked; and one more that passes
+pub first_refused : {n : ℕ} (x : Refusal) (k : ℕ) → number x ≡ n → number x ≡ (n and_then k)
+first_refused {n} x k h = rw (ne_eqb n 0 (λ q. number_ne x (h ∙ q))) h
+
+pub then_is : {n k r : ℕ} → 0 ≡ n → r ≡ k → r ≡ (n and_then k)
+then_is h q = rw (sym h) q
 
 module _ (e : Edition) (b : List ℕ) where
   -- the fork that was lent
@@ -81,89 +87,66 @@ module _ (e : Edition) (b : List ℕ) where
 
   -- ---- where the fork lies
 
-  pub of_inode : attributes_fork e b ≡ fork_if (attributes_code e b) e b
-  unfolding attributes_fork fork_if
-  of_inode = refl
+  pub if_passed : (n : ℕ) {F : Fork} → Ok F ≡ fork_if n e b → (n ≡ 0) × (F.start ≡ attr_start e b)
+  unfolding fork_if
+  if_passed n h =
+      (sym (ok_done (fork_at (attr_start e b) (attr_length e b)) h), ap (λ (x : Fork). x.start) (ok_given n (fork_at (attr_start e b) (attr_length e b)) h))
 
-  module _ (n : ℕ) where
-    pub if_passed : (s m : ℕ) → At s m ≡ fork_if n e b → (n ≡ 0) × (s ≡ attr_start e b)
-    unfolding fork_if
-    if_passed s m h =
-        by_cases (eqb n 0)
-        (λ q. let r : At s m ≡ At (attr_start e b) (attr_length e b) = rw q at h in (eqb-true n 0 q, cc))
-        (λ q. absurd (at_never (rw q at h)))
+  pub if_refused : (x : Refusal) {n : ℕ} → Err (number x) ≡ fork_if n e b → number x ≡ n
+  unfolding fork_if
+  if_refused x h = err_answered (fork_at (attr_start e b) (attr_length e b)) h
 
-    pub if_refused : (k : ℕ) → Refused k ≡ fork_if n e b → (k ≡ n) × (n ≡ 0 → ⊥)
-    unfolding fork_if
-    if_refused k h =
-        by_cases (eqb n 0) (λ q. absurd (at_never (sym (rw q at h))))
-        (λ q. let r : Refused k ≡ Refused n = rw q at h in (cc, eqb-false n 0 q))
+  pub if_on : (n : ℕ) {k : ℕ} {F : Fork} → Ok F ≡ fork_if n e b → 0 ≡ k → Ok F ≡ fork_if k e b
+  if_on n h q = rw (← q) (rw (if_passed n h).0 at h)
 
-    -- one test more
-    module _ (k : ℕ) where
-      pub then_at : (s m : ℕ) → At s m ≡ fork_if n e b → k ≡ 0 → At s m ≡ fork_if (n and_then k) e b
-      then_at s m h z = let q : n ≡ 0 = (if_passed s m h).0 in rw (q, z) (rw q at h)
-
-      pub then_not : (s m : ℕ) → At s m ≡ fork_if n e b → (k ≡ 0 → ⊥) → Refused k ≡ fork_if (n and_then k) e b
-      unfolding fork_if
-      then_not s m h z = rw ((if_passed s m h).0, ne_eqb k 0 z)
-
-      pub then_refused : (r : ℕ) → Refused r ≡ fork_if n e b → Refused r ≡ fork_if (n and_then k) e b
-      then_refused r h = rw (ne_eqb n 0 (if_refused r h).1) h
+  pub if_not : (r : Result Fork Refusal) (x : Refusal) {n : ℕ} → IsErrAnd r (λ y. y ≡ x) → number x ≡ n → numbered r ≡ fork_if n e b
+  unfolding fork_if
+  if_not r x h q = passed_on r x (fork_at (attr_start e b) (attr_length e b)) h q
 
   -- ---- in the code's order: the fork of the inode, its tests, what was asked
 
-  module _ {s m : ℕ} where
-    pub inode_inside : At s m ≡ attributes_fork e b → s ≤ length b
-    inode_inside h = let z = if_passed (attributes_code e b) s m (h ∙ of_inode) in rw z.1 (start_inside z.0)
+  module _ {F : Fork} where
+    of_inode : Ok F ≡ attributes_fork e b → Ok F ≡ fork_if (attributes_code e b) e b
+    unfolding attributes_fork fork_if
+    of_inode h = h
 
-    tested_is : {n : ℕ} → At s m ≡ attributes_fork e b → n ≡ fork_verdict (take (length b - s) (drop s b)) → n ≡ fork_verdict (attr_fork e b)
-    tested_is h q = q ∙ ap fork_verdict (lent_fork s (if_passed (attributes_code e b) s m (h ∙ of_inode)).1)
+    pub inode_inside : Ok F ≡ attributes_fork e b → F.start ≤ length b
+    inode_inside h = let z = if_passed (attributes_code e b) (of_inode h) in rw z.1 (start_inside z.0)
 
-    pub tested_not : {n : ℕ} → At s m ≡ attributes_fork e b → n ≡ fork_verdict (take (length b - s) (drop s b)) → (n ≡ 0 → ⊥)
-        → Refused n ≡ fork_if (verdict e b) e b
+    pub tested_code : {n : ℕ} → Ok F ≡ attributes_fork e b → n ≡ fork_verdict (take (length b - F.start) (drop F.start b)) → n ≡ verdict e b
     unfolding verdict
-    tested_not h q d =
-        ap (λ (x : ℕ). Refused x) (tested_is h q)
-        ∙ then_not (attributes_code e b) (fork_verdict (attr_fork e b)) s m (h ∙ of_inode) (λ k. d (tested_is h q ∙ k))
+    tested_code h q =
+        let z = if_passed (attributes_code e b) (of_inode h) in
+        then_is (sym z.0) (q ∙ ap fork_verdict (lent_fork F.start z.1))
 
-    pub tested_at : {n : ℕ} → At s m ≡ attributes_fork e b → n ≡ fork_verdict (take (length b - s) (drop s b)) → n ≡ 0 → At s m ≡ fork_if (verdict e b) e b
-    unfolding verdict
-    tested_at h q d = then_at (attributes_code e b) (fork_verdict (attr_fork e b)) s m (h ∙ of_inode) (sym (tested_is h q) ∙ d)
+    pub tested_at : Ok F ≡ attributes_fork e b → 0 ≡ fork_verdict (take (length b - F.start) (drop F.start b)) → Ok F ≡ fork_if (verdict e b) e b
+    tested_at h q = if_on (attributes_code e b) (of_inode h) (tested_code h q)
 
     -- the fork that may be worked on
-    pub located : At s m ≡ fork_if (verdict e b) e b
-        → (s ≤ length b) × ((fork_verdict (take (length b - s) (drop s b)) ≡ 0) × (s + length (take (length b - s) (drop s b)) ≤ 2048))
+    pub located : Ok F ≡ fork_if (verdict e b) e b
+        → (F.start ≤ length b) × ((fork_verdict (take (length b - F.start) (drop F.start b)) ≡ 0) × (F.start + length (take (length b - F.start) (drop F.start b)) ≤ 2048))
     located h =
-        let z = if_passed (verdict e b) s m h in
+        let z = if_passed (verdict e b) h in
         let i : attributes_code e b ≡ 0 = inode_passed z.0 in
-        rw (lent_fork s z.1, z.1) (start_inside i, (fork_passed z.0, omega (arith, fork_length i, inode_short i)))
+        rw (lent_fork F.start z.1, z.1) (start_inside i, (fork_passed z.0, omega (arith, fork_length i, inode_short i)))
 
     module _ (name : List ℕ) (flags : ℕ) where
-      pub asked_not : At s m ≡ fork_if (verdict e b) e b → legal_key name flags ≡ false → Refused ASKED ≡ fork_if (asked_code e b name flags) e b
+      pub asked_not : Ok F ≡ fork_if (verdict e b) e b → legal_key name flags ≡ false → Err ASKED ≡ fork_if (asked_code e b name flags) e b
+      unfolding asked_code fork_if
+      asked_not h k = rw ((if_passed (verdict e b) h).0, k)
+
+      pub asked_at : Ok F ≡ fork_if (verdict e b) e b → legal_key name flags ≡ true → Ok F ≡ fork_if (asked_code e b name flags) e b
       unfolding asked_code
-      asked_not h k = rw k (then_not (verdict e b) 11 s m h (λ q. omega arith))
+      asked_at h k = if_on (verdict e b) h (rw ((if_passed (verdict e b) h).0, k))
 
-      pub asked_at : At s m ≡ fork_if (verdict e b) e b → legal_key name flags ≡ true → At s m ≡ fork_if (asked_code e b name flags) e b
-      unfolding asked_code
-      asked_at h k = rw k (then_at (verdict e b) 0 s m h refl)
+      pub asked_tested : Ok F ≡ fork_if (asked_code e b name flags) e b → Ok F ≡ fork_if (verdict e b) e b
+      asked_tested h = if_on (asked_code e b name flags) h (sym (tests_passed name flags (if_passed (asked_code e b name flags) h).0))
 
-      pub asked_tested : At s m ≡ fork_if (asked_code e b name flags) e b → At s m ≡ fork_if (verdict e b) e b
-      asked_tested h = let z = (if_passed (asked_code e b name flags) s m h).0 in rw (tests_passed name flags z) (rw z at h)
+  module _ (x : Refusal) where
+    pub tested_refused : Err (number x) ≡ attributes_fork e b → number x ≡ verdict e b
+    unfolding verdict attributes_fork
+    tested_refused h = first_refused x (fork_verdict (attr_fork e b)) (err_answered (fork_at (attr_start e b) (attr_length e b)) h)
 
-  module _ {n : ℕ} where
-    pub tested_refused : Refused n ≡ attributes_fork e b → Refused n ≡ fork_if (verdict e b) e b
-    unfolding verdict
-    tested_refused h = then_refused (attributes_code e b) (fork_verdict (attr_fork e b)) n (h ∙ of_inode)
-
-    pub asked_refused : (name : List ℕ) (flags : ℕ) → Refused n ≡ fork_if (verdict e b) e b → Refused n ≡ fork_if (asked_code e b name flags) e b
+    pub asked_refused : (name : List ℕ) (flags : ℕ) → Err (number x) ≡ fork_if (verdict e b) e b → number x ≡ asked_code e b name flags
     unfolding asked_code
-    asked_refused name flags h = then_refused (verdict e b) (cond (legal_key name flags) 0 11) n h
-
--- what a test answers
-module _ (e : Edition) (b : List ℕ) where
-  pub test_at : {s m : ℕ} → At s m ≡ fork_if (verdict e b) e b → 0 ≡ verdict e b
-  test_at h = sym (if_passed e b (verdict e b) _ _ h).0
-
-  pub test_refused : {n : ℕ} → Refused n ≡ fork_if (verdict e b) e b → n ≡ verdict e b
-  test_refused h = (if_refused e b (verdict e b) _ h).0
+    asked_refused name flags h = first_refused x (cond (legal_key name flags) 0 11) (if_refused x h)

@@ -7,25 +7,29 @@ use mathlib.Core.Path.{◌≡◌, refl, sym, ◌∙◌, ap}
 use mathlib.Core.List.{List, [], ◌∷◌, ◌++◌}
 use lib.Dec.{eqb}
 use lib.ListN.{length, take, drop}
-use borrow.Author.Tests.{eqb-true, ne_eqb, ltb-true, not-true}
-use Rattle.refusal.specs.Refusal.{ABSENT}
+use borrow.Author.Tests.{ltb-true, not-true}
+use Rattle.std.specs.Prelude.{Result, Ok, Err}
+use Rattle.std.specs.Result.{IsErrAnd}
+use Rattle.refusal.specs.declared.Refusal.{Refusal}
+use Rattle.refusal.specs.Refusal.{ABSENT, number, numbered}
+use Rattle.refusal.proofs.Passed.{passed_on, outcome_answered, ok_done, ok_given, code_answered}
 use Rattle.be.specs.Lists.{some_of, keep}
+use Rattle.be.proofs.Codes.{both}
 use Rattle.be.proofs.Bools.{by_cases, neither, clash, and_left, and_right, keep_append}
 use Rattle.be.proofs.Splits.{some_mid, some_at, every_at}
 use Rattle.edition.specs.declared.Edition.{Edition}
 use Rattle.dinode.specs.Core.{attr_start, attr_fork}
-use Rattle.dinode.specs.declared.Fork.TheVariants.{At as ForkAt, Refused as ForkRefused}
+use Rattle.dinode.specs.declared.Fork.{Fork}
 use Rattle.attr_sf.specs.declared.Place.{Place}
-use Rattle.attr_sf.specs.declared.Place.TheVariants.{At, Refused}
 use Rattle.attr_sf.specs.Entry.{Entry, is_key, distinct, run}
 use Rattle.attr_sf.specs.Fork.{header, totsize, count, stored, entry_at, key_place, fork_verdict, name_legal_of, flags_legal_of}
-use Rattle.attr_sf.specs.Calls.{verdict, asked_code, held, held_request, lookup_code, value_at, found_in, lookup, place_code, start_of, length_of, part_of, lookup_start, lookup_length}
+use Rattle.attr_sf.specs.Calls.{verdict, asked_code, held, held_request, lookup_code, value_at, found_in, lookup, place_code, start_of, length_of, part_of, lookup_start, lookup_length, LookupPromise}
 use Rattle.attr_sf.specs.Inner.{fork_if}
 use Rattle.attr_sf.specs.Laws.{Found, FoundLaw, AbsentLaw}
 use Rattle.attr_sf.proofs.Tiling.{seek_some}
 use Rattle.attr_sf.proofs.ForkTests.{all_ends, all_named, all_flagged, all_once}
-use Rattle.attr_sf.proofs.InodeTests.{inode_passed, fork_passed, fork_length, tests_passed, still_asked, lent_fork, if_passed, if_refused}
-use Rattle.attr_sf.proofs.Seeking.{at_never, found_inside}
+use Rattle.attr_sf.proofs.InodeTests.{inode_passed, fork_passed, fork_length, tests_passed, still_asked, lent_fork, first_refused, if_passed, if_refused}
+use Rattle.attr_sf.proofs.Seeking.{value_fits}
 use Rattle.attr_sf.proofs.OtherEntries.{key_own, key_turned, others_none}
 use Rattle.attr_sf.proofs.AroundEntry.{splits}
 use Rattle.attr_sf.proofs.EntryParts.{parts_law}
@@ -81,66 +85,67 @@ module _ (f name : List ℕ) (flags : ℕ) (z : fork_verdict f ≡ 0) where
 -- ---- the answer in the code's order, for any bytes
 
 module _ (e : Edition) (b name : List ℕ) (flags : ℕ) where
-  pub looked_at : {s m : ℕ} {v : Place} → ForkAt s m ≡ fork_if (asked_code e b name flags) e b
-      → v ≡ found_in s (take (length b - s) (drop s b)) name flags → v ≡ lookup e b name flags
-  unfolding lookup
-  looked_at {s} {m} h q =
-      let z = if_passed e b (asked_code e b name flags) s m h in q ∙ rw (lent_fork e b s z.1, z.1, z.0)
+  -- where the value lies, if there is one
+  there_at : Place
+  there_at = value_at (attr_start e b) (attr_fork e b) (key_place (attr_fork e b) name flags)
 
-  pub looked_refused : {n : ℕ} → ForkRefused n ≡ fork_if (asked_code e b name flags) e b → Refused n ≡ lookup e b name flags
-  unfolding lookup
-  looked_refused {n} h =
-      let z = if_refused e b (asked_code e b name flags) n h in
-      ap (λ (x : ℕ). Refused x) z.0 ∙ rw (ne_eqb (asked_code e b name flags) 0 z.1)
+  pub looked_at : {F : Fork} {v : Result Place ℕ} → Ok F ≡ fork_if (asked_code e b name flags) e b
+      → v ≡ found_in F.start (take (length b - F.start) (drop F.start b)) name flags → v ≡ lookup e b name flags
+  unfolding lookup lookup_code found_in
+  looked_at {F} h q =
+      let z = if_passed e b (asked_code e b name flags) h in q ∙ rw (lent_fork e b F.start z.1, z.1, z.0)
+
+  pub looked_refused : (r : Result Place Refusal) (x : Refusal) → IsErrAnd r (λ y. y ≡ x) → Err (number x) ≡ fork_if (asked_code e b name flags) e b
+      → numbered r ≡ lookup e b name flags
+  unfolding lookup lookup_code there_at
+  looked_refused r x i h = passed_on r x there_at i (first_refused x (held_request (attr_fork e b) name flags) (if_refused e b x h))
 
   -- a value that is found lies in the inode
-  pub looked_inside : {a n : ℕ} → At a n ≡ lookup e b name flags → a + n ≤ length b
-  unfolding lookup
-  looked_inside {a} {n} h =
-      by_cases (eqb (asked_code e b name flags) 0)
-      (λ q.
-      let t : verdict e b ≡ 0 = tests_passed e b name flags (eqb-true _ _ q) in
-      omega (arith, found_inside (attr_fork e b) name flags (attr_start e b) a n (fork_passed e b t) (rw q at h), fork_length e b (inode_passed e b t)))
-      (λ q. absurd (at_never (rw q at h)))
+  pub looked_inside : {p : Place} → Ok p ≡ lookup e b name flags → p.start + p.len ≤ length b
+  unfolding lookup lookup_code there_at
+  looked_inside {p} h =
+      let w = both (asked_code e b name flags) (held_request (attr_fork e b) name flags) (sym (ok_done there_at h)) in
+      let t : verdict e b ≡ 0 = tests_passed e b name flags w.0 in
+      rw (ok_given (lookup_code e b name flags) there_at h)
+      (omega (arith, value_fits (attr_fork e b) name flags (attr_start e b) (fork_passed e b t) w.1, fork_length e b (inode_passed e b t)))
 
   -- its number
   pub code_is : place_code (lookup e b name flags) ≡ lookup_code e b name flags
-  unfolding lookup found_in lookup_code held_request
-  code_is =
-      by_cases (eqb (asked_code e b name flags) 0)
-      (λ q. by_cases (held (attr_fork e b) name flags) (λ h. rw (q, h)) (λ h. rw (q, h))) (λ q. rw q)
+  unfolding lookup there_at
+  code_is = outcome_answered (lookup_code e b name flags) there_at
 
   -- and its values
   pub start_is : start_of (lookup e b name flags) ≡ lookup_start e b name flags
-  unfolding lookup found_in lookup_start lookup_code held_request
-  start_is =
-      by_cases (eqb (asked_code e b name flags) 0)
-      (λ q. by_cases (held (attr_fork e b) name flags) (λ h. rw (q, h)) (λ h. rw (q, h))) (λ q. rw (q, q))
+  unfolding lookup lookup_start
+  start_is = by_cases (eqb (lookup_code e b name flags) 0) (λ q. rw q) (λ q. rw q)
 
   pub length_is : length_of (lookup e b name flags) ≡ lookup_length e b name flags
-  unfolding lookup found_in lookup_length lookup_code held_request
-  length_is =
-      by_cases (eqb (asked_code e b name flags) 0)
-      (λ q. by_cases (held (attr_fork e b) name flags) (λ h. rw (q, h)) (λ h. rw (q, h))) (λ q. rw (q, q))
+  unfolding lookup lookup_length
+  length_is = by_cases (eqb (lookup_code e b name flags) 0) (λ q. rw q) (λ q. rw q)
+
+  -- what a lookup promises
+  pub promised : (r : Result Place Refusal) → numbered r ≡ lookup e b name flags → LookupPromise e b name flags r
+  unfolding lookup there_at
+  promised r h = (h, code_answered r (lookup_code e b name flags) there_at h, ap start_of h ∙ start_is, ap length_of h ∙ length_is)
 
 module _ (e : Edition) (b name : List ℕ) (flags : ℕ) (a : asked_code e b name flags ≡ 0) where
   z : fork_verdict (attr_fork e b) ≡ 0
   z = fork_passed e b (tests_passed e b name flags a)
 
   pub looked_at_place : held (attr_fork e b) name flags ≡ true
-      → lookup e b name flags ≡ value_at (attr_start e b) (attr_fork e b) (key_place (attr_fork e b) name flags)
-  unfolding lookup found_in
+      → lookup e b name flags ≡ Ok (value_at (attr_start e b) (attr_fork e b) (key_place (attr_fork e b) name flags))
+  unfolding lookup lookup_code held_request
   looked_at_place q = rw (a, q)
 
   looked_found : held (attr_fork e b) name flags ≡ true
       → part_of b (lookup e b name flags) ≡ (entry_at (attr_fork e b) (key_place (attr_fork e b) name flags)).value
   looked_found q = rw (looked_at_place q) (parts_law e b (key_place (attr_fork e b) name flags)).1
 
-  looked_none : held (attr_fork e b) name flags ≡ false → lookup e b name flags ≡ Refused ABSENT
-  unfolding lookup found_in
+  looked_none : held (attr_fork e b) name flags ≡ false → lookup e b name flags ≡ Err ABSENT
+  unfolding lookup lookup_code held_request
   looked_none q = rw (a, q)
 
-  pub absent_if : some_of (is_key name flags) (stored (attr_fork e b)) ≡ false → lookup e b name flags ≡ Refused ABSENT
+  pub absent_if : some_of (is_key name flags) (stored (attr_fork e b)) ≡ false → lookup e b name flags ≡ Err ABSENT
   absent_if n = looked_none (held_some (attr_fork e b) name flags z ∙ n)
 
   pub value_by : part_of b (lookup e b name flags) ≡ value_among (keep (is_key name flags) (stored (attr_fork e b)))
@@ -238,7 +243,7 @@ module _ (e : Edition) (b : List ℕ) (front : List Entry) (x : Entry) (back : L
       record {
         there = code_by e b x.name x.flags may ∙ ap code_among kept_own;
         value = value_by e b x.name x.flags may ∙ ap value_among kept_own;
-        place = looked_at_place e b x.name x.flags may stands ∙ ap (value_at (attr_start e b) f) at_own;
+        place = looked_at_place e b x.name x.flags may stands ∙ ap (λ (n : ℕ). Ok (value_at (attr_start e b) f n)) at_own;
       }
 
 pub found_law : (e : Edition) → FoundLaw e

@@ -9,22 +9,18 @@ use mathlib.Core.List.{List}
 use lib.Dec.{ltb}
 use lib.ListN.{length}
 use borrow.Author.Tests.{lt-ltb, le-ltb, ltb-true}
+use Rattle.std.specs.Prelude.{Result, Ok, Err}
 use Rattle.refusal.specs.Refusal.{ABSENT}
 use Rattle.be.specs.Bytes.{byte, field}
 use Rattle.be.proofs.Bools.{by_cases}
 use Rattle.records.specs.Records.{tiled}
 use Rattle.attr_sf.specs.declared.Place.{Place}
-use Rattle.attr_sf.specs.declared.Place.TheVariants.{At, Refused}
 use Rattle.attr_sf.specs.declared.Plan.{Plan}
 use Rattle.attr_sf.specs.Fork.{header, totsize, count, size_at, fork_verdict, key_place, seek}
-use Rattle.attr_sf.specs.Calls.{held, found_in, attr_at}
+use Rattle.attr_sf.specs.Calls.{held, held_request, found_in, attr_at, value_at}
 use Rattle.attr_sf.specs.Inner.{plan_of}
 use Rattle.attr_sf.proofs.Tiling.{three, seek_count, seek_fits, seek_within, value_inside}
 use Rattle.attr_sf.proofs.ForkTests.{all_tiled, all_ends, end_inside}
-
--- a refusal is no place
-pub at_never : {a n k : ℕ} → ◌≡◌ {A = Place} (At a n) (Refused k) → ⊥
-at_never h = let q : ◌≡◌ {A = ℕ} 0 1 = cc in omega arith
 
 -- the entries' end and count, as they are read
 pub seek_may : (f : List ℕ) {end n : ℕ} → end ≡ field 0 2 f → n ≡ byte 2 f → fork_verdict f ≡ 0 → (tiled (size_at f) end n header ≡ true) × (end ≤ length f)
@@ -65,25 +61,22 @@ module _ (f name : List ℕ) (flags : ℕ) where
     at_count m = rw m (count_above z below)
 
   pub found_at : (s : ℕ) {p t : ℕ} → p ≡ key_place f name flags → t ≡ field 0 2 f → p < t
-      → At (s + (p + 3 + byte p f)) (byte (p + 1) f) ≡ found_in s f name flags
-  unfolding found_in held attr_at totsize
+      → ◌≡◌ {A = Result Place ℕ} (Ok (record { start = s + (p + 3 + byte p f); len = byte (p + 1) f })) (found_in s f name flags)
+  unfolding found_in held_request held attr_at totsize
   found_at s {p} {t} q d h = rw (← q, ← d, lt-ltb p t h)
 
-  pub found_not : (s : ℕ) {p t : ℕ} → p ≡ key_place f name flags → t ≡ field 0 2 f → t ≤ p → Refused ABSENT ≡ found_in s f name flags
-  unfolding found_in held totsize
+  pub found_not : (s : ℕ) {p t : ℕ} → p ≡ key_place f name flags → t ≡ field 0 2 f → t ≤ p → Err ABSENT ≡ found_in s f name flags
+  unfolding found_in held_request held totsize
   found_not s {p} {t} q d h = rw (← q, ← d, le-ltb p t h)
 
   -- a value that is found lies in the fork that starts at s
-  pub found_inside : (s a n : ℕ) → fork_verdict f ≡ 0 → At a n ≡ found_in s f name flags → a + n ≤ s + length f
-  unfolding found_in held attr_at
-  found_inside s a n z h =
+  pub value_fits : (s : ℕ) → fork_verdict f ≡ 0 → held_request f name flags ≡ 0
+      → (value_at s f (key_place f name flags)).start + (value_at s f (key_place f name flags)).len ≤ s + length f
+  unfolding held_request held attr_at
+  value_fits s z h =
       by_cases (ltb (key_place f name flags) (totsize f))
-      (λ q.
-      let r : At a n ≡ At (s + (key_place f name flags + 3 + byte (key_place f name flags) f)) (byte (key_place f name flags + 1) f) = rw q at h in
-      let x : a ≡ s + (key_place f name flags + 3 + byte (key_place f name flags) f) = cc in
-      let y : n ≡ byte (key_place f name flags + 1) f = cc in
-      omega (arith, value_inside f (key_place f name flags) (totsize f) (place_fits z (ltb-true _ _ q)), end_inside f z))
-      (λ q. absurd (at_never (rw q at h)))
+      (λ q. omega (arith, value_inside f (key_place f name flags) (totsize f) (place_fits z (ltb-true _ _ q)), end_inside f z))
+      (λ q. absurd (let r : ◌≡◌ {A = ℕ} 13 0 = rw q at h in omega arith))
 
 -- the plan
 module _ (f name : List ℕ) (flags : ℕ) {p t n : ℕ} (q : p ≡ key_place f name flags) (d : t ≡ field 0 2 f) (m : n ≡ byte 2 f) where

@@ -2,37 +2,38 @@
 -- Assumes nothing.
 use Prim.Native.Nat.{ℕ, ◌+◌, ◌-◌, ◌≤◌}
 use native.Mathlib.Omega.{arith}
-use mathlib.Core.Bool.{true, false}
+use mathlib.Core.Bool.{true, false, cond}
 use mathlib.Core.Path.{◌≡◌, sym, ◌∙◌, ap}
 use mathlib.Core.List.{List}
 use lib.Dec.{eqb}
 use lib.ListN.{length, take, drop}
 use borrow.Author.Tests.{eq-eqb, ne_eqb}
-use Rattle.refusal.specs.Refusal.{ASKED}
+use Rattle.std.specs.Prelude.{Result, Ok, Err, Some, None}
+use Rattle.std.specs.Result.{IsErrAnd}
+use Rattle.refusal.specs.declared.Refusal.{Refusal}
+use Rattle.refusal.specs.Refusal.{ASKED, number, numbered}
+use Rattle.refusal.proofs.Passed.{passed_on, code_answered}
 use Rattle.be.proofs.Bools.{by_cases}
 use Rattle.be.specs.Bytes.{byte, field}
 use Rattle.records.specs.Records.{stands}
 use Rattle.records.proofs.Starts.{stands_fits}
 use Rattle.edition.specs.declared.Edition.{Edition}
-use Rattle.dinode.specs.Core.{attr_fork}
-use Rattle.dinode.specs.declared.Fork.TheVariants.{At, Refused as ForkRefused}
-use Rattle.attr_sf.specs.declared.Seen.TheVariants.{Live, End}
+use Rattle.dinode.specs.Core.{attr_start, attr_fork}
+use Rattle.dinode.specs.declared.Fork.{Fork}
 use Rattle.attr_sf.specs.declared.Step.{Step}
-use Rattle.attr_sf.specs.declared.Walked.{Walked}
-use Rattle.attr_sf.specs.declared.Walked.TheVariants.{Stepped, Refused}
 use Rattle.attr_sf.specs.Fork.{fork_verdict, header, totsize, count, size_at}
 use Rattle.attr_sf.specs.Calls.{verdict, attr_at}
-use Rattle.attr_sf.specs.Walk.{live_step, end_step, step_in, walked_in, walk_step, step_code, walked_code, walked_next, walked_seen, step_next, step_seen}
+use Rattle.attr_sf.specs.Walk.{live_step, end_step, step_in, walked_in, walk_step, step_code, walked_next, walked_seen, step_next, step_seen, StepPromise}
 use Rattle.attr_sf.specs.Inner.{fork_if}
 use Rattle.attr_sf.proofs.ForkTests.{all_ends, end_inside}
-use Rattle.attr_sf.proofs.InodeTests.{lent_fork, if_passed, if_refused}
+use Rattle.attr_sf.proofs.InodeTests.{lent_fork, first_refused, if_passed, if_refused}
 
 -- a step at an entry, as it is read
 pub live_is : (s : ℕ) (f : List ℕ) (place n v g z : ℕ) → n ≡ byte place f → v ≡ byte (place + 1) f → g ≡ byte (place + 2) f → z ≡ size_at f place
     → ◌≡◌ {A = Step}
     (record {
       next = place + z;
-      seen = Live (record { flags = g; name_start = s + (place + 3); name_len = n; value_start = s + (place + 3 + n); value_len = v });
+      seen = Some (record { flags = g; name_start = s + (place + 3); name_len = n; value_start = s + (place + 3 + n); value_len = v });
     }) (live_step s f place)
 unfolding live_step attr_at
 live_is s f place n v g z a b d h = rw (a, b, d, h)
@@ -46,44 +47,42 @@ module _ (f : List ℕ) (place : ℕ) where
         omega (arith, stands_fits (size_at f) place (count f) header (rw m at h) (λ q. d (q ∙ all_ends f z ∙ sym e)), all_ends f z, end_inside f z)
 
     module _ (s : ℕ) where
-      pub walk_not : stands (size_at f) n header place ≡ false → Refused ASKED ≡ walked_in s f place
+      pub walk_not : stands (size_at f) n header place ≡ false → Err ASKED ≡ walked_in s f place
       unfolding walked_in count
       walk_not h = rw (← m, h)
 
-      pub walk_end : stands (size_at f) n header place ≡ true → place ≡ end → Stepped (record { next = place; seen = End }) ≡ walked_in s f place
+      pub walk_end : stands (size_at f) n header place ≡ true → place ≡ end → Ok (record { next = place; seen = None }) ≡ walked_in s f place
       unfolding walked_in step_in end_step totsize count
       walk_end h q = rw (← m, ← e, h, eq-eqb place end q)
 
-      pub walk_live : {r : Step} → stands (size_at f) n header place ≡ true → (place ≡ end → ⊥) → r ≡ live_step s f place → Stepped r ≡ walked_in s f place
+      pub walk_live : {r : Step} → stands (size_at f) n header place ≡ true → (place ≡ end → ⊥) → r ≡ live_step s f place → Ok r ≡ walked_in s f place
       unfolding walked_in step_in totsize count
       walk_live h q r = rw (← m, ← e, h, ne_eqb place end q, r)
 
 module _ (e : Edition) (b : List ℕ) (place : ℕ) where
-  pub walked_at : (s m : ℕ) (r : Walked) → At s m ≡ fork_if (verdict e b) e b → r ≡ walked_in s (take (length b - s) (drop s b)) place → r ≡ walk_step e b place
-  unfolding walk_step
-  walked_at s m r h q =
-      let z = if_passed e b (verdict e b) s m h in q ∙ rw (lent_fork e b s z.1, z.1, z.0)
-
-  pub walked_refused : (n : ℕ) → ForkRefused n ≡ fork_if (verdict e b) e b → Refused n ≡ walk_step e b place
-  unfolding walk_step
-  walked_refused n h = let z = if_refused e b (verdict e b) n h in ap (λ (x : ℕ). Refused x) z.0 ∙ rw (ne_eqb (verdict e b) 0 z.1)
-
-  -- a step's number
-  pub step_is : walked_code (walk_step e b place) ≡ step_code e b place
+  pub walked_at : {F : Fork} {r : Result Step ℕ} → Ok F ≡ fork_if (verdict e b) e b → r ≡ walked_in F.start (take (length b - F.start) (drop F.start b)) place
+      → r ≡ walk_step e b place
   unfolding walk_step walked_in step_code
-  step_is =
-      by_cases (eqb (verdict e b) 0)
-      (λ q. by_cases (stands (size_at (attr_fork e b)) (count (attr_fork e b)) header place) (λ h. rw (q, h)) (λ h. rw (q, h))) (λ q. rw q)
+  walked_at {F} h q =
+      let z = if_passed e b (verdict e b) h in q ∙ rw (lent_fork e b F.start z.1, z.1, z.0)
 
-  -- and its values
+  pub walked_refused : (r : Result Step Refusal) (x : Refusal) → IsErrAnd r (λ y. y ≡ x) → Err (number x) ≡ fork_if (verdict e b) e b
+      → numbered r ≡ walk_step e b place
+  unfolding walk_step step_code
+  walked_refused r x i h =
+      passed_on r x (step_in (attr_start e b) (attr_fork e b) place) i
+      (first_refused x (cond (stands (size_at (attr_fork e b)) (count (attr_fork e b)) header place) 0 11) (if_refused e b x h))
+
+  -- a step's values
   pub next_is : walked_next (walk_step e b place) ≡ step_next e b place
-  unfolding walk_step walked_in step_next step_code
-  next_is =
-      by_cases (eqb (verdict e b) 0)
-      (λ q. by_cases (stands (size_at (attr_fork e b)) (count (attr_fork e b)) header place) (λ h. rw (q, h)) (λ h. rw (q, h))) (λ q. rw (q, q))
+  unfolding walk_step step_next
+  next_is = by_cases (eqb (step_code e b place) 0) (λ q. rw q) (λ q. rw q)
 
   pub seen_is : walked_seen (walk_step e b place) ≡ step_seen e b place
-  unfolding walk_step walked_in step_seen step_code
-  seen_is =
-      by_cases (eqb (verdict e b) 0)
-      (λ q. by_cases (stands (size_at (attr_fork e b)) (count (attr_fork e b)) header place) (λ h. rw (q, h)) (λ h. rw (q, h))) (λ q. rw (q, q))
+  unfolding walk_step step_seen
+  seen_is = by_cases (eqb (step_code e b place) 0) (λ q. rw q) (λ q. rw q)
+
+  -- what a step promises
+  pub promised : (r : Result Step Refusal) → numbered r ≡ walk_step e b place → StepPromise e b place r
+  unfolding walk_step
+  promised r h = (h, code_answered r (step_code e b place) (step_in (attr_start e b) (attr_fork e b) place) h, ap walked_next h ∙ next_is, ap walked_seen h ∙ seen_is)

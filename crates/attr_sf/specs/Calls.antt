@@ -1,7 +1,8 @@
 -- What the calls on an inode's attributes answer, and the bytes that they leave.
 -- Assumes nothing.
-use Rattle.std.specs.Prelude.{ℕ, ◌+◌, ◌≡◌, Bool, cond, ◌&&◌, List, [], ◌∷◌, ◌++◌, eqb, leb, ltb, length}
-use Rattle.refusal.specs.Refusal.{ASKED, ABSENT, NOROOM}
+use Rattle.std.specs.Prelude.{ℕ, ◌+◌, ◌≡◌, Bool, cond, ◌&&◌, List, [], ◌∷◌, ◌++◌, eqb, leb, ltb, length, Result, Ok, Err}
+use Rattle.refusal.specs.declared.Refusal.{Refusal}
+use Rattle.refusal.specs.Refusal.{ASKED, ABSENT, NOROOM, code, numbered, answered, outcome}
 use Rattle.be.specs.Codes.{◌unless◌then◌, ◌and_then◌}
 use Rattle.be.specs.Bytes.{byte, part, put}
 use Rattle.edition.specs.declared.Edition.{Edition}
@@ -10,7 +11,6 @@ use Rattle.attr_sf.specs.Entry.{Entry, entry, legal_key, others}
 use Rattle.attr_sf.specs.Fork.{totsize, stored, fork_verdict, key_place, fork_with, fits}
 use Rattle.attr_sf.specs.declared.Attr.{Attr}
 use Rattle.attr_sf.specs.declared.Place.{Place}
-use Rattle.attr_sf.specs.declared.Place.TheVariants.{At, Refused}
 
 -- ---- the tests
 
@@ -48,32 +48,31 @@ attr_at s f at =
 
 -- where its value lies
 abbrev pub value_at : ℕ → List ℕ → ℕ → Place
-value_at s f at = At (attr_at s f at).value_start (attr_at s f at).value_len
+value_at s f at = record { start = (attr_at s f at).value_start; len = (attr_at s f at).value_len }
 
 -- where the value asked for lies in the inode whose attribute fork starts at s
-unfoldable pub found_in : ℕ → List ℕ → List ℕ → ℕ → Place
-found_in s f name flags = Refused ABSENT unless held f name flags then value_at s f (key_place f name flags)
+unfoldable pub found_in : ℕ → List ℕ → List ℕ → ℕ → Result Place ℕ
+found_in s f name flags = answered (held_request f name flags) (value_at s f (key_place f name flags))
 
--- what a lookup answers: where the value lies in the inode, or the refusal
-unfoldable pub lookup : Edition → List ℕ → List ℕ → ℕ → Place
+-- what a lookup answers: where the value lies in the inode, or the refusal's number
+unfoldable pub lookup : Edition → List ℕ → List ℕ → ℕ → Result Place ℕ
 lookup e b name flags =
-    cond (eqb (asked_code e b name flags) 0) (found_in (attr_start e b) (attr_fork e b) name flags) (Refused (asked_code e b name flags))
+    answered (lookup_code e b name flags) (value_at (attr_start e b) (attr_fork e b) (key_place (attr_fork e b) name flags))
 
 -- a lookup's number, 0 where there is a value
-abbrev pub place_code : Place → ℕ
-place_code (At a n) = 0
-place_code (Refused k) = k
+abbrev pub place_code : Result Place ℕ → ℕ
+place_code = outcome
 
 -- and the part of the inode that is handed back: a found value in place, also when valuelen is 0; a refused request's empty part is at the inode's start
-abbrev pub start_of : Place → ℕ
-start_of (At a n) = a
-start_of (Refused k) = 0
+abbrev pub start_of : Result Place ℕ → ℕ
+start_of (Ok p) = p.start
+start_of (Err k) = 0
 
-abbrev pub length_of : Place → ℕ
-length_of (At a n) = n
-length_of (Refused k) = 0
+abbrev pub length_of : Result Place ℕ → ℕ
+length_of (Ok p) = p.len
+length_of (Err k) = 0
 
-abbrev pub part_of : List ℕ → Place → List ℕ
+abbrev pub part_of : List ℕ → Result Place ℕ → List ℕ
 part_of b v = part (start_of v) (length_of v) b
 
 -- where the value starts and how long it is, when it is found
@@ -86,9 +85,10 @@ lookup_length e b name flags =
     cond (eqb (lookup_code e b name flags) 0) (attr_at (attr_start e b) (attr_fork e b) (key_place (attr_fork e b) name flags)).value_len 0
 
 -- what a lookup promises of its answer: the answer itself, and its number and values
-abbrev pub LookupPromise : Edition → List ℕ → List ℕ → ℕ → Place → Type 0
+abbrev pub LookupPromise : Edition → List ℕ → List ℕ → ℕ → Result Place Refusal → Type 0
 LookupPromise e b name flags r =
-    (r ≡ lookup e b name flags) × (place_code r ≡ lookup_code e b name flags) × (start_of r ≡ lookup_start e b name flags) × (length_of r ≡ lookup_length e b name flags)
+    (numbered r ≡ lookup e b name flags) × (code r ≡ lookup_code e b name flags)
+    × (start_of (numbered r) ≡ lookup_start e b name flags) × (length_of (numbered r) ≡ lookup_length e b name flags)
 
 -- ---- changes
 

@@ -1,14 +1,13 @@
 -- What the code's inner functions promise: for code and proofs alone, no call that README lists promises anything by these.
 -- Assumes nothing.
-use Rattle.std.specs.Prelude.{ℕ, ◌+◌, ◌-◌, ◌≡◌, cond, List, eqb, ltb, length, replicate}
-use Rattle.refusal.specs.Refusal.{NAME, NUMBER}
+use Rattle.std.specs.Prelude.{ℕ, ◌+◌, ◌-◌, ◌≡◌, cond, List, ltb, eqb, length, replicate, Result}
+use Rattle.refusal.specs.Refusal.{NAME, NUMBER, answered}
 use Rattle.be.specs.Codes.{◌unless◌then◌}
 use Rattle.be.specs.Lists.{every}
 use Rattle.be.specs.Bytes.{part, put}
 use Rattle.edition.specs.declared.Edition.{Edition}
-use Rattle.dinode.specs.Core.{attr_start, attr_length}
+use Rattle.dinode.specs.Core.{attr_start, attr_length, fork_at}
 use Rattle.dinode.specs.declared.Fork.{Fork}
-use Rattle.dinode.specs.declared.Fork.TheVariants.{At, Refused}
 use Rattle.attr_sf.specs.Entry.{Entry, others}
 use Rattle.attr_sf.specs.Fork.{totsize, count, stored, size_at, key_place, name_legal_of, flags_legal_of, fork_with}
 use Rattle.attr_sf.specs.Calls.{held_request, room_request, set_entries}
@@ -19,8 +18,8 @@ abbrev pub own_verdict : List Entry → ℕ
 own_verdict xs = NAME unless every name_legal_of xs then NUMBER unless every flags_legal_of xs then 0
 
 -- where the attribute fork lies, or the tests' number
-unfoldable pub fork_if : ℕ → Edition → List ℕ → Fork
-fork_if n e b = cond (eqb n 0) (At (attr_start e b) (attr_length e b)) (Refused n)
+unfoldable pub fork_if : ℕ → Edition → List ℕ → Result Fork ℕ
+fork_if n e b = answered n (fork_at (attr_start e b) (attr_length e b))
 
 -- what a set or a removal reads before it writes: where the entry asked for starts, its size, how many entries are kept, and where they end
 unfoldable pub plan_of : List ℕ → List ℕ → ℕ → Plan

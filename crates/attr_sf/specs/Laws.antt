@@ -1,7 +1,7 @@
 -- What the calls promise beyond their contracts, for every edition of sane sizes. These are claims about the definitions; the proofs are in
 -- proofs/, and for V4 in proofs/V4Laws.antt.
 -- Assumes nothing.
-use Rattle.std.specs.Prelude.{ℕ, ◌+◌, ◌-◌, ◌≡◌, List, [], ◌∷◌, ◌++◌, map, true, false, cond, ◌||◌, eqb, length, take, drop, replicate}
+use Rattle.std.specs.Prelude.{ℕ, ◌+◌, ◌-◌, ◌≡◌, List, [], ◌∷◌, ◌++◌, map, true, false, cond, ◌||◌, eqb, length, take, drop, replicate, Ok, Err}
 use Rattle.refusal.specs.Refusal.{ABSENT}
 use Rattle.be.specs.Bytes.{bytes, byte, part}
 use Rattle.be.specs.Lists.{some_of}
@@ -12,8 +12,6 @@ use Rattle.attr_sf.specs.Entry.{Entry, entry, legal_flags, legal_key, is_key, ot
 use Rattle.attr_sf.specs.Fork.{header, stored, count, totsize, size_at, entry_at}
 use Rattle.attr_sf.specs.Walk.{walk, live_step, end_step}
 use Rattle.attr_sf.specs.Calls.{verdict, asked_code, attr_at, value_at, lookup, place_code, part_of, remove_code, set_code, remove_bytes, set_bytes}
-use Rattle.attr_sf.specs.declared.Walked.TheVariants.{Stepped}
-use Rattle.attr_sf.specs.declared.Place.TheVariants.{Refused}
 
 -- ---- set and removal
 
@@ -33,7 +31,7 @@ pub record Removed (e : Edition) (b name : List ℕ) (flags : ℕ) (c : List ℕ
   -- every other attribute is as before, in order
   pub rest : stored (attr_fork e c) ≡ others name flags (stored (attr_fork e b))
   -- the one asked for is absent
-  pub gone : lookup e c name flags ≡ Refused ABSENT
+  pub gone : lookup e c name flags ≡ Err ABSENT
 
 pub record Set (e : Edition) (b name : List ℕ) (flags : ℕ) (value c : List ℕ) : Type 0 where
   pub left : Kept e b c
@@ -76,7 +74,7 @@ pub record Found (e : Edition) (b : List ℕ) (front : List Entry) (x : Entry) :
   pub there : place_code (lookup e b x.name x.flags) ≡ 0
   -- the part that is handed back is the entry's value, where the entry stands
   pub value : part_of b (lookup e b x.name x.flags) ≡ x.value
-  pub place : lookup e b x.name x.flags ≡ value_at (attr_start e b) (attr_fork e b) (header + length (run front))
+  pub place : lookup e b x.name x.flags ≡ Ok (value_at (attr_start e b) (attr_fork e b) (header + length (run front)))
 
 abbrev pub FoundLaw : Edition → Type 0
 FoundLaw e = (b : List ℕ) (front : List Entry) (x : Entry) (back : List Entry) → verdict e b ≡ 0
@@ -93,8 +91,8 @@ AbsentLaw e = (b name : List ℕ) (flags : ℕ) → verdict e b ≡ 0 → legal_
 abbrev pub WalkLaw : Edition → Type 0
 WalkLaw e = (b : List ℕ) (k : ℕ) → verdict e b ≡ 0
     → walk e b (count (attr_fork e b) + 1 + k) header
-    ≡ map (λ (at : ℕ). Stepped (live_step (attr_start e b) (attr_fork e b) at)) (places (size_at (attr_fork e b)) (count (attr_fork e b)) header)
-    ++ (Stepped (end_step (totsize (attr_fork e b))) ∷ [])
+    ≡ map (λ (at : ℕ). Ok (live_step (attr_start e b) (attr_fork e b) at)) (places (size_at (attr_fork e b)) (count (attr_fork e b)) header)
+    ++ (Ok (end_step (totsize (attr_fork e b))) ∷ [])
 
 -- what a step says of an entry: the parts of the inode that it names are the entry's own
 abbrev pub PartsLaw : Edition → Type 0

@@ -6,6 +6,7 @@ ghost use Rattle.be.specs.Bytes.{put, to_be};
 ghost use Rattle.be.specs.Lists.{some_of};
 ghost use Rattle.records.specs.Records.{tiled, stands};
 ghost use Rattle.edition.specs.Edition.{v4, Sane};
+ghost use Rattle.refusal.specs.Refusal.{code, numbered};
 ghost use Rattle.attr_sf.specs.Entry.{entry, entry_bytes, legal_flags, legal_key, is_key, distinct};
 ghost use Rattle.attr_sf.specs.Fork.{header, totsize, size_at, entry_at, entries, name_legal_of, flags_legal_of};
 ghost use Rattle.attr_sf.specs.Fork.{fork_verdict, seek, key_place};
@@ -16,6 +17,7 @@ ghost use Rattle.attr_sf.specs.Inner.{own_verdict, fork_if, plan_of, closed, For
 
 use dinode::Fork;
 use edition::{Edition, V4};
+use refusal::Refusal;
 
 // Bytes of a fork's header: totsize (2), count, a pad byte. A walk starts here.
 pub const HEADER: usize = 4;
@@ -27,11 +29,11 @@ const SECURE: u8 = 4;
 
 const OTHER: u8 = 255 - TRUSTED - SECURE;
 
-// Where a value lies in the lent inode, start and length, or the number of the refusal.
+// Where a value lies in the lent inode.
 #[derive(Clone, Copy)]
-pub enum Place {
-    At(usize, usize),
-    Refused(usize),
+pub struct Place {
+    pub start: usize,
+    pub len: usize,
 }
 
 // An attribute that the walk meets: name and value by their places in the lent inode.
@@ -44,24 +46,11 @@ pub struct Attr {
     pub value_len: usize,
 }
 
-// Short forms have no gaps.
-#[derive(Clone, Copy)]
-pub enum Seen {
-    Live(Attr),
-    End,
-}
-
-// What a step meets, and where the walk now stands.
+// What a step meets, none at the end (short forms have no gaps), and where the walk now stands.
 #[derive(Clone, Copy)]
 pub struct Step {
     pub next: usize,
-    pub seen: Seen,
-}
-
-#[derive(Clone, Copy)]
-pub enum Walked {
-    Stepped(Step),
-    Refused(usize),
+    pub seen: Option<Attr>,
 }
 
 // At most one of the two namespace bits is set, and no other bit.
@@ -141,26 +130,26 @@ fn key_at<'a, 'b>(f: &'a [u8], at: usize, name: &'b [u8], flags: usize) -> bool
     name::equal(name, &f[from..to])
 }
 
-// Tests 6 and 7 of n entries: 0, or the number of the first that fails.
-fn faults(f: &[u8], n: usize, end: usize) -> usize
+// Tests 6 and 7 of n entries.
+fn check_entries(f: &[u8], n: usize, end: usize) -> Result<(), Refusal>
     requires { (tiled (size_at f.now) end n header ≡ true) × (end ≤ length f.now) }
-    ensures { result ≡ own_verdict (entries f.now n header) }
+    ensures { code result ≡ own_verdict (entries f.now n header) }
 {
     let mut left = n;
     let mut at = HEADER;
     let mut flagged = true;
     while 0 < left {
         if !name_ok(f, at) {
-            return refusal::NAME;
+            return Err(Refusal::Name);
         }
         flagged = flagged & flags_ok(f, at);
         at += size(f, at);
         left -= 1;
     }
     if flagged {
-        return 0;
+        return Ok(());
     }
-    refusal::NUMBER
+    Err(Refusal::Number)
 }
 
 // Where the entry with this name and flags starts, among n entries from a place on; their end when none has them.
@@ -218,59 +207,47 @@ fn once(f: &[u8], n: usize, end: usize) -> bool
     true
 }
 
-// Tests 4 to 10 of a fork: 0, or the number of the first that fails.
-fn code_of_fork(f: &[u8]) -> usize
-    ensures { result ≡ fork_verdict f.now }
+// Tests 4 to 10 of a fork.
+fn check_fork(f: &[u8]) -> Result<(), Refusal>
+    ensures { code result ≡ fork_verdict f.now }
 {
     if f.len() < HEADER {
-        return refusal::SPAN;
+        return Err(Refusal::Span);
     }
     let end = be::be16(f, 0);
     if end < HEADER {
-        return refusal::SPAN;
+        return Err(Refusal::Span);
     }
     if f.len() < end {
-        return refusal::SPAN;
+        return Err(Refusal::Span);
     }
     let n = be::be8(f, 2);
     if !tiles(f, n, end) {
-        return refusal::TILE;
+        return Err(Refusal::Tile);
     }
-    let k = faults(f, n, end);
-    if k != 0 {
-        return k;
-    }
+    check_entries(f, n, end)?;
     if !once(f, n, end) {
-        return refusal::TWICE;
+        return Err(Refusal::Twice);
     }
-    0
+    Ok(())
 }
 
-// Tests 1 to 10: where the attribute fork lies, or the number of the first that fails.
-fn tested(e: Edition, b: &[u8]) -> Fork
+// Tests 1 to 10: where the attribute fork lies.
+fn tested(e: Edition, b: &[u8]) -> Result<Fork, Refusal>
     requires { Sane e }
-    ensures { result ≡ fork_if (verdict e b.now) e b.now }
+    ensures { numbered result ≡ fork_if (verdict e b.now) e b.now }
 {
-    match dinode::fork_of_attributes(e, b) {
-        Fork::At(start, len) => {
-            let n = code_of_fork(&b[start..]);
-            if n != 0 {
-                return Fork::Refused(n);
-            }
-            Fork::At(start, len)
-        }
-        Fork::Refused(n) => Fork::Refused(n),
-    }
+    let fork = dinode::fork_of_attributes(e, b)?;
+    check_fork(&b[fork.start..])?;
+    Ok(fork)
 }
 
-// Tests an inode and its attributes: 0, or the number of the first test that fails.
-pub fn test(b: &[u8]) -> usize
-    ensures { result ≡ verdict v4 b.now }
+// Tests an inode and its attributes.
+pub fn test(b: &[u8]) -> Result<(), Refusal>
+    ensures { code result ≡ verdict v4 b.now }
 {
-    match tested(V4::edition(), b) {
-        Fork::At(_, _) => 0,
-        Fork::Refused(n) => n,
-    }
+    tested(V4::edition(), b)?;
+    Ok(())
 }
 
 // Whether a caller's name and flags are legal.
@@ -281,19 +258,15 @@ fn key_legal(name: &[u8], flags: usize) -> bool
 }
 
 // The tests, then what was asked.
-fn asked<'a, 'b>(e: Edition, b: &'a [u8], name: &'b [u8], flags: usize) -> Fork
+fn asked<'a, 'b>(e: Edition, b: &'a [u8], name: &'b [u8], flags: usize) -> Result<Fork, Refusal>
     requires { Sane e }
-    ensures { result ≡ fork_if (asked_code e b.now name.now flags) e b.now }
+    ensures { numbered result ≡ fork_if (asked_code e b.now name.now flags) e b.now }
 {
-    match tested(e, b) {
-        Fork::At(start, len) => {
-            if !key_legal(name, flags) {
-                return Fork::Refused(refusal::ASKED);
-            }
-            Fork::At(start, len)
-        }
-        Fork::Refused(n) => Fork::Refused(n),
+    let fork = tested(e, b)?;
+    if !key_legal(name, flags) {
+        return Err(Refusal::Asked);
     }
+    Ok(fork)
 }
 
 // Where the entry asked for starts in a fork; the entries' end when there is none.
@@ -307,36 +280,35 @@ fn place_in<'a, 'b>(f: &'a [u8], name: &'b [u8], flags: usize) -> usize
 }
 
 // Where its value lies in the inode whose attribute fork starts at s.
-fn find_in<'a, 'b>(f: &'a [u8], s: usize, name: &'b [u8], flags: usize) -> Place
+fn find_in<'a, 'b>(f: &'a [u8], s: usize, name: &'b [u8], flags: usize) -> Result<Place, Refusal>
     requires { (fork_verdict f.now ≡ 0) × (s + length f.now < 4096) }
-    ensures { result ≡ found_in s f.now name.now flags }
+    ensures { numbered result ≡ found_in s f.now name.now flags }
 {
     let at = place_in(f, name, flags);
     if at < be::be16(f, 0) {
-        let name_len = be::be8(f, at);
-        return Place::At(s + (at + 3 + name_len), be::be8(f, at + 1));
+        let start = s + (at + 3 + be::be8(f, at));
+        let len = be::be8(f, at + 1);
+        return Ok(Place { start, len });
     }
-    Place::Refused(refusal::ABSENT)
+    Err(Refusal::Absent)
 }
 
-fn look<'a, 'b>(e: Edition, b: &'a [u8], name: &'b [u8], flags: usize) -> Place
+fn look<'a, 'b>(e: Edition, b: &'a [u8], name: &'b [u8], flags: usize) -> Result<Place, Refusal>
     requires { Sane e }
-    ensures { result ≡ lookup e b.now name.now flags }
+    ensures { numbered result ≡ lookup e b.now name.now flags }
 {
-    match asked(e, b, name, flags) {
-        Fork::At(start, _) => find_in(&b[start..], start, name, flags),
-        Fork::Refused(n) => Place::Refused(n),
-    }
+    let fork = asked(e, b, name, flags)?;
+    find_in(&b[fork.start..], fork.start, name, flags)
 }
 
-// Looks an attribute up: where its value lies in the inode, or the refusal.
-pub fn lookup<'a, 'b>(b: &'a [u8], name: &'b [u8], flags: usize) -> Place
+// Looks an attribute up: where its value lies in the inode.
+pub fn lookup<'a, 'b>(b: &'a [u8], name: &'b [u8], flags: usize) -> Result<Place, Refusal>
     ensures { LookupPromise v4 b.now name.now flags result }
 {
     look(V4::edition(), b, name, flags)
 }
 
-// The value in place, a part of the inode; an empty part at its start where the lookup is refused: lookup's number tells that from an empty value.
+// The value in place, a part of the inode; an empty part at its start where the lookup is refused: lookup's answer tells that from an empty value.
 pub fn value<'a, 'b>(b: &'a [u8], name: &'b [u8], flags: usize) -> &'a [u8]
     ensures contents { result.now ≡ part_of b.now (lookup v4 b.now name.now flags) }
     ensures place { (result.ref_ptr.0 ≡ b.entry.ref_ptr.0)
@@ -344,8 +316,8 @@ pub fn value<'a, 'b>(b: &'a [u8], name: &'b [u8], flags: usize) -> &'a [u8]
     ensures long { length result.now ≡ length_of (lookup v4 b.now name.now flags) }
 {
     match lookup(b, name, flags) {
-        Place::At(at, len) => &b[at..at + len],
-        Place::Refused(_) => &b[0..0],
+        Ok(Place { start, len }) => &b[start..start + len],
+        Err(_) => &b[0..0],
     }
 }
 
@@ -383,42 +355,40 @@ fn step_from(f: &[u8], s: usize, place: usize) -> Step
         value_start,
         value_len,
     };
-    let seen = Seen::Live(attr);
+    let seen = Some(attr);
     let next = place + size(f, place);
     Step { next, seen }
 }
 
 // A step in a fork that passes its tests.
-fn walk_in(f: &[u8], s: usize, place: usize) -> Walked
+fn walk_in(f: &[u8], s: usize, place: usize) -> Result<Step, Refusal>
     requires { (fork_verdict f.now ≡ 0) × (s + length f.now < 4096) }
-    ensures { result ≡ walked_in s f.now place }
+    ensures { numbered result ≡ walked_in s f.now place }
 {
     let end = be::be16(f, 0);
     let n = be::be8(f, 2);
     if !stands_in(f, n, end, place) {
-        return Walked::Refused(refusal::ASKED);
+        return Err(Refusal::Asked);
     }
     if place == end {
-        let seen = Seen::End;
-        let step = Step { next: place, seen };
-        return Walked::Stepped(step);
+        return Ok(Step {
+            next: place,
+            seen: None,
+        });
     }
-    let step = step_from(f, s, place);
-    Walked::Stepped(step)
+    Ok(step_from(f, s, place))
 }
 
-fn walk_on(e: Edition, b: &[u8], place: usize) -> Walked
+fn walk_on(e: Edition, b: &[u8], place: usize) -> Result<Step, Refusal>
     requires { Sane e }
-    ensures { result ≡ walk_step e b.now place }
+    ensures { numbered result ≡ walk_step e b.now place }
 {
-    match tested(e, b) {
-        Fork::At(start, _) => walk_in(&b[start..], start, place),
-        Fork::Refused(n) => Walked::Refused(n),
-    }
+    let fork = tested(e, b)?;
+    walk_in(&b[fork.start..], fork.start, place)
 }
 
 // One step of the walk over an inode's attributes, from a place that is counted from the fork's start.
-pub fn step_at(b: &[u8], place: usize) -> Walked
+pub fn step_at(b: &[u8], place: usize) -> Result<Step, Refusal>
     ensures { StepPromise v4 b.now place result }
 {
     walk_on(V4::edition(), b, place)
@@ -500,9 +470,9 @@ fn write_entry<'a, 'b, 'c>(
 }
 
 // Removes an entry from a fork that passes its tests.
-fn remove_in<'a, 'b>(f: &'a mut [u8], name: &'b [u8], flags: usize) -> usize
+fn remove_in<'a, 'b>(f: &'a mut [u8], name: &'b [u8], flags: usize) -> Result<(), Refusal>
     requires { fork_verdict f.old ≡ 0 }
-    ensures { ForkRemoval f.old name.now flags result f.new }
+    ensures { ForkRemoval f.old name.now flags (code result) f.new }
 {
     let p = plan_in(&f[..], name, flags);
     let at = p.at;
@@ -510,17 +480,22 @@ fn remove_in<'a, 'b>(f: &'a mut [u8], name: &'b [u8], flags: usize) -> usize
     let kept = p.kept;
     let end = p.end;
     if end <= at {
-        return refusal::ABSENT;
+        return Err(Refusal::Absent);
     }
     close(f, end, at, size);
     head(f, end - size, kept);
-    0
+    Ok(())
 }
 
 // Sets an entry in a fork that passes its tests.
-fn set_in<'a, 'b, 'c>(f: &'a mut [u8], name: &'b [u8], flags: usize, value: &'c [u8]) -> usize
+fn set_in<'a, 'b, 'c>(
+    f: &'a mut [u8],
+    name: &'b [u8],
+    flags: usize,
+    value: &'c [u8],
+) -> Result<(), Refusal>
     requires { ((fork_verdict f.old ≡ 0) × (length f.old < 65536)) × ((length name.now < 256) × (flags < 256)) }
-    ensures { ForkSet f.old name.now flags value.now result f.new }
+    ensures { ForkSet f.old name.now flags value.now (code result) f.new }
 {
     let p = plan_in(&f[..], name, flags);
     let at = p.at;
@@ -528,36 +503,39 @@ fn set_in<'a, 'b, 'c>(f: &'a mut [u8], name: &'b [u8], flags: usize, value: &'c 
     let kept = p.kept;
     let end = p.end;
     if 255 < value.len() {
-        return refusal::NOROOM;
+        return Err(Refusal::NoRoom);
     }
     if 254 < kept {
-        return refusal::NOROOM;
+        return Err(Refusal::NoRoom);
     }
     let to = end - size;
     let total = to + 3 + name.len() + value.len();
     if f.len() < total {
-        return refusal::NOROOM;
+        return Err(Refusal::NoRoom);
     }
     close(f, end, at, size);
     write_entry(f, to, name, flags, value);
     head(f, total, kept + 1);
-    0
+    Ok(())
 }
 
-fn take_out<'a, 'b>(e: Edition, b: &'a mut [u8], name: &'b [u8], flags: usize) -> usize
+fn take_out<'a, 'b>(
+    e: Edition,
+    b: &'a mut [u8],
+    name: &'b [u8],
+    flags: usize,
+) -> Result<(), Refusal>
     requires { Sane e }
-    ensures { (result ≡ remove_code e b.old name.now flags)
+    ensures { (code result ≡ remove_code e b.old name.now flags)
         × (b.new ≡ remove_bytes e b.old name.now flags) }
 {
-    match asked(e, &b[..], name, flags) {
-        Fork::At(start, _) => remove_in(&mut b[start..], name, flags),
-        Fork::Refused(n) => n,
-    }
+    let fork = asked(e, &b[..], name, flags)?;
+    remove_in(&mut b[fork.start..], name, flags)
 }
 
-// Removes an attribute: 0, or the number of the refusal, which leaves every byte as it was.
-pub fn remove<'a, 'b>(b: &'a mut [u8], name: &'b [u8], flags: usize) -> usize
-    ensures { (result ≡ remove_code v4 b.old name.now flags)
+// Removes an attribute; a refusal leaves every byte as it was.
+pub fn remove<'a, 'b>(b: &'a mut [u8], name: &'b [u8], flags: usize) -> Result<(), Refusal>
+    ensures { (code result ≡ remove_code v4 b.old name.now flags)
         × (b.new ≡ remove_bytes v4 b.old name.now flags) }
 {
     take_out(V4::edition(), b, name, flags)
@@ -569,21 +547,23 @@ fn put_in<'a, 'b, 'c>(
     name: &'b [u8],
     flags: usize,
     value: &'c [u8],
-) -> usize
+) -> Result<(), Refusal>
     requires { Sane e }
-    ensures { (result ≡ set_code e b.old name.now flags value.now)
+    ensures { (code result ≡ set_code e b.old name.now flags value.now)
         × (b.new ≡ set_bytes e b.old name.now flags value.now) }
 {
-    match asked(e, &b[..], name, flags) {
-        Fork::At(start, _) => set_in(&mut b[start..], name, flags, value),
-        Fork::Refused(n) => n,
-    }
+    let fork = asked(e, &b[..], name, flags)?;
+    set_in(&mut b[fork.start..], name, flags, value)
 }
 
-// Sets an attribute: an equal one goes, and the new one stands at the end. 0, or the number of the refusal, which leaves every byte
-// as it was.
-pub fn set<'a, 'b, 'c>(b: &'a mut [u8], name: &'b [u8], flags: usize, value: &'c [u8]) -> usize
-    ensures { (result ≡ set_code v4 b.old name.now flags value.now)
+// Sets an attribute: an equal one goes, and the new one stands at the end. A refusal leaves every byte as it was.
+pub fn set<'a, 'b, 'c>(
+    b: &'a mut [u8],
+    name: &'b [u8],
+    flags: usize,
+    value: &'c [u8],
+) -> Result<(), Refusal>
+    ensures { (code result ≡ set_code v4 b.old name.now flags value.now)
         × (b.new ≡ set_bytes v4 b.old name.now flags value.now) }
 {
     put_in(V4::edition(), b, name, flags, value)

@@ -1,20 +1,22 @@
 use Prim.Native.Nat.{ℕ}
-use mathlib.Core.Path.{◌≡◌, ◌∙◌, ap}
+use mathlib.Core.Path.{◌≡◌}
 use mathlib.Core.List.{List}
+use Rattle.std.specs.Prelude.{Result}
 use Rattle.edition.specs.declared.Edition.{Edition}
 use Rattle.edition.specs.Edition.{v4}
-use Rattle.attr_sf.specs.declared.Walked.{Walked}
-use Rattle.attr_sf.specs.Walk.{walk_step, walked_code, walked_next, walked_seen, StepPromise}
-use Rattle.attr_sf.proofs.WalkSteps.{step_is, next_is, seen_is}
+use Rattle.refusal.specs.declared.Refusal.{Refusal}
+use Rattle.refusal.specs.Refusal.{numbered}
+use Rattle.attr_sf.specs.declared.Step.{Step}
+use Rattle.attr_sf.specs.Walk.{walk_step, StepPromise}
+use Rattle.attr_sf.proofs.WalkSteps.{promised}
 use Rattle.attr_sf.proofs.step_at.Goals as goal
 
 -- of the edition that was made
-made : {e : Edition} {r : Walked} (b : List ℕ) (place : ℕ) → r ≡ walk_step e b place → e ≡ v4 → StepPromise v4 b place r
-made b place h q =
-    let k = rw q at h in (k, ap walked_code k ∙ step_is v4 b place, ap walked_next k ∙ next_is v4 b place, ap walked_seen k ∙ seen_is v4 b place)
+made : {e : Edition} (r : Result Step Refusal) (b : List ℕ) (place : ℕ) → numbered r ≡ walk_step e b place → e ≡ v4 → StepPromise v4 b place r
+made r b place h q = promised v4 b place r (rw q at h)
 
 pub walk_on-requires : goal.walk_on-requires
 walk_on-requires c = c.edition.ensures.1
 
 pub returns : goal.returns
-returns c = made _ _ c.walk_on.ensures c.edition.ensures.0
+returns c = made _ _ _ c.walk_on.ensures c.edition.ensures.0

@@ -1,18 +1,17 @@
-use mathlib.Core.Path.{sym, ◌∙◌}
-use Rattle.attr_sf.proofs.InodeTests.{inode_inside, tested_not, tested_at, tested_refused}
+use Rattle.attr_sf.proofs.InodeTests.{inode_inside, tested_code, tested_at, tested_refused, if_not}
 use Rattle.attr_sf.proofs.tested.Goals as goal
 
-pub slice_bounds-code_of_fork-count : goal.slice_bounds-code_of_fork-count
-slice_bounds-code_of_fork-count c = inode_inside _ _ (sym c.in-At.is ∙ c.fork_of_attributes.ensures)
+pub returns-in_err-fork : goal.returns-in_err-fork
+returns-in_err-fork c = if_not _ _ _ _ c.from_residual.ensures.1 (tested_refused _ _ _ c.in_err-fork.ensures)
 
-pub slice_bounds-code_of_fork-start : goal.slice_bounds-code_of_fork-start
-slice_bounds-code_of_fork-start c = inode_inside _ _ (sym c.in-At.is ∙ c.fork_of_attributes.ensures)
+pub slice_bounds-check_fork-count : goal.slice_bounds-check_fork-count
+slice_bounds-check_fork-count c = inode_inside _ _ c.in_ok-fork.ensures
 
-pub returns-then-n-ne0 : goal.returns-then-n-ne0
-returns-then-n-ne0 c = tested_not _ _ (sym c.in-At.is ∙ c.fork_of_attributes.ensures) c.code_of_fork-n.ensures c.if-n-ne0.true
+pub slice_bounds-check_fork-start : goal.slice_bounds-check_fork-start
+slice_bounds-check_fork-start c = inode_inside _ _ c.in_ok-fork.ensures
 
-pub returns-else-n-ne0 : goal.returns-else-n-ne0
-returns-else-n-ne0 c = tested_at _ _ (sym c.in-At.is ∙ c.fork_of_attributes.ensures) c.code_of_fork-n.ensures c.if-n-ne0.false
+pub returns-in_err-check_fork : goal.returns-in_err-check_fork
+returns-in_err-check_fork c = if_not _ _ _ _ c.from_residual-in_err-check_fork.ensures.1 (tested_code _ _ c.in_ok-fork.ensures c.in_err-check_fork.ensures)
 
-pub returns-in-Refused : goal.returns-in-Refused
-returns-in-Refused c = tested_refused _ _ (sym c.in-Refused.is ∙ c.fork_of_attributes.ensures)
+pub returns : goal.returns
+returns c = tested_at _ _ c.in_ok-fork.ensures c.in_ok-check_fork.ensures

@@ -20,9 +20,9 @@ returns-then-not-stands_in c = walk_not _ _ c.be16-end.ensures.0 c.be8-n.ensures
 pub returns-then-place-end : goal.returns-then-place-end
 returns-then-place-end c = walk_end _ _ c.be16-end.ensures.0 c.be8-n.ensures.0 _ (sym c.stands_in.ensures ∙ c.if-not-stands_in.false) c.if-place-end.true
 
-pub step_from-step-requires : goal.step_from-step-requires
-step_from-step-requires c = (walk_fits _ _ c.be16-end.ensures.0 c.be8-n.ensures.0 c.requires.0 (sym c.stands_in.ensures ∙ c.if-not-stands_in.false) c.if-place-end.false, c.requires.1)
+pub step_from-requires : goal.step_from-requires
+step_from-requires c = (walk_fits _ _ c.be16-end.ensures.0 c.be8-n.ensures.0 c.requires.0 (sym c.stands_in.ensures ∙ c.if-not-stands_in.false) c.if-place-end.false, c.requires.1)
 
 pub returns : goal.returns
 returns c = walk_live _ _ c.be16-end.ensures.0 c.be8-n.ensures.0 _ (sym c.stands_in.ensures ∙ c.if-not-stands_in.false) c.if-place-end.false
-    c.step_from-step.ensures
+    c.step_from.ensures

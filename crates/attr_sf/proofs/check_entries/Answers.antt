@@ -2,7 +2,7 @@ use native.Mathlib.Omega.{arith}
 use mathlib.Core.Path.{sym, ◌∙◌}
 use Rattle.attr_sf.proofs.Tiling.{next_fits, next_long}
 use Rattle.attr_sf.proofs.EntryTests.{passed_none, passed_stop, passed_next, passed_done, passed_not}
-use Rattle.attr_sf.proofs.faults.Goals as goal
+use Rattle.attr_sf.proofs.check_entries.Goals as goal
 
 pub loop-left-init : goal.loop-left-init
 loop-left-init c = passed_none _ _

@@ -1,5 +1,5 @@
 use Rattle.attr_sf.proofs.EntryTests.{Passed}
-use Rattle.attr_sf.proofs.faults.Given as goal
+use Rattle.attr_sf.proofs.check_entries.Given as goal
 
 abbrev pub invariant-loop-left : goal.invariant-loop-left
 invariant-loop-left l = Passed l.f l.n l.left l.at l.flagged

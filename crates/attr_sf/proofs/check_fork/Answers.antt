@@ -1,0 +1,34 @@
+use mathlib.Core.Path.{sym, ◌∙◌}
+use borrow.Author.Rules.{rules}
+use Rattle.refusal.proofs.Passed.{number_ne, code_is}
+use Rattle.attr_sf.proofs.ForkTests.{span_short, span_low, span_over, not_tiled, not_own, not_once, all_passed}
+use Rattle.attr_sf.proofs.check_fork.Goals as goal
+
+pub returns-then-f-lt-HEADER : goal.returns-then-f-lt-HEADER
+returns-then-f-lt-HEADER c = search (rules, span_short)
+
+pub returns-then-end-lt-HEADER : goal.returns-then-end-lt-HEADER
+returns-then-end-lt-HEADER c = search (rules, span_low)
+
+pub returns-then-f-end : goal.returns-then-f-end
+returns-then-f-end c = search (rules, span_over)
+
+pub returns-then-not-tiles : goal.returns-then-not-tiles
+returns-then-not-tiles c = not_tiled _ c.be16-end.ensures.0 (search rules) (search rules) c.be8-n.ensures.0 (search rules) (sym c.tiles.ensures ∙ c.if-not-tiles.true)
+
+pub check_entries-requires : goal.check_entries-requires
+check_entries-requires c = ((sym c.tiles.ensures ∙ c.if-not-tiles.false), search rules)
+
+pub returns-in_err-check_entries : goal.returns-in_err-check_entries
+returns-in_err-check_entries c =
+    code_is _ _ c.from_residual.ensures.1
+    (not_own _ c.be16-end.ensures.0 (search rules) (search rules) c.be8-n.ensures.0 (search rules) (sym c.tiles.ensures ∙ c.if-not-tiles.false) c.in_err-check_entries.ensures (number_ne _))
+
+pub once-requires : goal.once-requires
+once-requires c = ((sym c.tiles.ensures ∙ c.if-not-tiles.false), search rules)
+
+pub returns-then-not-once : goal.returns-then-not-once
+returns-then-not-once c = not_once _ c.be16-end.ensures.0 (search rules) (search rules) c.be8-n.ensures.0 (search rules) (sym c.tiles.ensures ∙ c.if-not-tiles.false) c.in_ok-check_entries.ensures (sym c.once.ensures ∙ c.if-not-once.true)
+
+pub returns : goal.returns
+returns c = all_passed _ c.be16-end.ensures.0 (search rules) (search rules) c.be8-n.ensures.0 (search rules) (sym c.tiles.ensures ∙ c.if-not-tiles.false) c.in_ok-check_entries.ensures (sym c.once.ensures ∙ c.if-not-once.false)
