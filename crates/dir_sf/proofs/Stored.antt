@@ -4,6 +4,7 @@ use Prim.Native.Nat.{ℕ}
 use mathlib.Core.Bool.{true, false, cond}
 use mathlib.Core.Path.{◌≡◌, refl, ◌∙◌}
 use mathlib.Core.List.{List, [], ◌∷◌, ◌++◌}
+use Rattle.std.specs.Prelude.{Ok}
 use borrow.Author.Tests.{not-true}
 use Rattle.be.specs.Lists.{every}
 use Rattle.be.proofs.Bools.{by_cases, and_left, and_right, or_right, neither}
@@ -46,13 +47,13 @@ name_at e (y ∷ ys) zs x h = name_at e ys zs x (and_right (name_ok e y) _ h)
 
 module _ (e : Edition) (sane : Sane e) (told : ℕ) (b : List ℕ) (v : verdict e told b ≡ 0) where
   absent : (n : List ℕ) → legal_name e n ≡ true → fixed_name n ≡ false
-      → lookup e told b n ≡ cond (holds e n (entries e (used e b))) (found_entry (entry_in e n (entries e (used e b)))) (Absent 0)
+      → lookup e told b n ≡ cond (holds e n (entries e (used e b))) (Ok (found_entry (entry_in e n (entries e (used e b))))) (Ok (Absent 0))
   unfolding lookup looked entry_for
   absent n h f =
       let d = not_fixed n f in
       rw (v, h, d.0, d.1) (by_cases (holds e n (entries e (used e b))) (λ q. rw q refl) (λ q. rw q refl))
 
-  stored : (ys zs : List SfEntry) (x : SfEntry) → entries e (used e b) ≡ ys ++ (x ∷ zs) → lookup e told b x.name ≡ found_entry x
+  stored : (ys zs : List SfEntry) (x : SfEntry) → entries e (used e b) ≡ ys ++ (x ∷ zs) → lookup e told b x.name ≡ Ok (found_entry x)
   unfolding names_ok
   stored ys zs x q =
       let o : once_ok e (ys ++ (x ∷ zs)) ≡ true = rw q at (once_known e told (used e b) (used_passes e sane told b v)) in
@@ -60,7 +61,7 @@ module _ (e : Edition) (sane : Sane e) (told : ℕ) (b : List ℕ) (v : verdict 
       absent x.name (and_left _ _ m) (not-true _ (and_right (legal_name e x.name) _ m))
       ∙ rw (q, held_at e ys zs x, entry_there e ys zs x o) refl
 
-  to_parent : lookup e told b dotdot ≡ found_entry (parent_entry e (parent (used e b)))
+  to_parent : lookup e told b dotdot ≡ Ok (found_entry (parent_entry e (parent (used e b))))
   unfolding lookup looked entry_for
   to_parent = rw (v, dotdot_legal e) refl
 

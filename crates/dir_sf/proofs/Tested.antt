@@ -8,8 +8,11 @@ use mathlib.Core.List.{List}
 use lib.Dec.{eqb, leb}
 use lib.ListN.{length, take, drop, length-take, length-drop}
 use lib.Seq.{take-take, get_or-take}
+use Rattle.std.specs.Prelude.{Result, Ok, Err}
 use borrow.Author.Tests.{eqb-true, eq-eqb, ne_eqb, leb-true}
-use Rattle.refusal.specs.Refusal.{ASKED, FIXED, ABSENT}
+use Rattle.refusal.specs.declared.Refusal.{Refusal}
+use Rattle.refusal.specs.Refusal.{ASKED, FIXED, ABSENT, number}
+use Rattle.refusal.proofs.Passed.{number_ne}
 use Rattle.be.specs.Bytes.{bytes, part}
 use Rattle.be.specs.Lists.{same}
 use Rattle.be.specs.Codes.{◌unless◌then◌}
@@ -20,7 +23,7 @@ use Rattle.edition.specs.declared.Edition.{Edition}
 use Rattle.edition.specs.Edition.{block_size, Sane}
 use Rattle.dinode.specs.Core.{size_place, directory_code, data_length, data_fork}
 use Rattle.dir.specs.declared.Looked.{Looked}
-use Rattle.dir.specs.declared.Looked.TheVariants.{Absent, Refused}
+use Rattle.dir.specs.declared.Looked.TheVariants.{Absent}
 use Rattle.dir.specs.Target.{no_target}
 use Rattle.dir.specs.Answers.{looked_code, looked_target, looked_tag, looked_compared}
 use Rattle.name.specs.Name.{legal_name, dot, dotdot}
@@ -140,27 +143,29 @@ pub used_bytes : (e : Edition) (b : List ℕ) → bytes b ≡ true → bytes (us
 unfolding used data_fork
 used_bytes e b h = bytes_take (size_of b) (part e.literal (data_length e b) b) (bytes_take (data_length e b) (drop e.literal b) (bytes_drop e.literal b h))
 
-pub lookup_refused : (e : Edition) (told c : ℕ) (b n : List ℕ) → c ≡ verdict e told b → (c ≡ 0 → ⊥) → Refused c ≡ lookup e told b n
-unfolding lookup
-lookup_refused e told c b n h f = sym (rw (ne_eqb (verdict e told b) 0 (λ q. f (h ∙ q)), ← h) refl)
+-- the verdict of a refusal is none of a test that passes
+pub verdict_not : (e : Edition) (told : ℕ) (b : List ℕ) (x : Refusal) → number x ≡ verdict e told b → eqb (verdict e told b) 0 ≡ false
+verdict_not e told b x h = ne_eqb (verdict e told b) 0 (λ q. number_ne x (h ∙ q))
 
-pub lookup_looked : (e : Edition) (sane : Sane e) (told c z : ℕ) (b n : List ℕ) (r : Looked) → c ≡ verdict e told b → c ≡ 0 → z ≡ size_of b
+pub lookup_refused : (e : Edition) (told : ℕ) (b n : List ℕ) (x : Refusal) → number x ≡ verdict e told b → Err (number x) ≡ lookup e told b n
+unfolding lookup
+lookup_refused e told b n x h = sym (rw (verdict_not e told b x h, ← h) refl)
+
+pub lookup_looked : (e : Edition) (sane : Sane e) (told z : ℕ) (b n : List ℕ) (r : Result Looked ℕ) → 0 ≡ verdict e told b → z ≡ size_of b
     → r ≡ looked e n (parent (take (e.literal + z - e.literal) (drop e.literal b))) (entries e (take (e.literal + z - e.literal) (drop e.literal b))) → r ≡ lookup e told b n
 unfolding lookup
-lookup_looked e sane told c z b n r h f q k =
-    let v : verdict e told b ≡ 0 = sym h ∙ f in
+lookup_looked e sane told z b n r h q k =
+    let v : verdict e told b ≡ 0 = sym h in
     k ∙ ap (λ (u : List ℕ). looked e n (parent u) (entries e u)) (used_is e sane told b v z q) ∙ sym (rw (eq-eqb _ _ v) refl)
 
-pub tested_zero : (e : Edition) (told c : ℕ) (b : List ℕ) → c ≡ verdict e told b → c ≡ 0 → verdict e told b ≡ 0
-tested_zero e told c b h f = sym h ∙ f
-
 -- the used bytes, as they are lent
-pub lent_readable : (e : Edition) (sane : Sane e) (told c z : ℕ) (b : List ℕ) → c ≡ verdict e told b → c ≡ 0 → z ≡ size_of b
+pub lent_readable : (e : Edition) (sane : Sane e) (told z : ℕ) (b : List ℕ) → 0 ≡ verdict e told b → z ≡ size_of b
     → Readable e (take (e.literal + z - e.literal) (drop e.literal b))
-lent_readable e sane told c z b h f q = rw (used_is e sane told b (sym h ∙ f) z q) (used_readable e sane told b (sym h ∙ f))
+lent_readable e sane told z b h q = rw (used_is e sane told b (sym h) z q) (used_readable e sane told b (sym h))
 
 -- a lookup's number and values
-answer_is : (l d p : Bool) (x : SfEntry) (r : Looked) → r ≡ (Refused ASKED unless l then Refused FIXED unless not d then Absent 0 unless p then found_entry x)
+answer_is : (l d p : Bool) (x : SfEntry) (r : Result Looked ℕ)
+    → r ≡ (Err ASKED unless l then Err FIXED unless not d then Ok (Absent 0) unless p then Ok (found_entry x))
     → (looked_code r ≡ (ASKED unless l then FIXED unless not d then ABSENT unless p then 0))
     × (looked_target r ≡ cond (eqb (ASKED unless l then FIXED unless not d then ABSENT unless p then 0) 0) x.target no_target)
     × (looked_tag r ≡ cond (eqb (ASKED unless l then FIXED unless not d then ABSENT unless p then 0) 0) x.tag 0) × (looked_compared r ≡ 0)
@@ -180,7 +185,7 @@ module _ (e : Edition) (told : ℕ) (b n : List ℕ) where
       (λ q. rw (q, q) (refl, refl, refl, refl))
 
 -- of the edition that was made
-pub lookup_made : (e f : Edition) (told : ℕ) (b n : List ℕ) (r : Looked) → r ≡ lookup e told b n → e ≡ f → LookupPromise f told b n r
+pub lookup_made : (e f : Edition) (told : ℕ) (b n : List ℕ) (r : Result Looked ℕ) → r ≡ lookup e told b n → e ≡ f → LookupPromise f told b n r
 lookup_made e f told b n r h q =
     let k : r ≡ lookup f told b n = h ∙ ap (λ (x : Edition). lookup x told b n) q in
     let v = values f told b n in

@@ -2,22 +2,24 @@
 -- Assumes nothing.
 use Prim.Native.Nat.{ℕ, ◌+◌, ◌-◌, ◌≤◌, ◌<◌}
 use native.Mathlib.Omega.{arith}
-use mathlib.Core.Bool.{true, false, cond}
+use mathlib.Core.Bool.{true, cond}
 use mathlib.Core.Path.{◌≡◌, refl, sym, ◌∙◌, ap, ap₂}
 use mathlib.Core.List.{List}
 use lib.Dec.{eqb}
 use lib.ListN.{length, take, drop, get_or, length-take, length-drop}
-use borrow.Author.Tests.{eqb-true, eq-eqb, ne_eqb}
-use Rattle.refusal.specs.Refusal.{ASKED}
+use Rattle.std.specs.Prelude.{Result, Ok, Err}
+use borrow.Author.Tests.{eq-eqb, ne_eqb}
+use Rattle.refusal.specs.declared.Refusal.{Refusal}
+use Rattle.refusal.specs.Refusal.{ASKED, number}
+use Rattle.refusal.proofs.Passed.{outcome_answered}
 use Rattle.be.specs.Bytes.{field}
 use Rattle.be.proofs.Bools.{by_cases}
 use Rattle.records.specs.Records.{start, stands}
 use Rattle.records.proofs.Starts.{start_on, start_done, start_fits, stands_here, stands_on, stands_done}
 use Rattle.edition.specs.declared.Edition.{Edition}
 use Rattle.edition.specs.Edition.{Sane}
-use Rattle.dir.specs.declared.Walked.{Walked}
+use Rattle.dir.specs.declared.Step.{Step}
 use Rattle.dir.specs.declared.Seen.TheVariants.{Live, End}
-use Rattle.dir.specs.declared.Walked.TheVariants.{Stepped, Refused}
 use Rattle.dir_sf.specs.Entry.{width_of, size_at, entry_at}
 use Rattle.dir_sf.specs.Fork.{count_of, stored_wides, used_width, place_of}
 use Rattle.dir_sf.specs.Walk.{end_step, entry_step, place_in, step_in, step_code, step_next, step_seen, walk_step, StepPromise}
@@ -27,7 +29,7 @@ use Rattle.dir.specs.Target.{target}
 use Rattle.dir.specs.Answers.{walked_code, walked_next, walked_seen}
 use Rattle.dinode.specs.Core.{data_length}
 use Rattle.dir_sf.specs.Inode.{size_of, verdict, used}
-use Rattle.dir_sf.proofs.Tested.{used_is}
+use Rattle.dir_sf.proofs.Tested.{used_is, verdict_not}
 use Rattle.dir_sf.proofs.Leaves.{one_in}
 use Rattle.dir_sf.proofs.Listed.{list_enough}
 use Rattle.dir_sf.proofs.Run.{Run, run_start, run_on, run_one, long_at_is, tag_at_is, name_at_is, target_at_is}
@@ -67,7 +69,7 @@ module _ (e : Edition) (w : ℕ) (u : List ℕ) (k p place : ℕ) where
   unfolding walked_over
   step_miss h f = rw (stands_on (size_at e w u) place k p h f, start_on (size_at e w u) k p h) refl
 
-  step_last : k ≤ 0 → walked_over e w u k p place ≡ cond (eqb place p) (at_end place) (Refused ASKED)
+  step_last : k ≤ 0 → walked_over e w u k p place ≡ cond (eqb place p) (at_end place) (Err ASKED)
   unfolding walked_over
   step_last h =
       rw (stands_done (size_at e w u) place k p h, start_done (size_at e w u) k p h) (by_cases (eqb place p) (λ q. rw q refl) (λ q. rw q refl))
@@ -85,41 +87,39 @@ module _ (e : Edition) (w : ℕ) (u : List ℕ) (first k place i p n v : ℕ) (s
       }
 
   hit : place ≡ p → (j : Target) (g : ℕ) → j ≡ target (field (p + 3 + n + e.ftype) w u) (field (p + 3 + n) e.ftype u) → g ≡ field (p + 1) 2 u
-      → Stepped (record { next = p + 3 + n + v; seen = Live (record { target = j; tag = g; start = e.literal + (p + 3); len = n }) }) ≡ walked_over e w u k first place
+      → Ok (record { next = p + 3 + n + v; seen = Live (record { target = j; tag = g; start = e.literal + (p + 3); len = n }) }) ≡ walked_over e w u k first place
   unfolding entry_step
   hit f j g c o =
       let x : (entry_at e w u p).target ≡ j = target_at_is e w u p n a ∙ sym c in
       let z : length (entry_at e w u p).name ≡ n =
       rw (name_at_is e w u p) (simp (length-take, length-drop) (omega (arith, one_in e w p u (run_one e w u first k i p s.run h)))) in
       sym (s.rest ∙ step_hit e w u (k - i) p place (omega arith) f
-      ∙ ap₂ (λ (y₁ y₂ : ℕ). Stepped (record { next = y₁; seen = Live (record { target = (entry_at e w u p).target; tag = y₂; start = e.literal + (p + 3); len = length (entry_at e w u p).name }) })) next
+      ∙ ap₂ (λ (y₁ y₂ : ℕ). Ok (record { next = y₁; seen = Live (record { target = (entry_at e w u p).target; tag = y₂; start = e.literal + (p + 3); len = length (entry_at e w u p).name }) })) next
       (tag_at_is e w u p ∙ sym o)
-      ∙ ap₂ (λ (y₁ : Target) (y₂ : ℕ). Stepped (record { next = p + 3 + n + v; seen = Live (record { target = y₁; tag = g; start = e.literal + (p + 3); len = y₂ }) })) x z)
+      ∙ ap₂ (λ (y₁ : Target) (y₂ : ℕ). Ok (record { next = p + 3 + n + v; seen = Live (record { target = y₁; tag = g; start = e.literal + (p + 3); len = y₂ }) })) x z)
 
 module _ (e : Edition) (u : List ℕ) (k wides place i p : ℕ) (a : k ≡ get_or u 0 0) (b : wides ≡ get_or u 1 0)
     (s : Walk e (width_of wides) u (2 + width_of wides) k place i p) where
   pub walk_hit : (n v g : ℕ) (j : Target) → i < k → n ≡ get_or u p 0 → v ≡ e.ftype + width_of wides → place ≡ p
       → j ≡ target (field (p + 3 + n + e.ftype) (width_of wides) u) (field (p + 3 + n) e.ftype u) → g ≡ field (p + 1) 2 u
-      → Stepped (record { next = p + 3 + n + v; seen = Live (record { target = j; tag = g; start = e.literal + (p + 3); len = n }) }) ≡ walked_in e u place
+      → Ok (record { next = p + 3 + n + v; seen = Live (record { target = j; tag = g; start = e.literal + (p + 3); len = n }) }) ≡ walked_in e u place
   walk_hit n v g j h e₀ c f t o = hit e (width_of wides) u (2 + width_of wides) k place i p n v s h e₀ c f j g t o ∙ whole e u k wides place a b
 
-  over : k ≤ i → walked_in e u place ≡ cond (eqb place p) (at_end place) (Refused ASKED)
+  over : k ≤ i → walked_in e u place ≡ cond (eqb place p) (at_end place) (Err ASKED)
   over h = sym (whole e u k wides place a b) ∙ s.rest ∙ step_last e (width_of wides) u (k - i) p place (omega arith)
 
-  pub walk_end : k ≤ i → place ≡ p → Stepped (record { next = p; seen = End }) ≡ walked_in e u place
+  pub walk_end : k ≤ i → place ≡ p → Ok (record { next = p; seen = End }) ≡ walked_in e u place
   unfolding end_step
   walk_end h f = sym (over h ∙ rw (eq-eqb _ _ f, f) refl)
 
-  pub walk_off : k ≤ i → (place ≡ p → ⊥) → Refused ASKED ≡ walked_in e u place
+  pub walk_off : k ≤ i → (place ≡ p → ⊥) → Err ASKED ≡ walked_in e u place
   walk_off h f = sym (over h ∙ rw (ne_eqb _ _ f) refl)
 
 -- ---- the public step
 
-pub step_refused : (e : Edition) (told c : ℕ) (b : List ℕ) (place : ℕ) → c ≡ verdict e told b → (c ≡ 0 → ⊥) → Refused c ≡ walk_step e told b place
+pub step_refused : (e : Edition) (told : ℕ) (b : List ℕ) (place : ℕ) (x : Refusal) → number x ≡ verdict e told b → Err (number x) ≡ walk_step e told b place
 unfolding walk_step step_code
-step_refused e told c b place h f =
-    let z : eqb (verdict e told b) 0 ≡ false = ne_eqb (verdict e told b) 0 (λ q. f (h ∙ q)) in
-    sym (rw (z, z, ← h) refl)
+step_refused e told b place x h = let z = verdict_not e told b x h in sym (rw (z, z, ← h) refl)
 
 -- in an accepted directory the step is the pass's
 pub step_walked : (e : Edition) (told : ℕ) (b : List ℕ) (place : ℕ) → verdict e told b ≡ 0 → walk_step e told b place ≡ walked_in e (used e b) place
@@ -130,10 +130,10 @@ step_walked e told b place v =
     by_cases (stands size (count_of u) (2 + used_width u) place)
     (λ q. by_cases (eqb place (start size (count_of u) (2 + used_width u))) (λ r. rw (v, q, r) refl) (λ r. rw (v, q, r) refl)) (λ q. rw (v, q) refl)
 
-pub step_stepped : (e : Edition) (sane : Sane e) (told c z : ℕ) (b : List ℕ) (place : ℕ) (r : Walked) → c ≡ verdict e told b → c ≡ 0 → z ≡ size_of b
+pub step_stepped : (e : Edition) (sane : Sane e) (told z : ℕ) (b : List ℕ) (place : ℕ) (r : Result Step ℕ) → 0 ≡ verdict e told b → z ≡ size_of b
     → r ≡ walked_in e (take (e.literal + z - e.literal) (drop e.literal b)) place → r ≡ walk_step e told b place
-step_stepped e sane told c z b place r h f q k =
-    let v : verdict e told b ≡ 0 = sym h ∙ f in
+step_stepped e sane told z b place r h q k =
+    let v : verdict e told b ≡ 0 = sym h in
     k ∙ ap (λ (u : List ℕ). walked_in e u place) (used_is e sane told b v z q) ∙ sym (step_walked e told b place v)
 
 pub lent_short : (e : Edition) (z : ℕ) (b : List ℕ) → z ≤ data_length e b → data_length e b ≤ 1948 → length (take (e.literal + z - e.literal) (drop e.literal b)) ≤ 1948
@@ -143,7 +143,7 @@ lent_short e z b h k = simp (length-take, length-drop) (omega arith)
 module _ (e : Edition) (told : ℕ) (b : List ℕ) (place : ℕ) where
   code_is : walked_code (walk_step e told b place) ≡ step_code e told b place
   unfolding walk_step
-  code_is = by_cases (eqb (step_code e told b place) 0) (λ q. rw q (sym (eqb-true _ _ q))) (λ q. rw q refl)
+  code_is = outcome_answered (step_code e told b place) (step_in e (used e b) place)
 
   next_is : walked_next (walk_step e told b place) ≡ step_next e told b place
   unfolding walk_step step_next
@@ -154,7 +154,7 @@ module _ (e : Edition) (told : ℕ) (b : List ℕ) (place : ℕ) where
   seen_is = by_cases (eqb (step_code e told b place) 0) (λ q. rw q refl) (λ q. rw q refl)
 
 -- of the edition that was made
-pub step_made : (e f : Edition) (told : ℕ) (b : List ℕ) (place : ℕ) (r : Walked) → r ≡ walk_step e told b place → e ≡ f → StepPromise f told b place r
+pub step_made : (e f : Edition) (told : ℕ) (b : List ℕ) (place : ℕ) (r : Result Step ℕ) → r ≡ walk_step e told b place → e ≡ f → StepPromise f told b place r
 step_made e f told b place r h q =
     let k : r ≡ walk_step f told b place = h ∙ ap (λ (x : Edition). walk_step x told b place) q in
     (k, ap walked_code k ∙ code_is f told b place, ap walked_next k ∙ next_is f told b place, ap walked_seen k ∙ seen_is f told b place)

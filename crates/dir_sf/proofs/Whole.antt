@@ -7,13 +7,14 @@ use mathlib.Core.Path.{◌≡◌, refl, sym, ◌∙◌, ap}
 use mathlib.Core.List.{List, [], ◌∷◌, ◌++◌}
 use lib.Dec.{eqb}
 use lib.ListN.{length, length-append}
+use Rattle.std.specs.Prelude.{Result}
 use borrow.Author.Tests.{eq-eqb, ne_eqb}
 use Rattle.be.proofs.Bools.{by_cases}
 use Rattle.records.specs.Records.{start, places, read_records, stands}
 use Rattle.records.proofs.Starts.{start_above, length_records, stands_first, stands_later}
 use Rattle.edition.specs.declared.Edition.{Edition}
 use Rattle.edition.specs.Edition.{Sane, entry_size}
-use Rattle.dir.specs.declared.Walked.{Walked}
+use Rattle.dir.specs.declared.Step.{Step}
 use Rattle.dir_sf.specs.Entry.{SfEntry, size_at, next_tag, tags_ok}
 use Rattle.dir_sf.specs.Fork.{count_of, used_width, place_of}
 use Rattle.dir_sf.specs.Inode.{used, verdict}
@@ -27,10 +28,10 @@ use Rattle.dir_sf.proofs.Tested.{used_passes, tags_known}
 use Rattle.dir_sf.proofs.Walks.{long_some, step_walked}
 use Rattle.dir_sf.proofs.Tags.{tagged}
 
-walk_one : (e : Edition) (told : ℕ) (b : List ℕ) (steps place : ℕ) (s : Walked) → walk_step e told b place ≡ s
+walk_one : (e : Edition) (told : ℕ) (b : List ℕ) (steps place : ℕ) (s : Result Step ℕ) → walk_step e told b place ≡ s
     → walk e told b (suc steps) place ≡ s ∷ after_step s (walk e told b steps)
 unfolding walk
-walk_one e told b steps place s h = ap (λ (r : Walked). r ∷ after_step r (walk e told b steps)) h
+walk_one e told b steps place s h = ap (λ (r : Result Step ℕ). r ∷ after_step r (walk e told b steps)) h
 
 module _ (e : Edition) (told : ℕ) (b : List ℕ) (v : verdict e told b ≡ 0) where
   u : List ℕ
@@ -57,7 +58,7 @@ module _ (e : Edition) (told : ℕ) (b : List ℕ) (v : verdict e told b ≡ 0) 
   from (suc n) at (suc steps) l d h =
       walk_one e told b steps at (at_entry e (used_width u) u at)
       (step_live at (h at (stands_first size (suc n) at)) (λ q. omega (arith, long_some e (used_width u) u at, start_above size n (at + size at))))
-      ∙ ap (λ (x : List Walked). at_entry e (used_width u) u at ∷ x) (from n (at + size at) steps (omega arith) d (λ x s. h x (stands_later size x n at s)))
+      ∙ ap (λ (x : List (Result Step ℕ)). at_entry e (used_width u) u at ∷ x) (from n (at + size at) steps (omega arith) d (λ x s. h x (stands_later size x n at s)))
 
   whole : (steps : ℕ) → count_of (used e b) < steps
       → walk e told b steps (2 + used_width (used e b)) ≡ meets e (used_width (used e b)) (used e b) (count_of (used e b)) (2 + used_width (used e b))

@@ -1,6 +1,6 @@
 -- Lookup, insert and removal, of an accepted fork's parent and entries: what a request itself comes to, and what it changes.
 -- Assumes nothing.
-use Rattle.std.specs.Prelude.{ℕ, suc, ◌+◌, Bool, true, false, not, cond, ◌&&◌, ◌||◌, List, [], ◌∷◌, leb, ltb, length}
+use Rattle.std.specs.Prelude.{ℕ, suc, ◌+◌, Bool, true, false, not, cond, ◌&&◌, ◌||◌, List, [], ◌∷◌, leb, ltb, length, Option, Some, None}
 use Rattle.refusal.specs.Refusal.{ASKED, FIXED, ABSENT, EXISTS, NOROOM}
 use Rattle.be.specs.Lists.{same, without_first}
 use Rattle.be.specs.Codes.{◌unless◌then◌}
@@ -9,8 +9,6 @@ use Rattle.edition.specs.Edition.{entry_size}
 use Rattle.name.specs.Name.{legal_name, same_name, fixed_name, dot, dotdot}
 use Rattle.dir.specs.declared.Target.{Target}
 use Rattle.dir.specs.Target.{target, legal_target, kept_of}
-use Rattle.dir_sf.specs.declared.FreeTag.{FreeTag}
-use Rattle.dir_sf.specs.declared.FreeTag.TheVariants.{At, Nowhere}
 use Rattle.dir_sf.specs.Entry.{SfEntry, entry, empty_entry, next_tag, end_tag, in_block}
 use Rattle.dir_sf.specs.Fork.{lay, holds}
 
@@ -46,20 +44,20 @@ entry_for e n p xs = cond (same n dotdot) (parent_entry e p) (entry_in e n xs)
 -- ---- insert
 
 -- the start of the lowest gap in the tags, from low up, that holds long, if there is one
-unfoldable pub gap_tag : Edition → ℕ → ℕ → List SfEntry → FreeTag
-gap_tag e long low [] = Nowhere
+unfoldable pub gap_tag : Edition → ℕ → ℕ → List SfEntry → Option ℕ
+gap_tag e long low [] = None
 gap_tag e long low (x ∷ xs) =
     let r = gap_tag e long (next_tag e x) xs in
-    cond (leb (low + long) x.tag) (At low) r
+    cond (leb (low + long) x.tag) (Some low) r
 
 -- the tag of a new entry with a name of n bytes: it follows the last entry if the TILE limit still holds; otherwise the
 -- start of the lowest gap that holds E, if the limit for the larger count holds
-unfoldable pub tag_for : Edition → ℕ → ℕ → List SfEntry → FreeTag
+unfoldable pub tag_for : Edition → ℕ → ℕ → List SfEntry → Option ℕ
 tag_for e told n xs =
     let long = entry_size e n in
     let end = end_tag e e.first xs in
     let k = suc (length xs) in
-    cond (in_block told (end + long) k) (At end) (cond (in_block told end k) (gap_tag e long e.first xs) Nowhere)
+    cond (in_block told (end + long) k) (Some end) (cond (in_block told end k) (gap_tag e long e.first xs) None)
 
 -- the list stays in tag order
 unfoldable pub placed : SfEntry → List SfEntry → List SfEntry
@@ -67,17 +65,17 @@ placed y [] = y ∷ []
 placed y (x ∷ xs) = let r = placed y xs in cond (ltb y.tag x.tag) (y ∷ x ∷ xs) (x ∷ r)
 
 -- the new entry goes in by its tag
-unfoldable pub put_by : FreeTag → List ℕ → Target → List SfEntry → List SfEntry
-put_by (At tag) n t xs = placed (entry tag n t) xs
-put_by Nowhere n t xs = xs
+unfoldable pub put_by : Option ℕ → List ℕ → Target → List SfEntry → List SfEntry
+put_by (Some tag) n t xs = placed (entry tag n t) xs
+put_by None n t xs = xs
 
 unfoldable pub inserted : Edition → ℕ → List ℕ → Target → List SfEntry → List SfEntry
 inserted e told n t xs = put_by (tag_for e told (length n) xs) n (kept_of e t) xs
 
 -- there is such a tag
-unfoldable pub is_free : FreeTag → Bool
-is_free (At tag) = true
-is_free Nowhere = false
+unfoldable pub is_free : Option ℕ → Bool
+is_free (Some tag) = true
+is_free None = false
 
 -- 15 NOROOM: no such tag, or the new size passes the fork
 unfoldable pub has_room : Edition → ℕ → ℕ → List ℕ → Target → ℕ → List SfEntry → Bool

@@ -1,6 +1,6 @@
 -- A short-form directory in its inode: what each call answers, and the bytes that it leaves.
 -- Assumes nothing.
-use Rattle.std.specs.Prelude.{ℕ, ◌≡◌, cond, not, ◌||◌, List, [], ◌∷◌, eqb, length, take}
+use Rattle.std.specs.Prelude.{ℕ, ◌≡◌, cond, not, ◌||◌, List, [], ◌∷◌, eqb, length, take, Result, Ok, Err}
 use Rattle.refusal.specs.Refusal.{SIZE, ASKED, FIXED}
 use Rattle.be.specs.Bytes.{field, to_be, written, write}
 use Rattle.be.specs.Lists.{same}
@@ -11,7 +11,7 @@ use Rattle.dinode.specs.Core.{size_place, directory_code, data_fork, data_length
 use Rattle.name.specs.Name.{legal_name, dot, dotdot}
 use Rattle.dir.specs.declared.Target.{Target}
 use Rattle.dir.specs.declared.Looked.{Looked}
-use Rattle.dir.specs.declared.Looked.TheVariants.{Found, Absent, Refused}
+use Rattle.dir.specs.declared.Looked.TheVariants.{Found, Absent}
 use Rattle.dir.specs.Target.{no_target}
 use Rattle.dir.specs.Answers.{looked_code, looked_target, looked_tag, looked_compared}
 use Rattle.dir_sf.specs.Entry.{SfEntry}
@@ -59,18 +59,18 @@ abbrev pub found_entry : SfEntry → Looked
 found_entry x = Found x.target x.tag 0
 
 -- the answer of a lookup in an accepted fork
-unfoldable pub looked : Edition → List ℕ → ℕ → List SfEntry → Looked
+unfoldable pub looked : Edition → List ℕ → ℕ → List SfEntry → Result Looked ℕ
 looked e n p xs =
-    Refused ASKED unless legal_name e n then
-    Refused FIXED unless not (same n dot) then
-    Absent 0 unless same n dotdot || holds e n xs then found_entry (entry_for e n p xs)
+    Err ASKED unless legal_name e n then
+    Err FIXED unless not (same n dot) then
+    Ok (Absent 0) unless same n dotdot || holds e n xs then Ok (found_entry (entry_for e n p xs))
 
-unfoldable pub lookup : Edition → ℕ → List ℕ → List ℕ → Looked
+unfoldable pub lookup : Edition → ℕ → List ℕ → List ℕ → Result Looked ℕ
 lookup e told b n =
-    Refused (verdict e told b) unless eqb (verdict e told b) 0 then looked e n (parent (used e b)) (entries e (used e b))
+    Err (verdict e told b) unless eqb (verdict e told b) 0 then looked e n (parent (used e b)) (entries e (used e b))
 
 -- what a lookup promises of its answer: the answer itself, and its number and values
-abbrev pub LookupPromise : Edition → ℕ → List ℕ → List ℕ → Looked → Type 0
+abbrev pub LookupPromise : Edition → ℕ → List ℕ → List ℕ → Result Looked ℕ → Type 0
 LookupPromise e told b n r =
     (r ≡ lookup e told b n) × (looked_code r ≡ lookup_code e told b n) × (looked_target r ≡ lookup_target e told b n)
     × (looked_tag r ≡ lookup_tag e told b n) × (looked_compared r ≡ 0)

@@ -1,6 +1,6 @@
 -- What is proved of lookup and walk: each law is a proposition about the definitions, over the edition.
 -- Assumes nothing.
-use Rattle.std.specs.Prelude.{ℕ, ◌+◌, ◌<◌, true, false, cond, ◌≡◌, List, ◌∷◌, ◌++◌, length}
+use Rattle.std.specs.Prelude.{ℕ, ◌+◌, ◌<◌, true, false, cond, ◌≡◌, List, ◌∷◌, ◌++◌, length, Ok}
 use Rattle.be.specs.Bytes.{part}
 use Rattle.edition.specs.declared.Edition.{Edition}
 use Rattle.name.specs.Name.{legal_name, fixed_name, dotdot}
@@ -16,16 +16,16 @@ use Rattle.dir_sf.specs.Walk.{step_seen, walk, meets}
 -- a lookup gives what is stored: each entry's number, type and tag, by its name
 unfoldable pub LookupStored : Edition → Type 0
 LookupStored e = (told : ℕ) (b : List ℕ) (ys zs : List SfEntry) (x : SfEntry) → verdict e told b ≡ 0 → entries e (used e b) ≡ ys ++ (x ∷ zs)
-    → lookup e told b x.name ≡ Found x.target x.tag 0
+    → lookup e told b x.name ≡ Ok (Found x.target x.tag 0)
 
 -- a name that may be stored is absent exactly when no entry bears it
 unfoldable pub LookupAbsent : Edition → Type 0
 LookupAbsent e = (told : ℕ) (b n : List ℕ) → verdict e told b ≡ 0 → legal_name e n ≡ true → fixed_name n ≡ false
-    → lookup e told b n ≡ cond (holds e n (entries e (used e b))) (Found (target_in e n (entries e (used e b))) (tag_in e n (entries e (used e b))) 0) (Absent 0)
+    → lookup e told b n ≡ cond (holds e n (entries e (used e b))) (Ok (Found (target_in e n (entries e (used e b))) (tag_in e n (entries e (used e b))) 0)) (Ok (Absent 0))
 
 -- ".." gives the parent and tag 0
 unfoldable pub LookupParent : Edition → Type 0
-LookupParent e = (told : ℕ) (b : List ℕ) → verdict e told b ≡ 0 → lookup e told b dotdot ≡ Found (kept_of e (target (parent (used e b)) 2)) 0 0
+LookupParent e = (told : ℕ) (b : List ℕ) → verdict e told b ≡ 0 → lookup e told b dotdot ≡ Ok (Found (kept_of e (target (parent (used e b)) 2)) 0 0)
 
 -- the walk meets each entry once, in stored order, and then the end, however many steps more it is given
 unfoldable pub WalkWhole : Edition → Type 0

@@ -1,15 +1,13 @@
 -- One step of the walk over a short form, and the whole walk: stored order, no gaps, places counted from the fork's start.
 -- Assumes nothing.
-use Rattle.std.specs.Prelude.{ℕ, zero, suc, ◌+◌, ◌≡◌, Bool, cond, List, [], ◌∷◌, ◌++◌, map, eqb, length}
-use Rattle.refusal.specs.Refusal.{ASKED}
+use Rattle.std.specs.Prelude.{ℕ, zero, suc, ◌+◌, ◌≡◌, Bool, cond, List, [], ◌∷◌, ◌++◌, map, eqb, length, Result, Ok, Err}
+use Rattle.refusal.specs.Refusal.{ASKED, answered}
 use Rattle.be.specs.Codes.{◌unless◌then◌, ◌and_then◌}
 use Rattle.records.specs.Records.{start, places, stands}
 use Rattle.edition.specs.declared.Edition.{Edition}
 use Rattle.dir.specs.declared.Seen.{Seen}
 use Rattle.dir.specs.declared.Seen.TheVariants.{Live, Gap, End}
 use Rattle.dir.specs.declared.Step.{Step}
-use Rattle.dir.specs.declared.Walked.{Walked}
-use Rattle.dir.specs.declared.Walked.TheVariants.{Stepped, Refused}
 use Rattle.dir.specs.Answers.{walked_code, walked_next, walked_seen}
 use Rattle.dir_sf.specs.Entry.{size_at, entry_at}
 use Rattle.dir_sf.specs.Fork.{count_of, used_width, place_of}
@@ -45,33 +43,32 @@ unfoldable pub step_seen : Edition → ℕ → List ℕ → ℕ → Seen
 step_seen e told b place = cond (eqb (step_code e told b place) 0) (step_in e (used e b) place).seen End
 
 -- one step: live entry or end, together with where the walk now stands
-unfoldable pub walk_step : Edition → ℕ → List ℕ → ℕ → Walked
-walk_step e told b place =
-    cond (eqb (step_code e told b place) 0) (Stepped (step_in e (used e b) place)) (Refused (step_code e told b place))
+unfoldable pub walk_step : Edition → ℕ → List ℕ → ℕ → Result Step ℕ
+walk_step e told b place = answered (step_code e told b place) (step_in e (used e b) place)
 
 -- what a step promises of its answer: the answer itself, and its number and values
-abbrev pub StepPromise : Edition → ℕ → List ℕ → ℕ → Walked → Type 0
+abbrev pub StepPromise : Edition → ℕ → List ℕ → ℕ → Result Step ℕ → Type 0
 StepPromise e told b p r =
     (r ≡ walk_step e told b p) × (walked_code r ≡ step_code e told b p) × (walked_next r ≡ step_next e told b p) × (walked_seen r ≡ step_seen e told b p)
 
 -- ---- the whole walk
 
 -- what follows a step: the walk goes on from the next place after a live entry, and stops at the end
-unfoldable pub after_step : Walked → (ℕ → List Walked) → List Walked
-after_step (Refused n) f = []
-after_step (Stepped s) f = after_seen s.seen (f s.next)
+unfoldable pub after_step : Result Step ℕ → (ℕ → List (Result Step ℕ)) → List (Result Step ℕ)
+after_step (Err n) f = []
+after_step (Ok s) f = after_seen s.seen (f s.next)
   where
-    after_seen : Seen → List Walked → List Walked
+    after_seen : Seen → List (Result Step ℕ) → List (Result Step ℕ)
     after_seen (Live x) r = r
     after_seen Gap r = r
     after_seen End r = []
 
 -- the steps of a walk from a place on, at most so many
-unfoldable pub walk : Edition → ℕ → List ℕ → ℕ → ℕ → List Walked
+unfoldable pub walk : Edition → ℕ → List ℕ → ℕ → ℕ → List (Result Step ℕ)
 walk e told b zero place = []
 walk e told b (suc steps) place = walk_step e told b place ∷ after_step (walk_step e told b place) (walk e told b steps)
 
 -- each of k entries of u once, the first of them at p, and then the end
-unfoldable pub meets : Edition → ℕ → List ℕ → ℕ → ℕ → List Walked
+unfoldable pub meets : Edition → ℕ → List ℕ → ℕ → ℕ → List (Result Step ℕ)
 meets e w u k p =
-    map (λ (q : ℕ). Stepped (entry_step e w u q)) (places (size_at e w u) k p) ++ (Stepped (end_step (start (size_at e w u) k p)) ∷ [])
+    map (λ (q : ℕ). Ok (entry_step e w u q)) (places (size_at e w u) k p) ++ (Ok (end_step (start (size_at e w u) k p)) ∷ [])

@@ -11,12 +11,13 @@ ghost use Rattle.dir_sf.specs.Entry.{width_of, entries_in, size_at, is_wide, wid
 ghost use Rattle.dir_sf.specs.Fork.{place_of, count_of, parent, entries, names_ok, numbers_ok, once_ok, used_width, used_verdict, fork_verdict};
 ghost use Rattle.dir_sf.specs.Inode.{size_of, verdict, looked, lookup, LookupPromise};
 ghost use Rattle.dir_sf.specs.Walk.{walk_step, StepPromise};
-ghost use Rattle.dir_sf.specs.Inner.{enough, Readable, tiles, Hits, seek, walked_in};
+ghost use Rattle.refusal.specs.Refusal.{code, numbered};
+ghost use Rattle.dir_sf.specs.Inner.{enough, Readable, tiles, hits, seek, walked_in};
 ghost use Rattle.dir.specs.Target.{target};
 
-use dinode::Fork;
-use dir::{Entry, Looked, Seen, Step, Target, Walked};
+use dir::{Entry, Looked, Seen, Step, Target};
 use edition::{Edition, V4};
+use refusal::Refusal;
 
 // ---- the parts of an entry
 
@@ -62,13 +63,6 @@ pub fn namelen(e: Edition, u: &[u8], p: usize, wides: usize) -> usize
 pub struct Spot {
     pub index: usize,
     pub at: usize,
-}
-
-// The tag of a new entry: where it is free, or nowhere.
-#[derive(Clone, Copy)]
-pub enum FreeTag {
-    At(usize),
-    Nowhere,
 }
 
 // The first entry of a name among the k from `at` on; past them all where there is none.
@@ -237,46 +231,46 @@ fn once(e: Edition, u: &[u8], at: usize, k: usize, wides: usize) -> bool
     true
 }
 
-// Tests 5 to 10 of the used bytes: 0, or the number of the first that fails.
-fn used_code(e: Edition, u: &[u8], told: usize) -> usize
+// Tests 5 to 10 of the used bytes.
+fn check_used(e: Edition, u: &[u8], told: usize) -> Result<(), Refusal>
     requires { Sane e × (2 + used_width u.now ≤ length u.now) }
-    ensures { result ≡ used_verdict e told u.now }
+    ensures { code result ≡ used_verdict e told u.now }
 {
     let k = be::be8(u, 0);
     let wides = be::be8(u, 1);
     let at = 2 + width(wides);
     if !tiled(e, u, at, k, wides, told) {
-        return refusal::TILE;
+        return Err(Refusal::Tile);
     }
     if !named(e, u, at, k, wides) {
-        return refusal::NAME;
+        return Err(Refusal::Name);
     }
     let parent = number(u, 2, wides);
     if !numbered(e, u, parent, at, k, wides) {
-        return refusal::NUMBER;
+        return Err(Refusal::Number);
     }
     if wides != count_wide(e, u, parent, at, k, wides) {
-        return refusal::INDEX;
+        return Err(Refusal::Index);
     }
     if !once(e, u, at, k, wides) {
-        return refusal::TWICE;
+        return Err(Refusal::Twice);
     }
-    0
+    Ok(())
 }
 
 // Tests 4 to 10 of a fork.
-fn fork_code(e: Edition, f: &[u8], size: usize, told: usize) -> usize
+fn check_fork(e: Edition, f: &[u8], size: usize, told: usize) -> Result<(), Refusal>
     requires { Sane e × (2 ≤ length f.now) }
-    ensures { result ≡ fork_verdict e told f.now size }
+    ensures { code result ≡ fork_verdict e told f.now size }
 {
     let wides = be::be8(f, 1);
     if size < 2 + width(wides) {
-        return refusal::SPAN;
+        return Err(Refusal::Span);
     }
     if f.len() < size {
-        return refusal::SPAN;
+        return Err(Refusal::Span);
     }
-    used_code(e, &f[..size], told)
+    check_used(e, &f[..size], told)
 }
 
 // How long the data fork of a directory's inode is.
@@ -287,29 +281,25 @@ pub fn fork_long(e: Edition, b: &[u8]) -> usize
     dinode::data_long(e, b)
 }
 
-// Tests 1 to 10: 0, or the number of the first that fails.
-pub fn code(e: Edition, b: &[u8], told: usize) -> usize
+// Tests 1 to 10.
+pub fn check(e: Edition, b: &[u8], told: usize) -> Result<(), Refusal>
     requires { Sane e }
-    ensures { result ≡ verdict e told b.now }
+    ensures { code result ≡ verdict e told b.now }
 {
     if !edition::block_sized(told) {
-        return refusal::SIZE;
+        return Err(Refusal::Size);
     }
-    match dinode::fork_of_directory(e, b) {
-        Fork::At(start, len) => {
-            let end = start + len;
-            let size = be::be64(b, dinode::SIZE_PLACE) as usize;
-            fork_code(e, &b[start..end], size, told)
-        }
-        Fork::Refused(n) => n,
-    }
+    let fork = dinode::fork_of_directory(e, b)?;
+    let end = fork.start + fork.len;
+    let size = be::be64(b, dinode::SIZE_PLACE) as usize;
+    check_fork(e, &b[fork.start..end], size, told)
 }
 
-// Tests the directory in an inode: 0, or the number of the first test that fails.
-pub fn test(b: &[u8], told: usize) -> usize
-    ensures { result ≡ verdict v4 told b.now }
+// Tests the directory in an inode.
+pub fn test(b: &[u8], told: usize) -> Result<(), Refusal>
+    ensures { code result ≡ verdict v4 told b.now }
 {
-    code(V4::edition(), b, told)
+    check(V4::edition(), b, told)
 }
 
 // How many bytes of the fork are used, in an inode that passes the tests.
@@ -331,45 +321,33 @@ pub fn parent_of(u: &[u8]) -> u64
     number(u, 2, be::be8(u, 1))
 }
 
-// What the search for a name finds: whether an entry bears it, how many stand before it, where it starts, what it stands for, its tag.
+// The first entry of a name: how many stand before it, where it starts, what it stands for, its tag.
 #[derive(Clone, Copy)]
 pub struct Hit {
-    pub held: bool,
     pub index: usize,
     pub at: usize,
     pub target: Target,
     pub tag: usize,
 }
 
-pub fn seek_name<'a, 'b>(e: Edition, u: &'a [u8], name: &'b [u8]) -> Hit
+// Searches for the first entry of a name.
+pub fn seek_name<'a, 'b>(e: Edition, u: &'a [u8], name: &'b [u8]) -> Option<Hit>
     requires { Sane e × Readable e u.now }
-    ensures { Hits e name.now u.now result }
+    ensures { result ≡ hits e name.now u.now }
 {
     let k = be::be8(u, 0);
     let wides = be::be8(u, 1);
     let s = find(e, u, 2 + width(wides), k, wides, name);
-    let index = s.index;
-    let at = s.at;
-    if index == k {
-        let target = Target { inode: 0, kind: 0 };
-        return Hit {
-            held: false,
-            index,
-            at,
-            target,
-            tag: 0,
-        };
+    if s.index == k {
+        return None;
     }
-    let n = namelen(e, u, at, wides);
-    let target = target_at(e, u, at + 3 + n, wides);
-    let tag = be::be16(u, at + 1);
-    Hit {
-        held: true,
-        index,
-        at,
-        target,
-        tag,
-    }
+    let n = namelen(e, u, s.at, wides);
+    Some(Hit {
+        index: s.index,
+        at: s.at,
+        target: target_at(e, u, s.at + 3 + n, wides),
+        tag: be::be16(u, s.at + 1),
+    })
 }
 
 // Where the entry after the one at a place starts.
@@ -385,58 +363,50 @@ pub fn next_of(e: Edition, u: &[u8], at: usize, index: usize) -> usize
 // ---- lookup
 
 // A lookup in the used bytes.
-fn look<'a, 'b>(e: Edition, u: &'a [u8], name: &'b [u8]) -> Looked
+fn look<'a, 'b>(e: Edition, u: &'a [u8], name: &'b [u8]) -> Result<Looked, Refusal>
     requires { Sane e × Readable e u.now }
-    ensures { result ≡ looked e name.now (parent u.now) (entries e u.now) }
+    ensures { numbered result ≡ looked e name.now (parent u.now) (entries e u.now) }
 {
     if !name::legal(e, name) {
-        return Looked::Refused(refusal::ASKED);
+        return Err(Refusal::Asked);
     }
     if name::equal(name, b".") {
-        return Looked::Refused(refusal::FIXED);
+        return Err(Refusal::Fixed);
     }
     if name::equal(name, b"..") {
         let parent = Target {
             inode: parent_of(u),
             kind: 2,
         };
-        let target = dir::kept(e, parent);
-        let tag = 0;
-        return Looked::Found {
-            target,
-            tag,
+        return Ok(Looked::Found {
+            target: dir::kept(e, parent),
+            tag: 0,
             compared: 0,
-        };
+        });
     }
-    let h = seek_name(e, u, name);
-    if h.held {
-        let target = h.target;
-        let tag = h.tag;
-        return Looked::Found {
-            target,
-            tag,
+    Ok(match seek_name(e, u, name) {
+        Some(h) => Looked::Found {
+            target: h.target,
+            tag: h.tag,
             compared: 0,
-        };
-    }
-    Looked::Absent { compared: 0 }
+        },
+        None => Looked::Absent { compared: 0 },
+    })
 }
 
-fn look_up<'a, 'b>(e: Edition, b: &'a [u8], told: usize, name: &'b [u8]) -> Looked
+fn look_up<'a, 'b>(e: Edition, b: &'a [u8], told: usize, name: &'b [u8]) -> Result<Looked, Refusal>
     requires { Sane e }
-    ensures { result ≡ lookup e told b.now name.now }
+    ensures { numbered result ≡ lookup e told b.now name.now }
 {
-    let c = code(e, b, told);
-    if c != 0 {
-        return Looked::Refused(c);
-    }
+    check(e, b, told)?;
     let start = e.literal;
     let end = start + used_long(e, b, told);
     look(e, &b[start..end], name)
 }
 
 // What a name stands for, and its entry's tag; ".." gives the parent, and tag 0.
-pub fn lookup<'a, 'b>(b: &'a [u8], told: usize, name: &'b [u8]) -> Looked
-    ensures { LookupPromise v4 told b.now name.now result }
+pub fn lookup<'a, 'b>(b: &'a [u8], told: usize, name: &'b [u8]) -> Result<Looked, Refusal>
+    ensures { LookupPromise v4 told b.now name.now (numbered result) }
 {
     look_up(V4::edition(), b, told, name)
 }
@@ -444,9 +414,9 @@ pub fn lookup<'a, 'b>(b: &'a [u8], told: usize, name: &'b [u8]) -> Looked
 // ---- the walk
 
 // One step of the walk over the used bytes.
-fn step_over(e: Edition, u: &[u8], place: usize) -> Walked
+fn step_over(e: Edition, u: &[u8], place: usize) -> Result<Step, Refusal>
     requires { Sane e × Readable e u.now × (length u.now ≤ 1948) }
-    ensures { result ≡ walked_in e u.now place }
+    ensures { numbered result ≡ walked_in e u.now place }
 {
     let k = be::be8(u, 0);
     let wides = be::be8(u, 1);
@@ -466,7 +436,7 @@ fn step_over(e: Edition, u: &[u8], place: usize) -> Walked
                 len: n,
             };
             let seen = Seen::Live(live);
-            return Walked::Stepped(Step {
+            return Ok(Step {
                 next: end + w,
                 seen,
             });
@@ -475,30 +445,27 @@ fn step_over(e: Edition, u: &[u8], place: usize) -> Walked
         i += 1;
     }
     if place == p {
-        return Walked::Stepped(Step {
+        return Ok(Step {
             next: p,
             seen: Seen::End,
         });
     }
-    Walked::Refused(refusal::ASKED)
+    Err(Refusal::Asked)
 }
 
-fn walk_from(e: Edition, b: &[u8], told: usize, place: usize) -> Walked
+fn walk_from(e: Edition, b: &[u8], told: usize, place: usize) -> Result<Step, Refusal>
     requires { Sane e }
-    ensures { result ≡ walk_step e told b.now place }
+    ensures { numbered result ≡ walk_step e told b.now place }
 {
-    let c = code(e, b, told);
-    if c != 0 {
-        return Walked::Refused(c);
-    }
+    check(e, b, told)?;
     let start = e.literal;
     let end = start + used_long(e, b, told);
     step_over(e, &b[start..end], place)
 }
 
 // One step of the walk, from a place counted from the fork's start. The first place is behind the header: 6, or 10 where i8count is not 0.
-pub fn step_at(b: &[u8], told: usize, place: usize) -> Walked
-    ensures { StepPromise v4 told b.now place result }
+pub fn step_at(b: &[u8], told: usize, place: usize) -> Result<Step, Refusal>
+    ensures { StepPromise v4 told b.now place (numbered result) }
 {
     walk_from(V4::edition(), b, told, place)
 }

@@ -11,8 +11,8 @@ returns-then-equal c = search (rules, look_fixed)
 pub returns-then-equal-2 : goal.returns-then-equal-2
 returns-then-equal-2 c = search (rules, look_parent)
 
-pub returns-then-h : goal.returns-then-h
-returns-then-h c = search (rules, look_found)
+pub returns-in-Some : goal.returns-in-Some
+returns-in-Some c = search (rules, look_found)
 
-pub returns : goal.returns
-returns c = search (rules, look_absent)
+pub returns-in-None : goal.returns-in-None
+returns-in-None c = search (rules, look_absent)

@@ -6,8 +6,8 @@ use Rattle.dir_sf.proofs.seek_name.Goals as goal
 pub find-s-requires : goal.find-s-requires
 find-s-requires c = (search rules, search (rules, header_in), search (rules, list_enough))
 
-pub returns-then-index-k : goal.returns-then-index-k
-returns-then-index-k c = search (rules, hit_none)
+pub returns-then-s-k : goal.returns-then-s-k
+returns-then-s-k c = search (rules, hit_none)
 
 pub namelen-n-requires : goal.namelen-n-requires
 namelen-n-requires c = search (rules, hit_in)

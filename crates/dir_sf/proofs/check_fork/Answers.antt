@@ -2,7 +2,7 @@ use borrow.Author.Rules.{rules}
 use native.Mathlib.Omega.{arith}
 use lib.ListN.{length-take}
 use Rattle.dir_sf.proofs.Verdicts.{span_under, span_over, span_in, used_in}
-use Rattle.dir_sf.proofs.fork_code.Goals as goal
+use Rattle.dir_sf.proofs.check_fork.Goals as goal
 
 pub returns-then-size-width : goal.returns-then-size-width
 returns-then-size-width c = search (rules, span_under)
@@ -10,11 +10,11 @@ returns-then-size-width c = search (rules, span_under)
 pub returns-then-f-size : goal.returns-then-f-size
 returns-then-f-size c = search (rules, span_over)
 
-pub slice_bounds-used_code-end : goal.slice_bounds-used_code-end
-slice_bounds-used_code-end c = simp length-take (omega arith)
+pub slice_bounds-check_used-end : goal.slice_bounds-check_used-end
+slice_bounds-check_used-end c = simp length-take (omega arith)
 
-pub used_code-requires : goal.used_code-requires
-used_code-requires c = (search rules, search (rules, used_in))
+pub check_used-requires : goal.check_used-requires
+check_used-requires c = (search rules, search (rules, used_in))
 
 pub returns : goal.returns
 returns c = search (rules, span_in)

@@ -3,7 +3,7 @@ use mathlib.Core.Bool.{not}
 use mathlib.Core.Path.{ap}
 use Rattle.dir_sf.proofs.Listed.{header_in, parent_in}
 use Rattle.dir_sf.proofs.Verdicts.{tiles_enough, verdict_5, verdict_6, verdict_7, verdict_8, verdict_10, verdict_0}
-use Rattle.dir_sf.proofs.used_code.Goals as goal
+use Rattle.dir_sf.proofs.check_used.Goals as goal
 
 pub tiled-requires : goal.tiled-requires
 tiled-requires c = (search rules, search (rules, header_in), search rules)
