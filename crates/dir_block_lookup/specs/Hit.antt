@@ -1,7 +1,10 @@
--- What the search hands back, as the definition's record.
+-- What the search hands back, of the definition's record.
 -- Assumes nothing.
+use Rattle.std.specs.Prelude.{cond, Some, None}
 use Rattle.dir_block_rules.specs.Lookup.{Sought}
 use Rattle.dir_block_lookup.specs.declared.Hit as hit_type
+use Rattle.dir_block_lookup.specs.declared.Search as search_type
 
-abbrev pub as_sought : hit_type.Hit → Sought
-as_sought r = record { hit = r.hit; index = r.index; at = r.at; compared = r.compared }
+-- the slot and the entry where the search hits
+abbrev pub found_as : Sought → search_type.Search
+found_as s = record { found = cond s.hit (Some (record { index = s.index; at = s.at })) None; compared = s.compared }

@@ -4,6 +4,7 @@
 ghost use Rattle.std.specs.Prelude.{◌≡◌, true, ◌+◌, ◌≤◌, length, take, drop};
 ghost use Rattle.be.specs.Bytes.{byte};
 ghost use Rattle.edition.specs.Edition.{v4, Sane};
+ghost use Rattle.refusal.specs.Refusal.{numbered};
 ghost use Rattle.name.specs.Name.{hash_of, same_name};
 ghost use Rattle.dir_block_rules.specs.Block.{records, data_end, count_of, slots};
 ghost use Rattle.dir_block_rules.specs.Lookup.{sought, name_at, target_at, lookup, LookupPromise};
@@ -11,10 +12,11 @@ ghost use Rattle.dir_block_rules.specs.Walk.{is_place, walk_step, StepPromise};
 ghost use Rattle.dir_block_laws.specs.Pass.{Place, Steps};
 ghost use Rattle.dir_block_laws.specs.Tiled.{Ready};
 ghost use Rattle.dir_block_laws.specs.SlotIndex.{all_below, all_from};
-ghost use Rattle.dir_block_lookup.specs.Hit.{as_sought};
+ghost use Rattle.dir_block_lookup.specs.Hit.{found_as};
 
-use dir::{Entry, Looked, Seen, Step, Target, Walked};
+use dir::{Entry, Looked, Seen, Step, Target};
 use edition::{Edition, V4};
+use refusal::Refusal;
 
 // Whether the entry at offset o has the name.
 fn named(e: Edition, b: &[u8], o: usize, name: &[u8]) -> bool
@@ -58,30 +60,33 @@ pub fn first_slot(e: Edition, b: &[u8], end: usize, count: usize, h: usize) -> u
     lo
 }
 
-// What a search finds: the slot's index and the entry's offset if there is one, and how many names were compared.
+// A slot whose entry has the name sought: the slot's index and the entry's offset.
 #[derive(Clone, Copy)]
 pub struct Hit {
-    pub hit: bool,
     pub index: usize,
     pub at: usize,
+}
+
+// What a search finds, and how many names it compared.
+#[derive(Clone, Copy)]
+pub struct Search {
+    pub found: Option<Hit>,
     pub compared: usize,
 }
 
 // The search for a name: the run of slots with its hash h, up to the slot whose entry has the name.
-pub fn seek(e: Edition, b: &[u8], end: usize, count: usize, name: &[u8], h: usize) -> Hit
+pub fn seek(e: Edition, b: &[u8], end: usize, count: usize, name: &[u8], h: usize) -> Search
     requires sane { Sane e × Ready e b.now }
     requires end_value { (end ≡ data_end b.now) × (count ≡ count_of b.now) }
     requires h_value { h ≡ hash_of e name.now }
-    ensures { sought e b.now name.now ≡ as_sought result }
+    ensures { result ≡ found_as (sought e b.now name.now) }
 {
     let mut i = first_slot(e, b, end, count, h);
     let mut c = 0;
     while i < count {
         if be::be32(b, end + 8 * i) != h {
-            return Hit {
-                hit: false,
-                index: count,
-                at: 0,
+            return Search {
+                found: None,
                 compared: c,
             };
         }
@@ -89,20 +94,19 @@ pub fn seek(e: Edition, b: &[u8], end: usize, count: usize, name: &[u8], h: usiz
         if a != 0 {
             c += 1;
             if named(e, b, 8 * a, name) {
-                return Hit {
-                    hit: true,
-                    index: i,
-                    at: 8 * a,
+                return Search {
+                    found: Some(Hit {
+                        index: i,
+                        at: 8 * a,
+                    }),
                     compared: c,
                 };
             }
         }
         i += 1;
     }
-    Hit {
-        hit: false,
-        index: count,
-        at: 0,
+    Search {
+        found: None,
         compared: c,
     }
 }
@@ -118,49 +122,44 @@ pub fn end_of_data(e: Edition, b: &[u8]) -> usize
 
 // The lookup of a name, whose hash is h, in a tested block. A name that is found is legal, as every stored name is: only one that is not
 // found is looked at for that.
-fn lookup_ready(e: Edition, b: &[u8], name: &[u8], h: usize) -> Looked
+fn lookup_ready(e: Edition, b: &[u8], name: &[u8], h: usize) -> Result<Looked, Refusal>
     requires sane { Sane e × Ready e b.now }
     requires h_value { h ≡ hash_of e name.now }
-    ensures { result ≡ lookup e b.now name.now }
+    ensures { numbered result ≡ lookup e b.now name.now }
 {
     let n = b.len();
     let count = be::be32(b, n - 8);
     let s = seek(e, b, n - 8 - 8 * count, count, name, h);
-    let hit = s.hit;
-    if hit {
-        let at = s.at;
-        let target = target_at(e, b, at);
-        return Looked::Found {
+    if let Some(hit) = s.found {
+        let target = target_at(e, b, hit.at);
+        return Ok(Looked::Found {
             target,
-            tag: at,
+            tag: hit.at,
             compared: s.compared,
-        };
+        });
     }
     if !name::legal(e, name) {
-        return Looked::Refused(refusal::ASKED);
+        return Err(Refusal::Asked);
     }
-    Looked::Absent {
+    Ok(Looked::Absent {
         compared: s.compared,
-    }
+    })
 }
 
-fn lookup_in(e: Edition, b: &[u8], name: &[u8]) -> Looked
+fn lookup_in(e: Edition, b: &[u8], name: &[u8]) -> Result<Looked, Refusal>
     requires { Sane e }
-    ensures { result ≡ lookup e b.now name.now }
+    ensures { numbered result ≡ lookup e b.now name.now }
 {
-    let n = dir_block_test::code(e, b);
-    if n != 0 {
-        return Looked::Refused(n);
-    }
+    dir_block_test::check(e, b)?;
     // Too long to be a name, and not hashed.
     if 255 < name.len() {
-        return Looked::Refused(refusal::ASKED);
+        return Err(Refusal::Asked);
     }
     lookup_ready(e, b, name, name_words::hash(e, name))
 }
 
 // The lookup of a name in a block of the V4 edition.
-pub fn lookup(b: &[u8], name: &[u8]) -> Looked
+pub fn lookup(b: &[u8], name: &[u8]) -> Result<Looked, Refusal>
     ensures { LookupPromise v4 b.now name.now result }
 {
     lookup_in(V4::edition(), b, name)
@@ -217,23 +216,20 @@ fn stands(e: Edition, b: &[u8], end: usize, p: usize) -> bool
     o == p
 }
 
-fn step_in(e: Edition, b: &[u8], p: usize) -> Walked
+fn step_in(e: Edition, b: &[u8], p: usize) -> Result<Step, Refusal>
     requires { Sane e }
-    ensures { result ≡ walk_step e b.now p }
+    ensures { numbered result ≡ walk_step e b.now p }
 {
-    let n = dir_block_test::code(e, b);
-    if n != 0 {
-        return Walked::Refused(n);
-    }
+    dir_block_test::check(e, b)?;
     let end = end_of_data(e, b);
     if !stands(e, b, end, p) {
-        return Walked::Refused(refusal::ASKED);
+        return Err(Refusal::Asked);
     }
-    Walked::Stepped(step_ready(e, b, end, p))
+    Ok(step_ready(e, b, end, p))
 }
 
 // One step of the walk over a block of the V4 edition.
-pub fn step(b: &[u8], p: usize) -> Walked
+pub fn step(b: &[u8], p: usize) -> Result<Step, Refusal>
     ensures { StepPromise v4 b.now p result }
 {
     step_in(V4::edition(), b, p)

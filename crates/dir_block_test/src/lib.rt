@@ -1,4 +1,4 @@
-// The test of a block directory: any bytes, answered by 0 or the number of the first test that fails. One pass over the slots, which leaves
+// The test of a block directory: any bytes, refused by the first test that fails. One pass over the slots, which leaves
 // each slot's hash and address in a table by address; one over the records; and, where slots have one hash, one more over the slots.
 #![tactic(auto)]
 
@@ -7,6 +7,7 @@ ghost use Rattle.std.specs.Bool.{beq};
 ghost use Rattle.be.specs.Bytes.{byte, field, part};
 ghost use Rattle.be.specs.Words.{le};
 ghost use Rattle.edition.specs.Edition.{v4, Sane};
+ghost use Rattle.refusal.specs.Refusal.{code};
 ghost use Rattle.name.specs.Name.{legal_name};
 ghost use Rattle.dir_block_rules.specs.Record.{says, gaps, entries};
 ghost use Rattle.dir_block_rules.specs.Verdict.{pair, number_fits, best_pairs, best_ok, index_ok, verdict};
@@ -14,6 +15,7 @@ ghost use Rattle.dir_block_twice.specs.Twice.{slots_from};
 ghost use Rattle.dir_block_test.specs.Passes.{rest, whole_len, ordered_with, level, slot_word, cells_of, hint, name_fits, fault_at, own_at, best_left, which, Surveys, Faulted, after_index, after_tile, after_span, Parts, DataTiled};
 
 use edition::{Edition, V4};
+use refusal::Refusal;
 
 // Whether the record at o is a gap.
 fn is_gap(b: &[u8], o: usize) -> bool
@@ -164,7 +166,13 @@ fn number_fits(e: Edition, b: &[u8], o: usize, s: &[u8], own: u64) -> bool
 }
 
 // No test failed: above every refusal, so that the lowest fault counts.
-const NO_FAULT: usize = refusal::HIGHEST + 1;
+const NO_FAULT: usize = 16;
+
+const NAME: usize = Refusal::Name as usize;
+
+const NUMBER: usize = Refusal::Number as usize;
+
+const INDEX: usize = Refusal::Index as usize;
 
 // The first test that the entry at o fails: NAME, NUMBER or INDEX. The number of "." is the word `own`.
 fn entry_fault(e: Edition, b: &[u8], o: usize, t: usize, cells: &[u64], own: u64) -> usize
@@ -177,15 +185,15 @@ fn entry_fault(e: Edition, b: &[u8], o: usize, t: usize, cells: &[u64], own: u64
     let end = from + be::be8(b, o + 8);
     let c = name_words::check_in(e, b, from, end);
     if !name_fits(e, c.legal, &b[from..end], o) {
-        return refusal::NAME;
+        return NAME;
     }
     if !number_fits(e, b, o, &b[from..end], own) {
-        return refusal::NUMBER;
+        return NUMBER;
     }
     if has_slot(cells, c.hash, o / 8) {
         return NO_FAULT;
     }
-    refusal::INDEX
+    INDEX
 }
 
 fn lower(x: usize, y: usize) -> usize
@@ -333,23 +341,31 @@ fn best_fits(p: Best, q: Best, s: Best, left: bool) -> bool
 }
 
 // The tests from BEST on. Names are compared only if neighbours have one hash.
-fn test_best(e: Edition, b: &[u8], t: usize, n: usize, m: usize, best: bool, equal: bool) -> usize
+fn test_best(
+    e: Edition,
+    b: &[u8],
+    t: usize,
+    n: usize,
+    m: usize,
+    best: bool,
+    equal: bool,
+) -> Result<(), Refusal>
     requires sane { Sane e }
     requires data_tiled { DataTiled e b.now t n × (index_ok e (rest e b.now t (length b.now) e.header) (slots_from b.now t n 0) m ≡ true)
         × (best ≡ best_ok (best_pairs e b.now) (gaps (rest e b.now t (length b.now) e.header)))
         × (equal ≡ level 0 (slots_from b.now t n 0)) }
-    ensures { result ≡ after_index e b.now (rest e b.now t (length b.now) e.header) }
+    ensures { code result ≡ after_index e b.now (rest e b.now t (length b.now) e.header) }
 {
     if !best {
-        return refusal::BEST;
+        return Err(Refusal::Best);
     }
     if !equal {
-        return 0;
+        return Ok(());
     }
     if !dir_block_twice::once(e, b, t, n) {
-        return refusal::TWICE;
+        return Err(Refusal::Twice);
     }
-    0
+    Ok(())
 }
 
 // Whether an entry stands at o.
@@ -374,29 +390,29 @@ fn test_entries(
     run: Run,
     w: usize,
     best: bool,
-) -> usize
+) -> Result<(), Refusal>
     requires sane { Sane e }
     requires data_tiled { DataTiled e b.now t n × (m ≤ n) × (live ≡ length (entries (rest e b.now t (length b.now) e.header)))
         × (run.good ≡ ordered_with 0 0 m (slots_from b.now t n 0)) × (run.equal ≡ level 0 (slots_from b.now t n 0))
         × Faulted e b.now t n w
         × (best ≡ best_ok (best_pairs e b.now) (gaps (rest e b.now t (length b.now) e.header))) }
-    ensures { result ≡ after_tile e b.now (rest e b.now t (length b.now) e.header)
+    ensures { code result ≡ after_tile e b.now (rest e b.now t (length b.now) e.header)
         (slots_from b.now t n 0) m }
 {
-    if w <= refusal::NAME {
-        return refusal::NAME;
+    if w <= NAME {
+        return Err(Refusal::Name);
     }
     if !(entry_at(b, e.header, t) & entry_at(b, e.header + 16, t)) {
-        return refusal::NAME;
+        return Err(Refusal::Name);
     }
-    if w <= refusal::NUMBER {
-        return refusal::NUMBER;
+    if w <= NUMBER {
+        return Err(Refusal::Number);
     }
     if !(run.good & (n - m == live)) {
-        return refusal::INDEX;
+        return Err(Refusal::Index);
     }
-    if w <= refusal::INDEX {
-        return refusal::INDEX;
+    if w <= INDEX {
+        return Err(Refusal::Index);
     }
     test_best(e, b, t, n, m, best, run.equal)
 }
@@ -409,10 +425,10 @@ fn test_data_with<'a, 'b>(
     n: usize,
     m: usize,
     cells: &'b mut [u64],
-) -> usize
+) -> Result<(), Refusal>
     requires sane { Sane e }
     requires parts { Parts e b.now t n × (m ≤ n) × (t ≤ 8 * length cells.old) × (cells.old ≡ replicate (length cells.old) 0) }
-    ensures { result ≡ after_span e b.now (rest e b.now t (length b.now) e.header)
+    ensures { code result ≡ after_span e b.now (rest e b.now t (length b.now) e.header)
         (slots_from b.now t n 0) m }
 {
     let run = slots(b, t, n, m, cells);
@@ -432,7 +448,7 @@ fn test_data_with<'a, 'b>(
         is_zero(s),
     );
     if r.n == 0 {
-        return refusal::TILE;
+        return Err(Refusal::Tile);
     }
     test_entries(e, b, t, n, m, r.n - 1, run, r.w, best_fits(p, q, s, r.best))
 }
@@ -446,10 +462,10 @@ const DATA_4: usize = 4096;
 const DATA_16: usize = 16384;
 
 // The tests from TILE on.
-fn test_data(e: Edition, b: &[u8], t: usize, n: usize, m: usize) -> usize
+fn test_data(e: Edition, b: &[u8], t: usize, n: usize, m: usize) -> Result<(), Refusal>
     requires sane { Sane e }
     requires parts { Parts e b.now t n × (m ≤ n) }
-    ensures { result ≡ after_span e b.now (rest e b.now t (length b.now) e.header)
+    ensures { code result ≡ after_span e b.now (rest e b.now t (length b.now) e.header)
         (slots_from b.now t n 0) m }
 {
     if t <= DATA_1 {
@@ -468,32 +484,32 @@ fn test_data(e: Edition, b: &[u8], t: usize, n: usize, m: usize) -> usize
     test_data_with(e, b, t, n, m, &mut cells)
 }
 
-// The test of a block of an edition: 0, or the number of the first test that fails.
-pub fn code(e: Edition, b: &[u8]) -> usize
+// The test of a block of an edition: refused by the first test that fails.
+pub fn check(e: Edition, b: &[u8]) -> Result<(), Refusal>
     requires { Sane e }
-    ensures { result ≡ verdict e b.now }
+    ensures { code result ≡ verdict e b.now }
 {
     let len = b.len();
     if !edition::block_sized(len) {
-        return refusal::SIZE;
+        return Err(Refusal::Size);
     }
     if be::be32(b, 0) != e.magic {
-        return refusal::MAGIC;
+        return Err(Refusal::Magic);
     }
     let n = be::be32(b, len - 8);
     let m = be::be32(b, len - 4);
     if len < e.header + 8 * n + 8 {
-        return refusal::SPAN;
+        return Err(Refusal::Span);
     }
     if n < m {
-        return refusal::SPAN;
+        return Err(Refusal::Span);
     }
     test_data(e, b, len - 8 - 8 * n, n, m)
 }
 
 // The test of a block of the V4 edition.
-pub fn test(b: &[u8]) -> usize
-    ensures { result ≡ verdict v4 b.now }
+pub fn test(b: &[u8]) -> Result<(), Refusal>
+    ensures { code result ≡ verdict v4 b.now }
 {
-    code(V4::edition(), b)
+    check(V4::edition(), b)
 }

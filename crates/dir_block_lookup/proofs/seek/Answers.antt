@@ -1,10 +1,11 @@
 use mathlib.Core.List.{◌∷◌}
 use Prim.Native.Nat.{ℕ, ◌≤◌, ◌+◌}
 use native.Mathlib.Omega.{arith}
-use mathlib.Core.Path.{◌≡◌, refl, sym, ◌∙◌, subst}
+use mathlib.Core.Path.{◌≡◌, refl, sym, ◌∙◌, ap, subst}
 use lib.ListN.{drop}
 use Rattle.dir_block_rules.specs.Block.{slots, slot, Slot}
 use Rattle.dir_block_laws.proofs.SlotSearch.{slots_room, Run, run_start, run_other, run_end, run_stale, run_differs, run_hit, slot_read, live_inside, ordered, length_slots}
+use Rattle.dir_block_lookup.specs.Hit.{found_as}
 use Rattle.dir_block_lookup.proofs.seek.Goals as goal
 use Rattle.dir_block_lookup.proofs.seek.Goals.{After-be32-a, then-a-ne0+else-named, else-a-ne0}
 
@@ -43,8 +44,8 @@ returns-then-be32-h c =
     let s =
     slot_read _ b c.requires.sane.0 c.requires.sane.1 c.args.end l.i c.be32.result _ c.requires.end_value.0 (omega (arith, c.requires.end_value))
     c.be32.ensures.0 refl in
-    run_other _ b c.args.name.now l.i l.c l.invariant.0 _ s c.args.count (ordered _ b c.requires.sane.0 c.requires.sane.1)
-    (length_slots _ b c.requires.sane.1 ∙ sym c.requires.end_value.1) (omega arith) (λ z. c.if-be32-h.true (z ∙ sym c.requires.h_value))
+    sym (ap found_as (run_other _ b c.args.name.now l.i l.c l.invariant.0 _ s c.args.count (ordered _ b c.requires.sane.0 c.requires.sane.1)
+    (length_slots _ b c.requires.sane.1 ∙ sym c.requires.end_value.1) (omega arith) (λ z. c.if-be32-h.true (z ∙ sym c.requires.h_value))))
 
 pub overflow_mul-i-in-loop-i : goal.overflow_mul-i-in-loop-i
 overflow_mul-i-in-loop-i c = omega (arith, slots_room _ c.args.b.now c.requires.sane.0 c.requires.sane.1, c.requires.end_value)
@@ -79,8 +80,8 @@ overflow_mul-result c =
 pub returns-then-named : goal.returns-then-named
 returns-then-named c =
     let l = c.loop-i in
-    run_hit _ c.args.b.now c.args.name.now l.i l.c l.invariant.0 (slot c.be32.result c.be32-a.result) (here (goal.at.returns-then-named c).After-be32-a)
-    c.if-a-ne0.true (c.if-be32-h.false ∙ c.requires.h_value) (sym c.named.ensures ∙ c.if-named.true)
+    sym (ap found_as (run_hit _ c.args.b.now c.args.name.now l.i l.c l.invariant.0 (slot c.be32.result c.be32-a.result) (here (goal.at.returns-then-named c).After-be32-a)
+    c.if-a-ne0.true (c.if-be32-h.false ∙ c.requires.h_value) (sym c.named.ensures ∙ c.if-named.true)))
 
 pub loop-i-preserved : goal.loop-i-preserved
 loop-i-preserved c =
@@ -101,5 +102,5 @@ loop-i-preserved c =
 pub returns : goal.returns
 returns c =
     let l = c.loop-i in
-    run_end _ c.args.b.now c.args.name.now l.i l.c l.invariant.0 c.args.count
-    (length_slots _ c.args.b.now c.requires.sane.1 ∙ sym c.requires.end_value.1) (omega arith) l.invariant.1
+    sym (ap found_as (run_end _ c.args.b.now c.args.name.now l.i l.c l.invariant.0 c.args.count
+    (length_slots _ c.args.b.now c.requires.sane.1 ∙ sym c.requires.end_value.1) (omega arith) l.invariant.1))

@@ -5,4 +5,4 @@ use Rattle.dir_block_test.proofs.test.Goals as goal
 
 pub returns : goal.returns
 returns c =
-    c.code.ensures ∙ ap (λ (e : Edition). verdict e c.args.b.now) c.edition.ensures.0
+    c.check.ensures ∙ ap (λ (e : Edition). verdict e c.args.b.now) c.edition.ensures.0

@@ -1,6 +1,6 @@
 use native.Mathlib.Omega.{arith}
 use Rattle.dir_block_test.proofs.EarlyTests.{end_1, sizes, end_2, end_4, end_4', block_parts, end_span}
-use Rattle.dir_block_test.proofs.code.Goals as goal
+use Rattle.dir_block_test.proofs.check.Goals as goal
 
 pub returns-then-not-block_sized : goal.returns-then-not-block_sized
 returns-then-not-block_sized c = end_1 _ c.requires _ _ c.block_sized.ensures c.if-not-block_sized.true
