@@ -2,6 +2,7 @@
 #![tactic(auto)]
 
 ghost use Rattle.std.specs.Prelude.{◌≡◌, true, false, ◌+◌, ◌-◌, ◌*◌, ◌/◌, ◌%◌, ◌≤◌, ◌<◌, ◌++◌, length, replicate};
+ghost use Rattle.refusal.specs.Refusal.{code};
 ghost use Rattle.be.specs.Lists.{without_first, keep};
 ghost use Rattle.be.specs.Bytes.{byte, bytes, to_be, put, written};
 ghost use Rattle.edition.specs.Edition.{v4, entry_size, Sane};
@@ -22,6 +23,7 @@ ghost use Rattle.dir_block_edit.specs.Refusal.{asked_of};
 
 use dir::Target;
 use edition::{Edition, V4};
+use refusal::Refusal;
 
 // A gap of n bytes at o; nothing if n is 0.
 fn put_gap(b: &mut [u8], o: usize, n: usize)
@@ -113,26 +115,25 @@ fn remove_found(e: Edition, b: &mut [u8], end: usize, slot: usize, at: usize, na
     dir_block_scan::joined_table(e, b, s, g.start, g.end);
 }
 
-// The removal of a name other than "." and "..", whose hash is h: 0, or where it is not found 11 or 13. A name that is found is legal.
-fn remove_ready(e: Edition, b: &mut [u8], name: &[u8], h: usize) -> usize
+// The removal of a name other than "." and "..", whose hash is h. A name that is found is legal.
+fn remove_ready(e: Edition, b: &mut [u8], name: &[u8], h: usize) -> Result<(), Refusal>
     requires sane { Sane e × Ready e b.old }
     requires name_value { (fixed_name name.now ≡ false) × (h ≡ hash_of e name.now) }
-    ensures { (result ≡ remove_code e b.old name.now)
+    ensures { (code result ≡ remove_code e b.old name.now)
         × (b.new ≡ remove_bytes e b.old name.now) }
 {
     let n = b.len();
     let c = be::be32(&b[..], n - 8);
     let end = n - 8 - 8 * c;
     let f = dir_block_lookup::seek(e, &b[..], end, c, name, h);
-    let hit = f.hit;
-    if hit {
-        remove_found(e, b, end, f.index, f.at, name);
-        return 0;
+    if let Some(hit) = f.found {
+        remove_found(e, b, end, hit.index, hit.at, name);
+        return Ok(());
     }
     if !name::legal(e, name) {
-        return refusal::ASKED;
+        return Err(Refusal::Asked);
     }
-    refusal::ABSENT
+    Err(Refusal::Absent)
 }
 
 // What stands between an entry's name and its tag: the file type, and k zeros.
@@ -377,13 +378,12 @@ fn choose(
     choose_cd(e, b, end, count, p, m, g.o1, g.l1, h, need, to, name)
 }
 
-// The insert of a legal name other than "." and "..", whose hash is h, with what may be asked for: 0, or 14 if it is there, or 15 if
-// there is no room.
-fn insert_ready(e: Edition, b: &mut [u8], to: Target, name: &[u8], h: usize) -> usize
+// The insert of a legal name other than "." and "..", whose hash is h, with what may be asked for.
+fn insert_ready(e: Edition, b: &mut [u8], to: Target, name: &[u8], h: usize) -> Result<(), Refusal>
     requires sane { Sane e × Ready e b.old }
     requires name_value { (legal_name e name.now ≡ true) × ((legal_in e (own_of e b.old) to ≡ true) × ((fixed_name name.now ≡ false) × (bytes name.now ≡ true))) }
     requires h_value { h ≡ hash_of e name.now }
-    ensures { (result ≡ insert_code e b.old name.now to)
+    ensures { (code result ≡ insert_code e b.old name.now to)
         × (b.new ≡ insert_bytes e b.old name.now to) }
 {
     let n = b.len();
@@ -391,30 +391,29 @@ fn insert_ready(e: Edition, b: &mut [u8], to: Target, name: &[u8], h: usize) -> 
     let s = be::be32(&b[..], n - 4);
     let end = n - 8 - 8 * c;
     let f = dir_block_lookup::seek(e, &b[..], end, c, name, h);
-    let hit = f.hit;
-    if hit {
-        return refusal::EXISTS;
+    if f.found.is_some() {
+        return Err(Refusal::Exists);
     }
     let g = dir_block_scan::survey(e, &b[..], end);
     let done = choose(e, b, end, c, s, g, to, name, h);
     if done {
         dir_block_scan::used_table(e, b, g, s, name.len());
-        return 0;
+        return Ok(());
     }
-    refusal::NOROOM
+    Err(Refusal::NoRoom)
 }
 
-// The refusals of an insert's request that need no search: 11 if it is not legal, 12; 0 if there is none.
-fn request(name: &[u8], legal: bool) -> usize
-    ensures { result ≡ asked_of legal (fixed_name name.now) 0 }
+// The refusals of an insert's request that need no search.
+fn request(name: &[u8], legal: bool) -> Result<(), Refusal>
+    ensures { code result ≡ asked_of legal (fixed_name name.now) 0 }
 {
     if !legal {
-        return refusal::ASKED;
+        return Err(Refusal::Asked);
     }
     if name::fixed(name) {
-        return refusal::FIXED;
+        return Err(Refusal::Fixed);
     }
-    0
+    Ok(())
 }
 
 // The directory's own number: that of ".", which stands at the header's end.
@@ -425,48 +424,39 @@ fn own_number(e: Edition, b: &[u8]) -> u64
     be::be64(b, e.header)
 }
 
-// Insert in a block of an edition: 0, or the number of the refusal. The block is tested first, then the request is judged.
-fn insert_in(e: Edition, b: &mut [u8], name: &[u8], to: Target) -> usize
+// Insert in a block of an edition. The block is tested first, then the request is judged.
+fn insert_in(e: Edition, b: &mut [u8], name: &[u8], to: Target) -> Result<(), Refusal>
     requires { Sane e }
-    ensures { (result ≡ insert_code e b.old name.now to)
+    ensures { (code result ≡ insert_code e b.old name.now to)
         × (b.new ≡ insert_bytes e b.old name.now to) }
 {
-    let t = dir_block_test::code(e, &b[..]);
-    if t != 0 {
-        return t;
-    }
+    dir_block_test::check(e, &b[..])?;
     let asked = name::legal(e, name);
     let legal = dir::legal_in(e, own_number(e, &b[..]), to);
-    let refused = request(name, asked & legal);
-    if refused != 0 {
-        return refused;
-    }
+    request(name, asked & legal)?;
     insert_ready(e, b, to, name, name_words::hash(e, name))
 }
 
 // Removal in a block of an edition.
-fn remove_in(e: Edition, b: &mut [u8], name: &[u8]) -> usize
+fn remove_in(e: Edition, b: &mut [u8], name: &[u8]) -> Result<(), Refusal>
     requires { Sane e }
-    ensures { (result ≡ remove_code e b.old name.now)
+    ensures { (code result ≡ remove_code e b.old name.now)
         × (b.new ≡ remove_bytes e b.old name.now) }
 {
-    let k = dir_block_test::code(e, &b[..]);
-    if k != 0 {
-        return k;
-    }
+    dir_block_test::check(e, &b[..])?;
     // Too long to be a name, and not hashed.
     if 255 < name.len() {
-        return refusal::ASKED;
+        return Err(Refusal::Asked);
     }
     if name::fixed(name) {
-        return refusal::FIXED;
+        return Err(Refusal::Fixed);
     }
     remove_ready(e, b, name, name_words::hash(e, name))
 }
 
-// Insert in a block of the V4 edition: 0, or the number of the refusal.
-pub fn insert(b: &mut [u8], name: &[u8], number: u64) -> usize
-    ensures { (result ≡ insert_code v4 b.old name.now (target number 0))
+// Insert in a block of the V4 edition.
+pub fn insert(b: &mut [u8], name: &[u8], number: u64) -> Result<(), Refusal>
+    ensures { (code result ≡ insert_code v4 b.old name.now (target number 0))
         × (b.new ≡ insert_bytes v4 b.old name.now (target number 0)) }
 {
     insert_in(
@@ -481,8 +471,8 @@ pub fn insert(b: &mut [u8], name: &[u8], number: u64) -> usize
 }
 
 // Removal in a block of the V4 edition.
-pub fn remove(b: &mut [u8], name: &[u8]) -> usize
-    ensures { (result ≡ remove_code v4 b.old name.now)
+pub fn remove(b: &mut [u8], name: &[u8]) -> Result<(), Refusal>
+    ensures { (code result ≡ remove_code v4 b.old name.now)
         × (b.new ≡ remove_bytes v4 b.old name.now) }
 {
     remove_in(V4::edition(), b, name)

@@ -58,7 +58,7 @@ pub fn grow(e: Edition, b: &mut [u8], end: usize, count: usize, i: usize, h: usi
         (index_writes (length b.old) (insert_slot (slot h a) (slots b.old)) 0) }
 {
     let n = b.len();
-    be::move_down(b, end, end - 8, 8 * i);
+    be::move_bytes(b, end, end - 8, 8 * i);
     put_slot(b, end - 8 + 8 * i, h, a);
     put_slot(b, n - 8, count + 1, 0);
 }
@@ -73,11 +73,11 @@ fn move_one(e: Edition, b: &mut [u8], end: usize, p: usize, j: usize, h: usize, 
         (slot_bytes (insert_slot (slot h a) (without_first is_stale (slots b.old)))) }
 {
     if j < p {
-        be::move_down(b, end + 8 * (j + 1), end + 8 * j, 8 * (p - (j + 1)));
+        be::move_bytes(b, end + 8 * (j + 1), end + 8 * j, 8 * (p - (j + 1)));
         put_slot(b, end + 8 * (p - 1), h, a);
         return;
     }
-    be::move_up(b, end + 8 * p, end + 8 * p + 8, 8 * (j - p));
+    be::move_bytes(b, end + 8 * p, end + 8 * p + 8, 8 * (j - p));
     put_slot(b, end + 8 * p, h, a);
 }
 
@@ -155,7 +155,7 @@ pub fn squeeze(
     let n = b.len();
     let w1 = pack(b, end + 8 * p, count - p, n - 8);
     let w2 = pack(b, end, p, w1);
-    be::move_down(b, w2, w2 - 8, w1 - w2);
+    be::move_bytes(b, w2, w2 - 8, w1 - w2);
     put_slot(b, w1 - 8, h, a);
     put_slot(b, n - 8, count - stale + 1, 0);
 }

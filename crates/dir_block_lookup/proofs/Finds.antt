@@ -1,6 +1,5 @@
 -- What the search hands back, and the definition's record that it is made of.
 -- Assumes nothing.
-use Prim.Native.Nat.{ℕ}
 use mathlib.Core.Bool.{Bool, true, false, true≢false}
 use mathlib.Core.Path.{◌≡◌, refl, sym, ap, ◌∙◌}
 use Rattle.std.specs.Prelude.{cond, Option, Some, None, is_some}
@@ -35,3 +34,11 @@ module _ (r : Search) (s : Sought) (q : r ≡ found_as s) where
       go : (t : Bool) → s.hit ≡ t → cond t (Some (record { index = s.index; at = s.at })) None ≡ r.found → s.hit ≡ false
       go true z e = absurd (f _ (sym e))
       go false z e = z
+
+  -- whether it hits
+  pub hit_is : s.hit ≡ is_some r.found
+  hit_is = go s.hit refl ∙ ap (λ (x : Search). is_some x.found) (sym q)
+    where
+      go : (t : Bool) → s.hit ≡ t → s.hit ≡ is_some {T = Hit} (cond s.hit (Some (record { index = s.index; at = s.at })) None)
+      go true e = rw e refl
+      go false e = rw e refl

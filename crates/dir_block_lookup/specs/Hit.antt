@@ -2,7 +2,6 @@
 -- Assumes nothing.
 use Rattle.std.specs.Prelude.{cond, Some, None}
 use Rattle.dir_block_rules.specs.Lookup.{Sought}
-use Rattle.dir_block_lookup.specs.declared.Hit as hit_type
 use Rattle.dir_block_lookup.specs.declared.Search as search_type
 
 -- the slot and the entry where the search hits

@@ -1,6 +1,6 @@
 use native.Mathlib.Omega.{arith}
-use mathlib.Core.Path.{sym, ◌∙◌, ap}
-use Rattle.dir_block_rules.specs.Lookup.{Sought}
+use mathlib.Core.Path.{sym, ◌∙◌}
+use Rattle.dir_block_lookup.proofs.Finds.{hits, misses}
 use Rattle.dir_block_laws.proofs.RecordSteps.{count_read, end_read}
 use Rattle.dir_block_laws.proofs.SlotSearch.{slots_room}
 use Rattle.dir_block_laws.proofs.EditAnswers.{removed_done, removed_absent, removed_asked}
@@ -33,15 +33,13 @@ pub remove_found-requires : goal.remove_found-requires
 remove_found-requires c =
     let b = c.args.b.now in
     let m = end_read b c.be32-c.result (count_read b c.be32-c.result c.be32-c.ensures.0) in
-    let f = c.seek-f.ensures in
-    let i = ap (λ (s : Sought). s.index) f in
-    let o = ap (λ (s : Sought). s.at) f in
-    record { sane = c.requires.sane; end_value = m; name_value = (ap (λ (s : Sought). s.hit) f ∙ c.if-hit.true, (i, o)); name_value_2 = c.requires.name_value.0 }
+    let h = hits _ _ c.seek-f.ensures _ c.in-Some.is in
+    record { sane = c.requires.sane; end_value = m; name_value = (h.0, (h.1, h.2)); name_value_2 = c.requires.name_value.0 }
 
-pub returns-then-hit : goal.returns-then-hit
-returns-then-hit c =
+pub returns-in-Some : goal.returns-in-Some
+returns-in-Some c =
     let q = c.requires in
-    let h = ap (λ (s : Sought). s.hit) c.seek-f.ensures ∙ c.if-hit.true in
+    let h = (hits _ _ c.seek-f.ensures _ c.in-Some.is).0 in
     removed_done _ q.sane.0 _ _ q.sane.1 (found_legal _ q.sane.0 _ _ q.sane.1 h) q.name_value.0 _ h c.remove_found.ensures
 
 pub returns-then-not-legal : goal.returns-then-not-legal
@@ -53,4 +51,4 @@ pub returns : goal.returns
 returns c =
     let q = c.requires in
     removed_absent _ q.sane.0 _ _ q.sane.1 (sym c.legal.ensures ∙ c.if-not-legal.false) q.name_value.0
-    (ap (λ (s : Sought). s.hit) c.seek-f.ensures ∙ c.if-hit.false)
+    (misses _ _ c.seek-f.ensures (λ h. c.in_default.not-Some h))

@@ -7,8 +7,8 @@ pub overflow_mul-i : goal.overflow_mul-i
 overflow_mul-i c =
     omega (arith, slots_room _ c.args.b.now c.requires.sane.0 c.requires.sane.1, c.requires.end_value, c.requires.spot)
 
-pub move_down-requires : goal.move_down-requires
-move_down-requires c =
+pub move_bytes-requires : goal.move_bytes-requires
+move_bytes-requires c =
     omega (arith, slots_room _ c.args.b.now c.requires.sane.0 c.requires.sane.1, c.requires.end_value, c.requires.spot)
 
 pub overflow_mul-i-2 : goal.overflow_mul-i-2
@@ -38,4 +38,4 @@ put_slot-requires-2 c =
 pub returns : goal.returns
 returns c =
     grow_index _ c.args.b.now c.requires.sane.1 c.args.end c.args.count c.args.i c.args.h c.args.a _ _ _ c.requires.end_value.0
-    c.requires.end_value.1.0 c.requires.end_value.1.1 c.requires.spot c.move_down.ensures c.put_slot.ensures c.put_slot-2.ensures
+    c.requires.end_value.1.0 c.requires.end_value.1.1 c.requires.spot c.move_bytes.ensures c.put_slot.ensures c.put_slot-2.ensures

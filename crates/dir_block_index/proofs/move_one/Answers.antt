@@ -23,8 +23,8 @@ pub overflow_mul-p : goal.overflow_mul-p
 overflow_mul-p c =
     omega (arith, slots_room _ c.args.b.now c.requires.sane.0 c.requires.sane.1, c.requires.end_value, c.requires.spot, c.requires.first_stale)
 
-pub move_down-requires : goal.move_down-requires
-move_down-requires c =
+pub move_bytes-requires : goal.move_bytes-requires
+move_bytes-requires c =
     omega (arith, slots_room _ c.args.b.now c.requires.sane.0 c.requires.sane.1, c.requires.end_value, c.requires.spot, c.requires.first_stale)
 
 pub overflow_mul-p-then-j-p : goal.overflow_mul-p-then-j-p
@@ -41,7 +41,7 @@ put_slot-requires c =
 
 pub returns-then-j-p : goal.returns-then-j-p
 returns-then-j-p c =
-    reuse_down _ c.args.b.now c.requires.sane.1 c.args.end c.args.p c.args.j c.args.h c.args.a _ _ c.requires.end_value c.requires.spot c.requires.first_stale c.if-j-p.true c.move_down.ensures c.put_slot.ensures
+    reuse_down _ c.args.b.now c.requires.sane.1 c.args.end c.args.p c.args.j c.args.h c.args.a _ _ c.requires.end_value c.requires.spot c.requires.first_stale c.if-j-p.true c.move_bytes.ensures c.put_slot.ensures
 
 pub overflow_mul-p-2 : goal.overflow_mul-p-2
 overflow_mul-p-2 c =
@@ -67,8 +67,8 @@ pub overflow_mul-j-2 : goal.overflow_mul-j-2
 overflow_mul-j-2 c =
     omega (arith, slots_room _ c.args.b.now c.requires.sane.0 c.requires.sane.1, c.requires.end_value, c.requires.spot, c.requires.first_stale)
 
-pub move_up-requires : goal.move_up-requires
-move_up-requires c =
+pub move_bytes-requires-2 : goal.move_bytes-requires-2
+move_bytes-requires-2 c =
     omega (arith, slots_room _ c.args.b.now c.requires.sane.0 c.requires.sane.1, c.requires.end_value, c.requires.spot, c.requires.first_stale)
 
 pub overflow_mul-p-4 : goal.overflow_mul-p-4
@@ -85,4 +85,4 @@ put_slot-requires-2 c =
 
 pub returns : goal.returns
 returns c =
-    reuse_up _ c.args.b.now c.requires.sane.1 c.args.end c.args.p c.args.j c.args.h c.args.a _ _ c.requires.end_value c.requires.spot c.requires.first_stale c.if-j-p.false c.move_up.ensures c.put_slot-2.ensures
+    reuse_up _ c.args.b.now c.requires.sane.1 c.args.end c.args.p c.args.j c.args.h c.args.a _ _ c.requires.end_value c.requires.spot c.requires.first_stale c.if-j-p.false c.move_bytes-2.ensures c.put_slot-2.ensures

@@ -51,5 +51,5 @@ pub returns : goal.returns
 returns c =
     squeezed _ c.requires.sane.0 c.args.b.now c.requires.sane.1 c.args.end c.args.count c.args.stale c.args.p c.args.h c.args.a
     c.requires.end_value.0 c.requires.end_value.1.0 c.requires.end_value.1.1.0 c.requires.end_value.1.1.1 c.requires.spot c.pack-w1.result c.pack-w2.result _ _ _ _
-    _ c.pack-w1.ensures.0 c.pack-w1.ensures.1 c.pack-w2.ensures.0 c.pack-w2.ensures.1 c.move_down.ensures c.put_slot.ensures
+    _ c.pack-w1.ensures.0 c.pack-w1.ensures.1 c.pack-w2.ensures.0 c.pack-w2.ensures.1 c.move_bytes.ensures c.put_slot.ensures
     c.put_slot-2.ensures
