@@ -4,7 +4,8 @@
 
 ghost use Rattle.std.specs.Prelude.{◌≤◌, ◌<◌, length};
 
-use attr_sf::{Place, Seen, Walked};
+use attr_sf::Attr;
+use refusal::Refusal;
 
 // The process's own streams, by the numbers that the system gives them.
 const STDOUT_FILENO: i32 = 1;
@@ -165,10 +166,24 @@ fn second() -> [u8; 256] {
     b
 }
 
-// What a step of the walk meets, and where the walk then stands.
-fn shown(seen: Seen) {
+// A refusal, by its number.
+fn refused_by(why: Refusal) {
+    text(b"refused");
+    number(why.number() as usize);
+}
+
+// A call's number: 0 where it is done.
+fn outcome<T: Copy>(answer: Result<T, Refusal>) {
+    number(match answer {
+        Ok(_) => 0,
+        Err(why) => why.number() as usize,
+    });
+}
+
+// What a step of the walk meets.
+fn shown(seen: Option<Attr>) {
     match seen {
-        Seen::Live(a) => {
+        Some(a) => {
             text(b"live");
             number(a.flags);
             number(a.name_start);
@@ -176,21 +191,17 @@ fn shown(seen: Seen) {
             number(a.value_start);
             number(a.value_len);
         }
-        Seen::End => text(b"end"),
+        None => text(b"end"),
     }
 }
 
 fn step(b: &[u8], place: usize) {
     match attr_sf::step_at(b, place) {
-        Walked::Stepped(s) => {
-            let seen = s.seen;
-            shown(seen);
+        Ok(s) => {
+            shown(s.seen);
             number(s.next);
         }
-        Walked::Refused(n) => {
-            text(b"refused");
-            number(n);
-        }
+        Err(why) => refused_by(why),
     }
     line(b"");
 }
@@ -198,15 +209,12 @@ fn step(b: &[u8], place: usize) {
 // The plain lookup, and the value in brackets.
 fn look<'a, 'b>(b: &'a [u8], name: &'b [u8], flags: usize) {
     match attr_sf::lookup(b, name, flags) {
-        Place::At(start, len) => {
+        Ok(place) => {
             text(b"at");
-            number(start);
-            number(len);
+            number(place.start);
+            number(place.len);
         }
-        Place::Refused(n) => {
-            text(b"refused");
-            number(n);
-        }
+        Err(why) => refused_by(why),
     }
     text(b" [");
     text(attr_sf::value(b, name, flags));
@@ -215,7 +223,7 @@ fn look<'a, 'b>(b: &'a [u8], name: &'b [u8], flags: usize) {
 
 fn tested(b: &[u8]) {
     text(b"test");
-    number(attr_sf::test(b));
+    outcome(attr_sf::test(b));
     line(b"");
 }
 
@@ -260,13 +268,13 @@ fn kept<'a, 'b>(b: &'a [u8], before: &'b [u8]) {
 
 fn set<'a, 'b, 'c>(b: &'a mut [u8], name: &'b [u8], flags: usize, value: &'c [u8]) {
     text(b"set");
-    number(attr_sf::set(b, name, flags, value));
+    outcome(attr_sf::set(b, name, flags, value));
     line(b"");
 }
 
 fn remove<'a, 'b>(b: &'a mut [u8], name: &'b [u8], flags: usize) {
     text(b"remove");
-    number(attr_sf::remove(b, name, flags));
+    outcome(attr_sf::remove(b, name, flags));
     line(b"");
 }
 
@@ -322,33 +330,19 @@ fn order(from: [u8; 256]) {
     ends(&b, &second());
 }
 
-fn lookup_number<'a, 'b>(b: &'a [u8], name: &'b [u8], flags: usize) {
-    match attr_sf::lookup(b, name, flags) {
-        Place::At(_, _) => number(0),
-        Place::Refused(n) => number(n),
-    }
-}
-
-fn step_number(b: &[u8], place: usize) {
-    match attr_sf::step_at(b, place) {
-        Walked::Stepped(_) => number(0),
-        Walked::Refused(n) => number(n),
-    }
-}
-
 // The numbers of a lookup, a set and a removal, and whether the bytes are as they were.
 fn asked<'a, 'b, 'c>(b: &'a mut [u8], before: &'b [u8], name: &'c [u8], flags: usize) {
-    lookup_number(b, name, flags);
-    number(attr_sf::set(b, name, flags, b"new"));
-    number(attr_sf::remove(b, name, flags));
+    outcome(attr_sf::lookup(b, name, flags));
+    outcome(attr_sf::set(b, name, flags, b"new"));
+    outcome(attr_sf::remove(b, name, flags));
     kept(b, before);
 }
 
 // The numbers of all five calls on bytes that don't pass the tests.
 fn refused<'a, 'b>(b: &'a mut [u8], before: &'b [u8]) {
     text(b"refused");
-    number(attr_sf::test(b));
-    step_number(b, 4);
+    outcome(attr_sf::test(b));
+    outcome(attr_sf::step_at(b, 4));
     asked(b, before, b"trust", 2);
 }
 

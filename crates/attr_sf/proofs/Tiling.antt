@@ -13,7 +13,7 @@ use Rattle.be.specs.Bytes.{byte}
 use Rattle.be.proofs.Bools.{by_cases}
 use Rattle.records.specs.Records.{start, places, tiled, stands}
 use Rattle.records.proofs.Starts.{start_on, places_on, start_done, places_done, start_above, tiled_over, stands_first, stands_later, stands_within, stands_fits}
-use Rattle.records.proofs.Turns.{Rest, rest_stop, rest_next, rest_within, rest_fits}
+use Rattle.records.proofs.Turns.{Rest, rest_all, rest_stop, rest_next, rest_within, rest_fits}
 use Rattle.attr_sf.specs.Entry.{is_key, distinct}
 use Rattle.attr_sf.specs.Fork.{header, size_at, entry_at, entries, seek}
 
@@ -31,45 +31,59 @@ value_inside f at n h = omega arith
 
 -- ---- TILE, one entry at a time
 
--- the entries so far lie within the end, and those that are left decide
-pub record Tiles (f : List ℕ) (end n left at : ℕ) : Type 0 where
-  pub upto : at ≤ end
-  pub rest : Rest (tiled (size_at f) end) (size_at f) n header left at
+-- i of n entries are passed, the next one starts at `at`, and those that are left decide
+pub record Left {A : Type 0} (g : ℕ → ℕ → A) (f : List ℕ) (n from i at : ℕ) : Type 0 where
+  pub rest : Rest g (size_at f) n from (n - i) at
 
-module _ {f : List ℕ} {end n left at : ℕ} (v : Tiles f end n left at) where
-  module _ (h : 0 < left) where
+pub left_all : {A : Type 0} (g : ℕ → ℕ → A) (f : List ℕ) (n from : ℕ) → Left g f n from 0 from
+left_all g f n from = let q : n - 0 ≡ n = omega arith in record { rest = rw q (rest_all g (size_at f) n from) }
+
+module _ {A : Type 0} {g : ℕ → ℕ → A} {f : List ℕ} {n from i at : ℕ} (v : Left g f n from i at) where
+  pub left_stop : {r : A} → g (n - i) at ≡ r → r ≡ g n from
+  left_stop q = rest_stop v.rest q
+
+  pub left_next : {s : ℕ} → i < n → s ≡ size_at f at → g (n - i) at ≡ g (n - i - 1) (at + size_at f at) → Left g f n from (i + 1) (at + s)
+  left_next h e q = let k : n - (i + 1) ≡ n - i - 1 = omega arith in record { rest = rw k (rest_next v.rest (omega arith) e q) }
+
+-- the entries so far lie within the end
+pub record Tiles (f : List ℕ) (end n i at : ℕ) : Type 0 where
+  pub upto : at ≤ end
+  pub rest : Left (tiled (size_at f) end) f n header i at
+
+module _ {f : List ℕ} {end n i at : ℕ} (v : Tiles f end n i at) where
+  module _ (h : i < n) where
     pub tiles_short : end - at < 3 → false ≡ tiled (size_at f) end n header
-    tiles_short k = rest_stop v.rest (tiled_over (size_at f) left at end h (omega (arith, v.upto, three f at)))
+    tiles_short k = left_stop v.rest (tiled_over (size_at f) (n - i) at end (omega arith) (omega (arith, v.upto, three f at)))
 
     module _ {s : ℕ} (e : s ≡ size_at f at) where
       pub tiles_over : end - at < s → false ≡ tiled (size_at f) end n header
-      tiles_over k = rest_stop v.rest (tiled_over (size_at f) left at end h (omega (arith, v.upto)))
+      tiles_over k = left_stop v.rest (tiled_over (size_at f) (n - i) at end (omega arith) (omega (arith, v.upto)))
 
-      pub tiles_next : s ≤ end - at → Tiles f end n (left - 1) (at + s)
+      pub tiles_next : s ≤ end - at → Tiles f end n (i + 1) (at + s)
       tiles_next k =
           record {
             upto = omega (arith, v.upto);
-            rest = rest_next v.rest h e (ap (λ (x : ℕ). eqb x end) (start_on (size_at f) left at h));
+            rest = left_next v.rest h e (ap (λ (x : ℕ). eqb x end) (start_on (size_at f) (n - i) at (omega arith)));
           }
 
-  pub tiles_done : left ≤ 0 → eqb at end ≡ tiled (size_at f) end n header
-  tiles_done h = rest_stop v.rest (ap (λ (x : ℕ). eqb x end) (start_done (size_at f) left at h))
+  pub tiles_done : n ≤ i → eqb at end ≡ tiled (size_at f) end n header
+  tiles_done h = left_stop v.rest (ap (λ (x : ℕ). eqb x end) (start_done (size_at f) (n - i) at (omega arith)))
 
 -- a loop over entries that tile: it stays before their end, the next entry lies in the fork, and those behind it tile
-module _ {A : Type 0} {g : ℕ → ℕ → A} (f : List ℕ) (end : ℕ) {n from left at : ℕ} (v : Rest g (size_at f) n from left at)
+module _ {A : Type 0} {g : ℕ → ℕ → A} (f : List ℕ) (end : ℕ) {n from i at : ℕ} (v : Left g f n from i at)
     (t : tiled (size_at f) end n from ≡ true) where
   pub next_within : at ≤ end
-  next_within = omega (arith, rest_within v, eqb-true (start (size_at f) n from) end t)
+  next_within = omega (arith, rest_within v.rest, eqb-true (start (size_at f) n from) end t)
 
-  module _ (h : 0 < left) where
+  module _ (h : i < n) where
     pub next_fits : end ≤ length f → at + size_at f at ≤ length f
-    next_fits l = omega (arith, rest_fits v h, eqb-true (start (size_at f) n from) end t)
+    next_fits l = omega (arith, rest_fits v.rest (omega arith), eqb-true (start (size_at f) n from) end t)
 
     pub next_long : end ≤ length f → at + 3 ≤ length f
     next_long l = omega (arith, next_fits l, three f at)
 
-    pub next_tiled : tiled (size_at f) end (left - 1) (at + size_at f at) ≡ true
-    next_tiled = rw (← start_on (size_at f) left at h, ← v.ends) t
+    pub next_tiled : tiled (size_at f) end (n - i - 1) (at + size_at f at) ≡ true
+    next_tiled = rw (← start_on (size_at f) (n - i) at (omega arith), ← v.rest.ends) t
 
 -- ---- TWICE and the search, one entry at a time
 

@@ -83,9 +83,8 @@ fn tiles(f: &[u8], n: usize, end: usize) -> bool
     requires { (header ≤ end) × (end ≤ length f.now) }
     ensures { result ≡ tiled (size_at f.now) end n header }
 {
-    let mut left = n;
     let mut at = HEADER;
-    while 0 < left {
+    for _ in 0..n {
         if end - at < 3 {
             return false;
         }
@@ -94,7 +93,6 @@ fn tiles(f: &[u8], n: usize, end: usize) -> bool
             return false;
         }
         at += s;
-        left -= 1;
     }
     at == end
 }
@@ -135,16 +133,14 @@ fn check_entries(f: &[u8], n: usize, end: usize) -> Result<(), Refusal>
     requires { (tiled (size_at f.now) end n header ≡ true) × (end ≤ length f.now) }
     ensures { code result ≡ own_verdict (entries f.now n header) }
 {
-    let mut left = n;
     let mut at = HEADER;
     let mut flagged = true;
-    while 0 < left {
+    for _ in 0..n {
         if !name_ok(f, at) {
             return Err(Refusal::Name);
         }
         flagged = flagged & flags_ok(f, at);
         at += size(f, at);
-        left -= 1;
     }
     if flagged {
         return Ok(());
@@ -164,14 +160,12 @@ fn seek_from<'a, 'b>(
     requires { (tiled (size_at f.now) end n from ≡ true) × (end ≤ length f.now) }
     ensures { (result ≡ seek f.now name.now flags n from) × (result ≤ end) }
 {
-    let mut left = n;
     let mut at = from;
-    while 0 < left {
+    for _ in 0..n {
         if key_at(f, at, name, flags) {
             return at;
         }
         at += size(f, at);
-        left -= 1;
     }
     at
 }
@@ -194,15 +188,13 @@ fn once(f: &[u8], n: usize, end: usize) -> bool
     requires { (tiled (size_at f.now) end n header ≡ true) × (end ≤ length f.now) }
     ensures { result ≡ distinct (entries f.now n header) }
 {
-    let mut left = n;
     let mut at = HEADER;
-    while 0 < left {
+    for i in 0..n {
         let next = at + size(f, at);
-        if again(f, end, left - 1, next, at) {
+        if again(f, end, n - i - 1, next, at) {
             return false;
         }
         at = next;
-        left -= 1;
     }
     true
 }
@@ -326,14 +318,12 @@ fn stands_in(f: &[u8], n: usize, end: usize, place: usize) -> bool
     requires { (tiled (size_at f.now) end n header ≡ true) × (end ≤ length f.now) }
     ensures { result ≡ stands (size_at f.now) n header place }
 {
-    let mut left = n;
     let mut at = HEADER;
-    while 0 < left {
+    for _ in 0..n {
         if place == at {
             return true;
         }
         at += size(f, at);
-        left -= 1;
     }
     place == at
 }

@@ -1,27 +1,26 @@
 use native.Mathlib.Omega.{arith}
 use mathlib.Core.Path.{sym, ◌∙◌}
-use Rattle.records.proofs.Turns.{rest_all, rest_stop, rest_next}
-use Rattle.attr_sf.proofs.Tiling.{distinct_fails, distinct_on, distinct_done, next_fits, next_long, next_tiled}
+use Rattle.attr_sf.proofs.Tiling.{left_all, left_stop, left_next, distinct_fails, distinct_on, distinct_done, next_fits, next_long, next_tiled}
 use Rattle.attr_sf.proofs.once.Goals as goal
 
-pub loop-left-init : goal.loop-left-init
-loop-left-init c = rest_all _ _ _ _
+pub loop-i-init : goal.loop-i-init
+loop-i-init c = left_all _ _ _ _
 
 pub size-requires : goal.size-requires
-size-requires c = next_long _ _ c.loop-left.invariant c.requires.0 c.loop-left-test.true c.requires.1
+size-requires c = next_long _ _ c.loop-i.invariant c.requires.0 c.loop-i-test.true c.requires.1
 
 pub overflow_add-next : goal.overflow_add-next
-overflow_add-next c = omega (arith, next_long _ _ c.loop-left.invariant c.requires.0 c.loop-left-test.true c.requires.1, c.size.ensures)
+overflow_add-next c = omega (arith, next_long _ _ c.loop-i.invariant c.requires.0 c.loop-i-test.true c.requires.1, c.size.ensures)
 
 pub again-requires : goal.again-requires
-again-requires c = (rw c.size.ensures.0 (next_tiled _ _ c.loop-left.invariant c.requires.0 c.loop-left-test.true), (c.requires.1, next_fits _ _ c.loop-left.invariant c.requires.0 c.loop-left-test.true c.requires.1))
+again-requires c = (rw c.size.ensures.0 (next_tiled _ _ c.loop-i.invariant c.requires.0 c.loop-i-test.true), (c.requires.1, next_fits _ _ c.loop-i.invariant c.requires.0 c.loop-i-test.true c.requires.1))
 
 pub returns-then-again : goal.returns-then-again
-returns-then-again c = rest_stop c.loop-left.invariant (distinct_fails _ _ _ c.loop-left-test.true (rw c.size.ensures.0 at (sym c.again.ensures ∙ c.if-again.true)))
+returns-then-again c = left_stop c.loop-i.invariant (distinct_fails _ _ _ (omega (arith, c.loop-i-test.true)) (rw c.size.ensures.0 at (sym c.again.ensures ∙ c.if-again.true)))
 
-pub loop-left-preserved : goal.loop-left-preserved
-loop-left-preserved c = rest_next c.loop-left.invariant c.loop-left-test.true c.size.ensures.0
-    (distinct_on _ _ _ c.loop-left-test.true (rw c.size.ensures.0 at (sym c.again.ensures ∙ c.if-again.false)))
+pub loop-i-preserved : goal.loop-i-preserved
+loop-i-preserved c = left_next c.loop-i.invariant c.loop-i-test.true c.size.ensures.0
+    (distinct_on _ _ _ (omega (arith, c.loop-i-test.true)) (rw c.size.ensures.0 at (sym c.again.ensures ∙ c.if-again.false)))
 
 pub returns : goal.returns
-returns c = rest_stop c.loop-left.invariant (distinct_done _ _ _ c.loop-left-test.false)
+returns c = left_stop c.loop-i.invariant (distinct_done _ _ _ (omega (arith, c.loop-i-test.false)))

@@ -1,9 +1,6 @@
-use Rattle.records.proofs.Turns.{Rest}
-use Rattle.attr_sf.specs.Fork.{size_at, seek}
+use Rattle.attr_sf.proofs.Tiling.{Left}
+use Rattle.attr_sf.specs.Fork.{seek}
 use Rattle.attr_sf.proofs.seek_from.Given as goal
 
-abbrev pub invariant-loop-left : goal.invariant-loop-left
-invariant-loop-left l = Rest (seek l.f l.name l.flags) (size_at l.f) l.n l.from l.left l.at
-
-abbrev pub decreases-loop-left : goal.decreases-loop-left
-decreases-loop-left l = l.left
+abbrev pub invariant-loop : goal.invariant-loop
+invariant-loop l = Left (seek l.f l.name l.flags) l.f l.n l.from l.counter l.at
