@@ -1,6 +1,6 @@
 -- What a walker's own steps meet in an accepted block; the proof is in proofs/WalkerWalk.antt.
 -- Assumes nothing.
-use Rattle.std.specs.Prelude.{ℕ, suc, ◌+◌, ◌≡◌, true, List, [], ◌∷◌, ◌++◌, map, length}
+use Rattle.std.specs.Prelude.{ℕ, suc, ◌+◌, ◌≡◌, true, List, [], ◌∷◌, ◌++◌, map, length, Ok}
 use Rattle.be.specs.Bytes.{bytes}
 use Rattle.edition.specs.Edition.{v4}
 use Rattle.dir_block_rules.specs.Block.{records, data_end}

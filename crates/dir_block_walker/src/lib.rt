@@ -4,11 +4,13 @@
 
 ghost use Rattle.std.specs.Prelude.{◌≡◌};
 ghost use Rattle.edition.specs.Edition.{v4};
+ghost use Rattle.refusal.specs.Refusal.{numbered};
 ghost use Rattle.dir_block_rules.specs.Walk.{StepPromise};
 ghost use Rattle.dir_block_walker.specs.Place.{Says, place_after, moved, nth_place};
 
-use dir::Walked;
+use dir::Step;
 use edition::V4;
+use refusal::Refusal;
 
 // The block that the walker holds, and its place.
 #[derive(Clone, Copy)]
@@ -28,31 +30,31 @@ pub fn start<'a>(block: &'a [u8]) -> Walker<'a>
 }
 
 // What stands at a place of the block: the plain walk's step.
-fn met(block: &[u8], place: usize) -> Walked
+fn met(block: &[u8], place: usize) -> Result<Step, Refusal>
     ensures { StepPromise v4 block.now place result }
 {
     dir_block_lookup::step(block, place)
 }
 
 // What stands at the walker's place. The walker stays.
-pub fn step<'a>(w: Walker<'a>) -> Walked
+pub fn step<'a>(w: Walker<'a>) -> Result<Step, Refusal>
     ensures { Says w.entry result }
 {
     met(w.block, w.place)
 }
 
 // The place after a step from p.
-fn place_after(p: usize, walked: Walked) -> usize
-    ensures { result ≡ place_after p walked }
+fn place_after(p: usize, walked: Result<Step, Refusal>) -> usize
+    ensures { result ≡ place_after p (numbered walked) }
 {
     match walked {
-        Walked::Stepped(s) => s.next,
-        Walked::Refused(_) => p,
+        Ok(s) => s.next,
+        Err(_) => p,
     }
 }
 
 // What stands at the walker's place, and the walker moves on: at the end and after a refusal it stays.
-pub fn advance<'s, 'a>(w: &'s mut Walker<'a>) -> Walked
+pub fn advance<'s, 'a>(w: &'s mut Walker<'a>) -> Result<Step, Refusal>
     ensures { Says w.old result × (w.new ≡ moved w.old) }
 {
     let p = w.place;
@@ -62,21 +64,19 @@ pub fn advance<'s, 'a>(w: &'s mut Walker<'a>) -> Walked
 }
 
 // One step of a walker that stands at a place.
-pub fn step_from(block: &[u8], place: usize) -> Walked
+pub fn step_from(block: &[u8], place: usize) -> Result<Step, Refusal>
     ensures { StepPromise v4 block.now place result }
 {
     step(Walker { block, place })
 }
 
 // What a walker meets after n steps: it keeps its place between them.
-pub fn nth(block: &[u8], n: usize) -> Walked
+pub fn nth(block: &[u8], n: usize) -> Result<Step, Refusal>
     ensures { StepPromise v4 block.now (nth_place block.now n) result }
 {
     let mut w = start(block);
-    let mut i = 0;
-    while i < n {
-        advance(&mut w);
-        i += 1;
+    for _ in 0..n {
+        advance(&mut w)?;
     }
     step(w)
 }
