@@ -424,7 +424,7 @@ fn close(f: &mut [u8], end: usize, at: usize, s: usize)
     requires { (at + s ≤ end) × (end ≤ length f.old) }
     ensures { f.new ≡ closed f.old end at s }
 {
-    be::move_down(f, at + s, at, end - (at + s));
+    be::move_bytes(f, at + s, at, end - (at + s));
     let from = end - s;
     let n = f.len() - from;
     be::zero(f, from, n);

@@ -1,25 +1,19 @@
 -- What C and Rust get for each case of an answer: the paper's number and values, as a struct of numbers.
 -- A refusal has its number only (a block lookup's 13 also the names compared): every other field is 0.
 -- Assumes nothing.
-use Rattle.std.specs.Prelude.{ℕ, ◌<◌}
+use Rattle.std.specs.Prelude.{ℕ, ◌<◌, Option, Some, None, Result, Ok, Err}
 use Rattle.refusal.specs.Refusal.{ABSENT}
 use Rattle.dinode.specs.declared.Core.{Core as Fields}
-use Rattle.dinode.specs.declared.Tested.{Tested}
-use Rattle.dinode.specs.declared.Tested.TheVariants.{Sound, Refused as NotSound}
 use Rattle.attr_sf.specs.declared.Place.{Place as Value}
-use Rattle.attr_sf.specs.declared.Place.TheVariants.{At, Refused as NoValue}
-use Rattle.attr_sf.specs.declared.Seen.{Seen as AttrSeen}
-use Rattle.attr_sf.specs.declared.Seen.TheVariants.{Live as AttrLive, End as AttrEnd}
-use Rattle.attr_sf.specs.declared.Walked.{Walked as AttrWalked}
-use Rattle.attr_sf.specs.declared.Walked.TheVariants.{Stepped as AttrStepped, Refused as AttrRefused}
+use Rattle.attr_sf.specs.declared.Attr.{Attr}
+use Rattle.attr_sf.specs.declared.Step.{Step as AttrWalked}
 use Rattle.dir.specs.declared.Target.{Target}
 use Rattle.dir.specs.declared.Entry.{Entry}
 use Rattle.dir.specs.declared.Looked.{Looked}
-use Rattle.dir.specs.declared.Looked.TheVariants.{Found as LookedFound, Absent, Refused as LookedRefused}
+use Rattle.dir.specs.declared.Looked.TheVariants.{Found as LookedFound, Absent}
 use Rattle.dir.specs.declared.Seen.{Seen}
 use Rattle.dir.specs.declared.Seen.TheVariants.{Live, Gap, End}
-use Rattle.dir.specs.declared.Walked.{Walked}
-use Rattle.dir.specs.declared.Walked.TheVariants.{Stepped, Refused}
+use Rattle.dir.specs.declared.Step.{Step as Walked}
 use Rattle.pelunziwa.specs.declared.Core.{Core}
 use Rattle.pelunziwa.specs.declared.Found.{Found}
 use Rattle.pelunziwa.specs.declared.Place.{Place}
@@ -50,9 +44,9 @@ sound c =
       size = c.size;
     }
 
-abbrev pub as_core : Tested → Core
-as_core (Sound c) = sound c
-as_core (NotSound k) =
+abbrev pub as_core : Result Fields ℕ → Core
+as_core (Ok c) = sound c
+as_core (Err k) =
     record { refusal = k; magic = 0; mode = 0; version = 0; format = 0; forkoff = 0; aformat = 0; size = 0 }
 
 -- ---- a lookup in a directory
@@ -66,10 +60,10 @@ abbrev pub not_found : ℕ → ℕ → Found
 not_found k c = record { refusal = k; kind = 0; number = 0; tag = 0; compared = c }
 
 -- 13 ABSENT has the names compared; in a short form none are
-abbrev pub as_found : Looked → Found
-as_found (LookedFound t g c) = found_target t g c
-as_found (Absent c) = not_found ABSENT c
-as_found (LookedRefused k) = not_found k 0
+abbrev pub as_found : Result Looked ℕ → Found
+as_found (Ok (LookedFound t g c)) = found_target t g c
+as_found (Ok (Absent c)) = not_found ABSENT c
+as_found (Err k) = not_found k 0
 
 -- ---- a step of a directory's walk. seen: 0 end, 1 gap, 2 live
 
@@ -96,16 +90,16 @@ as_seen p (Live l) = live p l
 as_seen p Gap = no_entry 0 1 p
 as_seen p End = no_entry 0 0 p
 
-abbrev pub as_step : Walked → Step
-as_step (Stepped s) = as_seen s.next s.seen
-as_step (Refused k) = no_entry k 0 0
+abbrev pub as_step : Result Walked ℕ → Step
+as_step (Ok s) = as_seen s.next s.seen
+as_step (Err k) = no_entry k 0 0
 
 -- ---- attributes
 
 -- where a value lies in the lent inode
-abbrev pub as_place : Value → Place
-as_place (At a n) = record { refusal = 0; start = a; len = n }
-as_place (NoValue k) = record { refusal = k; start = 0; len = 0 }
+abbrev pub as_place : Result Value ℕ → Place
+as_place (Ok p) = record { refusal = 0; start = p.start; len = p.len }
+as_place (Err k) = record { refusal = k; start = 0; len = 0 }
 
 -- no attribute: refusal, and where the walk stands
 abbrev pub no_attr : ℕ → ℕ → AttrStep
@@ -121,8 +115,8 @@ no_attr k p =
       value_len = 0;
     }
 
-abbrev pub as_attr_seen : ℕ → AttrSeen → AttrStep
-as_attr_seen p (AttrLive a) =
+abbrev pub as_attr_seen : ℕ → Option Attr → AttrStep
+as_attr_seen p (Some a) =
     record {
       refusal = 0;
       seen = 2;
@@ -133,8 +127,8 @@ as_attr_seen p (AttrLive a) =
       value_start = a.value_start;
       value_len = a.value_len;
     }
-as_attr_seen p AttrEnd = no_attr 0 p
+as_attr_seen p None = no_attr 0 p
 
-abbrev pub as_attr_step : AttrWalked → AttrStep
-as_attr_step (AttrStepped s) = as_attr_seen s.next s.seen
-as_attr_step (AttrRefused k) = no_attr k 0
+abbrev pub as_attr_step : Result AttrWalked ℕ → AttrStep
+as_attr_step (Ok s) = as_attr_seen s.next s.seen
+as_attr_step (Err k) = no_attr k 0

@@ -3,10 +3,12 @@ ghost use Rattle.std.specs.Prelude.{◌≡◌};
 ghost use Rattle.edition.specs.Edition.{v4};
 ghost use Rattle.attr_sf.specs.Calls.{verdict, lookup, remove_code, set_code, remove_bytes, set_bytes};
 ghost use Rattle.attr_sf.specs.Walk.{walk_step};
+ghost use Rattle.refusal.specs.Refusal.{numbered};
 ghost use Rattle.pelunziwa.specs.Answers.{as_place, no_attr, as_attr_seen, as_attr_step};
 
 use crate::{AttrStep, Place};
-use attr_sf::{Seen, Walked};
+use attr_sf::Attr;
+use refusal::Refusal;
 
 // Tests the attributes of an inode.
 #[unsafe(no_mangle)]
@@ -16,23 +18,32 @@ pub extern "C" fn pzw_attr_test(inode: &[u8]) -> u32
     crate::code(attr_sf::test(inode))
 }
 
+// Where a value lies, for C.
+impl From<Result<attr_sf::Place, Refusal>> for Place {
+    ghost from_gives = { λ answer place. place ≡ as_place (numbered answer) };
+
+    fn from(answer: Result<attr_sf::Place, Refusal>) -> Place {
+        match answer {
+            Ok(place) => Place {
+                refusal: 0,
+                start: place.start as u64,
+                len: place.len as u64,
+            },
+            Err(refusal) => Place {
+                refusal: refusal.number(),
+                start: 0,
+                len: 0,
+            },
+        }
+    }
+}
+
 // Where a value lies in the inode.
 #[unsafe(no_mangle)]
 pub extern "C" fn pzw_attr_lookup<'a, 'b>(inode: &'a [u8], name: &'b [u8], flags: u32) -> Place
     ensures { result ≡ as_place (lookup v4 inode.now name.now flags) }
 {
-    match attr_sf::lookup(inode, name, flags as usize) {
-        attr_sf::Place::At(a, n) => Place {
-            refusal: 0,
-            start: a as u64,
-            len: n as u64,
-        },
-        attr_sf::Place::Refused(n) => Place {
-            refusal: crate::code(n),
-            start: 0,
-            len: 0,
-        },
-    }
+    attr_sf::lookup(inode, name, flags as usize).into()
 }
 
 // Stores a value, in place of an equal name's.
@@ -75,11 +86,11 @@ fn no_attr(refusal: u32, next: usize) -> AttrStep
 }
 
 // What a step meets.
-fn seen_step(next: usize, seen: Seen) -> AttrStep
+fn seen_step(next: usize, seen: Option<Attr>) -> AttrStep
     ensures { result ≡ as_attr_seen next seen }
 {
     match seen {
-        Seen::Live(a) => AttrStep {
+        Some(a) => AttrStep {
             refusal: 0,
             seen: 2,
             next: next as u64,
@@ -89,7 +100,19 @@ fn seen_step(next: usize, seen: Seen) -> AttrStep
             value_start: a.value_start as u64,
             value_len: a.value_len as u64,
         },
-        Seen::End => no_attr(0, next),
+        None => no_attr(0, next),
+    }
+}
+
+// A step's answer, for C.
+impl From<Result<attr_sf::Step, Refusal>> for AttrStep {
+    ghost from_gives = { λ answer step. step ≡ as_attr_step (numbered answer) };
+
+    fn from(answer: Result<attr_sf::Step, Refusal>) -> AttrStep {
+        match answer {
+            Ok(step) => seen_step(step.next, step.seen),
+            Err(refusal) => no_attr(refusal.number(), 0),
+        }
     }
 }
 
@@ -98,12 +121,5 @@ fn seen_step(next: usize, seen: Seen) -> AttrStep
 pub extern "C" fn pzw_attr_step_at(inode: &[u8], place: u64) -> AttrStep
     ensures { result ≡ as_attr_step (walk_step v4 inode.now place) }
 {
-    match attr_sf::step_at(inode, place as usize) {
-        Walked::Stepped(t) => {
-            let next = t.next;
-            let seen = t.seen;
-            seen_step(next, seen)
-        }
-        Walked::Refused(n) => no_attr(crate::code(n), 0),
-    }
+    attr_sf::step_at(inode, place as usize).into()
 }

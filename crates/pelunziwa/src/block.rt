@@ -49,5 +49,5 @@ pub extern "C" fn pzw_block_remove(block: &mut [u8], name: &[u8]) -> u32
 pub extern "C" fn pzw_block_step(block: &[u8], place: u64) -> Step
     ensures { result ≡ as_step (walk_step v4 block.now place) }
 {
-    crate::step_answer(dir_block_lookup::step(block, place as usize))
+    dir_block_lookup::step(block, place as usize).into()
 }

@@ -6,7 +6,6 @@ ghost use Rattle.dinode.specs.Core.{tested};
 ghost use Rattle.pelunziwa.specs.Answers.{Fitting, sound, as_core};
 
 use crate::Core;
-use dinode::Tested;
 use edition::V4;
 
 // The hash of a name.
@@ -40,9 +39,9 @@ pub extern "C" fn pzw_inode_test(inode: &[u8]) -> Core
     ensures { result ≡ as_core (tested v4 inode.now) }
 {
     match dinode::test(inode) {
-        Tested::Sound(c) => sound(c),
-        Tested::Refused(n) => Core {
-            refusal: crate::code(n),
+        Ok(core) => sound(core),
+        Err(refusal) => Core {
+            refusal: refusal.number(),
             magic: 0,
             mode: 0,
             version: 0,

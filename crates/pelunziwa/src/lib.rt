@@ -3,12 +3,13 @@
 // include/pelunziwa.h declares the same structs and calls for C.
 #![tactic(auto)]
 
-ghost use Rattle.std.specs.Prelude.{◌≡◌, ◌≤◌, ◌<◌};
-ghost use Rattle.refusal.specs.Refusal.{HIGHEST};
+ghost use Rattle.std.specs.Prelude.{◌≡◌, ◌<◌};
+ghost use Rattle.refusal.specs.Refusal.{code, numbered};
 ghost use Rattle.pelunziwa.specs.Answers.{found_target, not_found, as_found, live, no_entry, as_seen, as_step};
-ghost use Rattle.dir.specs.Answers.{looked_code, looked_target, walked_code};
+ghost use Rattle.dir.specs.Answers.{looked_target};
 
-use dir::{Entry, Looked, Seen, Target, Walked};
+use dir::{Entry, Looked, Seen, Target};
+use refusal::Refusal;
 
 mod attr;
 mod block;
@@ -77,12 +78,14 @@ pub struct AttrStep {
     pub value_len: u64,
 }
 
-// The number of a refusal, or 0 for done: at most the highest, so that no bits are lost.
-fn code(n: usize) -> u32
-    requires { n ≤ HIGHEST }
-    ensures { result ≡ n }
+// The number of a refusal, or 0 for done.
+fn code(answer: Result<(), Refusal>) -> u32
+    ensures { result ≡ code answer }
 {
-    n as u32
+    match answer {
+        Ok(()) => 0,
+        Err(refusal) => refusal.number(),
+    }
 }
 
 // A lookup that finds: a file type is one byte, so that no bits are lost.
@@ -113,18 +116,18 @@ fn not_found(refusal: u32, compared: usize) -> Found
 }
 
 // A lookup's answer, of either directory form.
-fn lookup_answer(answer: Looked) -> Found
-    requires { (looked_code answer ≤ HIGHEST) × ((looked_target answer).kind < 256) }
-    ensures { result ≡ as_found answer }
+fn lookup_answer(answer: Result<Looked, Refusal>) -> Found
+    requires { (looked_target (numbered answer)).kind < 256 }
+    ensures { result ≡ as_found (numbered answer) }
 {
     match answer {
-        Looked::Found {
+        Ok(Looked::Found {
             target,
             tag,
             compared,
-        } => found_target(target, tag, compared),
-        Looked::Absent { compared } => not_found(code(refusal::ABSENT), compared),
-        Looked::Refused(n) => not_found(code(n), 0),
+        }) => found_target(target, tag, compared),
+        Ok(Looked::Absent { compared }) => not_found(Refusal::Absent.number(), compared),
+        Err(refusal) => not_found(refusal.number(), 0),
     }
 }
 
@@ -172,16 +175,13 @@ fn seen_step(next: usize, seen: Seen) -> Step
 }
 
 // A step's answer, of either directory form.
-fn step_answer(answer: Walked) -> Step
-    requires { walked_code answer ≤ HIGHEST }
-    ensures { result ≡ as_step answer }
-{
-    match answer {
-        Walked::Stepped(t) => {
-            let next = t.next;
-            let seen = t.seen;
-            seen_step(next, seen)
+impl From<Result<dir::Step, Refusal>> for Step {
+    ghost from_gives = { λ answer step. step ≡ as_step (numbered answer) };
+
+    fn from(answer: Result<dir::Step, Refusal>) -> Step {
+        match answer {
+            Ok(step) => seen_step(step.next, step.seen),
+            Err(refusal) => no_entry(refusal.number(), 0, 0),
         }
-        Walked::Refused(n) => no_entry(code(n), 0, 0),
     }
 }

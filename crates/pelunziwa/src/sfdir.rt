@@ -52,5 +52,5 @@ pub extern "C" fn pzw_sfdir_remove<'a, 'b>(inode: &'a mut [u8], told: u64, name:
 pub extern "C" fn pzw_sfdir_step(inode: &[u8], told: u64, place: u64) -> Step
     ensures { result ≡ as_step (walk_step v4 told inode.now place) }
 {
-    crate::step_answer(dir_sf::step_at(inode, told as usize, place as usize))
+    dir_sf::step_at(inode, told as usize, place as usize).into()
 }
