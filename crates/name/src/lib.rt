@@ -12,10 +12,7 @@ use edition::Edition;
 fn bad_byte(x: u8, t: u8) -> u8
     ensures { result ≡ cond (clear_of t x) 0 1 }
 {
-    if (x == 0) | (x == t) {
-        return 1;
-    }
-    0
+    u8::from((x == 0) | (x == t))
 }
 
 // Whether no byte is 0 or equal to t. All bytes are looked at, whatever the first ones show, and what they show is kept as a number: so the
@@ -24,10 +21,8 @@ fn clear_of(s: &[u8], t: u8) -> bool
     ensures { result ≡ every (clear_of t) s.now }
 {
     let mut bad: u8 = 0;
-    let mut i = 0;
-    while i < s.len() {
-        bad = bad | bad_byte(s[i], t);
-        i += 1;
+    for &x in s {
+        bad = bad | bad_byte(x, t);
     }
     bad == 0
 }
@@ -123,11 +118,10 @@ fn hash32(e: Edition, s: &[u8]) -> u32
     if s.len() < 4 {
         return hash_short(s);
     }
-    let mut i = (s.len() - 1) % 4 + 1;
-    let mut h = hash_first(s[0], s[1], s[2], s[3], i as u64);
-    while i < s.len() {
+    let k = (s.len() - 1) % 4 + 1;
+    let mut h = hash_first(s[0], s[1], s[2], s[3], k as u64);
+    for i in (k..s.len()).step_by(4) {
         h = hash_four(h, s[i], s[i + 1], s[i + 2], s[i + 3]);
-        i += 4;
     }
     h
 }
@@ -137,21 +131,6 @@ pub fn hash(e: Edition, s: &[u8]) -> usize
     ensures { (result ≡ hash_of e s.now) × (result < 4294967296) }
 {
     wide(hash32(e, s))
-}
-
-// Whether two runs as long as each other are equal, byte by byte.
-fn equal_bytes(s: &[u8], t: &[u8]) -> bool
-    requires { length s.now ≡ length t.now }
-    ensures { result ≡ same s.now t.now }
-{
-    let mut i = 0;
-    while i < s.len() {
-        if s[i] != t[i] {
-            return false;
-        }
-        i += 1;
-    }
-    true
 }
 
 // Whether the 32 bytes at i of both are equal, by words.
@@ -192,7 +171,7 @@ pub fn equal(s: &[u8], t: &[u8]) -> bool
         return false;
     }
     if n < 8 {
-        return equal_bytes(s, t);
+        return s == t;
     }
     let mut i = 0;
     while 32 < n - i {

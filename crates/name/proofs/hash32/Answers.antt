@@ -24,8 +24,15 @@ loop-i-preserved c =
     let i = c.loop-i.i in
     ((omega arith, omega arith), hash_turn s i c.loop-i.h _ _ (i + 4) _ (four_at s i (omega arith)) c.hash_four-h.ensures c.loop-i.invariant.1)
 
-pub returns : goal.returns
+pub returns-else-s-lt4 : goal.returns-else-s-lt4
 unfolding hash_of
-returns c =
+returns-else-s-lt4 c =
     let s = c.args.s.now in
     hash_end s c.loop-i.i c.loop-i.h _ c.loop-i-test.false c.loop-i.invariant.1
+
+pub returns-else-s-lt4-2 : goal.returns-else-s-lt4-2
+unfolding hash_of
+returns-else-s-lt4-2 c =
+    let s = c.args.s.now in
+    let i = c.loop-i.i in
+    hash_end s (i + 4) c.hash_four-h.result _ (omega arith) (hash_turn s i c.loop-i.h _ _ (i + 4) _ (four_at s i (omega arith)) c.hash_four-h.ensures c.loop-i.invariant.1)
