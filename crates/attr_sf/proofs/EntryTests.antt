@@ -8,27 +8,27 @@ use mathlib.Core.List.{List}
 use Rattle.be.specs.Lists.{every}
 use Rattle.records.proofs.Turns.{every_fails, every_on, every_and, every_done}
 use Rattle.attr_sf.proofs.Tiling.{Left, left_all, left_next}
-use Rattle.attr_sf.specs.Fork.{header, size_at, entry_at, entries, name_legal_of, flags_legal_of}
+use Rattle.attr_sf.specs.Fork.{size_at, entry_at, entries, name_legal_of, flags_legal_of}
 use Rattle.attr_sf.specs.Inner.{own_verdict}
 
 -- the entries before at have legal names, and legal flags where flagged says so
-pub record Passed (f : List ℕ) (n i at : ℕ) (flagged : Bool) : Type 0 where
-  pub names : Left (λ m p. every name_legal_of (entries f m p)) f n header i at
-  pub flags : every flags_legal_of (entries f n header) ≡ (flagged && every flags_legal_of (entries f (n - i) at))
+pub record Passed (f : List ℕ) (n from i at : ℕ) (flagged : Bool) : Type 0 where
+  pub names : Left (λ m p. every name_legal_of (entries f m p)) f n from i at
+  pub flags : every flags_legal_of (entries f n from) ≡ (flagged && every flags_legal_of (entries f (n - i) at))
 
-pub passed_none : (f : List ℕ) (n : ℕ) → Passed f n 0 header true
-passed_none f n =
+pub passed_none : (f : List ℕ) (n from : ℕ) → Passed f n from 0 from true
+passed_none f n from =
     let q : n - 0 ≡ n = omega arith in
-    record { names = left_all (λ m p. every name_legal_of (entries f m p)) f n header; flags = rw q }
+    record { names = left_all (λ m p. every name_legal_of (entries f m p)) f n from; flags = rw q }
 
-module _ {f : List ℕ} {n i at : ℕ} {flagged : Bool} (v : Passed f n i at flagged) where
+module _ {f : List ℕ} {n from i at : ℕ} {flagged : Bool} (v : Passed f n from i at flagged) where
   module _ (h : i < n) where
     pub passed_stop : name_legal_of (entry_at f at) ≡ false
-        → 6 ≡ own_verdict (entries f n header)
+        → 6 ≡ own_verdict (entries f n from)
     passed_stop q = rw (v.names.rest.whole ∙ every_fails (size_at f) (entry_at f) name_legal_of (n - i) at (omega arith) q)
 
     pub passed_next : (s : ℕ) (g : Bool) → name_legal_of (entry_at f at) ≡ true → g ≡ flags_legal_of (entry_at f at) → s ≡ size_at f at
-        → Passed f n (i + 1) (at + s) (flagged && g)
+        → Passed f n from (i + 1) (at + s) (flagged && g)
     passed_next s g q p e =
         let k : n - (i + 1) ≡ n - i - 1 = omega arith in
         record {
@@ -37,8 +37,8 @@ module _ {f : List ℕ} {n i at : ℕ} {flagged : Bool} (v : Passed f n i at fla
         }
 
   module _ (h : n ≤ i) where
-    pub passed_done : flagged ≡ true → 0 ≡ own_verdict (entries f n header)
+    pub passed_done : flagged ≡ true → 0 ≡ own_verdict (entries f n from)
     passed_done q = rw (v.names.rest.whole ∙ every_done (size_at f) (entry_at f) name_legal_of (n - i) at (omega arith), v.flags, q, every_done (size_at f) (entry_at f) flags_legal_of (n - i) at (omega arith))
 
-    pub passed_not : flagged ≡ false → 7 ≡ own_verdict (entries f n header)
+    pub passed_not : flagged ≡ false → 7 ≡ own_verdict (entries f n from)
     passed_not q = rw (v.names.rest.whole ∙ every_done (size_at f) (entry_at f) name_legal_of (n - i) at (omega arith), v.flags, q)

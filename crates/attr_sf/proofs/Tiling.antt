@@ -7,15 +7,17 @@ use mathlib.Core.Path.{◌≡◌, refl, ◌∙◌, ap}
 use mathlib.Core.List.{List}
 use lib.Dec.{eqb, ltb}
 use lib.ListN.{length}
-use borrow.Author.Tests.{eqb-true, lt-ltb, le-ltb}
+use borrow.Author.Tests.{eqb-true, lt-ltb, le-ltb, ltb-true, ltb-false}
+use Rattle.std.specs.Prelude.{Option, Some, None, is_some}
 use Rattle.be.specs.Lists.{some_of}
 use Rattle.be.specs.Bytes.{byte}
 use Rattle.be.proofs.Bools.{by_cases}
 use Rattle.records.specs.Records.{start, places, tiled, stands}
 use Rattle.records.proofs.Starts.{start_on, places_on, start_done, places_done, start_above, tiled_over, stands_first, stands_later, stands_within, stands_fits}
-use Rattle.records.proofs.Turns.{Rest, rest_all, rest_stop, rest_next, rest_within, rest_fits}
+use Rattle.records.proofs.Turns.{Rest, rest_all, rest_stop, rest_next, rest_fits}
 use Rattle.attr_sf.specs.Entry.{is_key, distinct}
 use Rattle.attr_sf.specs.Fork.{header, size_at, entry_at, entries, seek}
+use Rattle.attr_sf.specs.Inner.{place_before}
 
 pub three : (f : List ℕ) (at : ℕ) → 3 ≤ size_at f at
 unfolding size_at
@@ -69,12 +71,9 @@ module _ {f : List ℕ} {end n i at : ℕ} (v : Tiles f end n i at) where
   pub tiles_done : n ≤ i → eqb at end ≡ tiled (size_at f) end n header
   tiles_done h = left_stop v.rest (ap (λ (x : ℕ). eqb x end) (start_done (size_at f) (n - i) at (omega arith)))
 
--- a loop over entries that tile: it stays before their end, the next entry lies in the fork, and those behind it tile
+-- a loop over entries that tile: the next entry lies in the fork, and those behind it tile
 module _ {A : Type 0} {g : ℕ → ℕ → A} (f : List ℕ) (end : ℕ) {n from i at : ℕ} (v : Left g f n from i at)
     (t : tiled (size_at f) end n from ≡ true) where
-  pub next_within : at ≤ end
-  next_within = omega (arith, rest_within v.rest, eqb-true (start (size_at f) n from) end t)
-
   module _ (h : i < n) where
     pub next_fits : end ≤ length f → at + size_at f at ≤ length f
     next_fits l = omega (arith, rest_fits v.rest (omega arith), eqb-true (start (size_at f) n from) end t)
@@ -84,6 +83,23 @@ module _ {A : Type 0} {g : ℕ → ℕ → A} (f : List ℕ) (end : ℕ) {n from
 
     pub next_tiled : tiled (size_at f) end (n - i - 1) (at + size_at f at) ≡ true
     next_tiled = rw (← start_on (size_at f) (n - i) at (omega arith), ← v.rest.ends) t
+
+-- ---- a place before the end
+
+pub before_is : {p end q : ℕ} → Some p ≡ place_before end q → (p ≡ q) × (q < end)
+before_is {p} {end} {q} h =
+    by_cases (ltb q end)
+    (λ k. let r : Some p ≡ Some q = rw k at h in (cc, ltb-true q end k))
+    (λ k. absurd (let r : ◌≡◌ {A = Option ℕ} (Some p) None = rw k at h in cc))
+
+pub before_not : {end q : ℕ} → None ≡ place_before end q → end ≤ q
+before_not {end} {q} h =
+    by_cases (ltb q end)
+    (λ k. absurd (let r : ◌≡◌ {A = Option ℕ} None (Some q) = rw k at h in cc))
+    (λ k. ltb-false q end k)
+
+pub before_some : (end q : ℕ) → is_some (place_before end q) ≡ ltb q end
+before_some end q = by_cases (ltb q end) (λ k. rw k) (λ k. rw k)
 
 -- ---- TWICE and the search, one entry at a time
 
@@ -154,3 +170,18 @@ module _ (f : List ℕ) where
         by_cases (is_key name flags (entry_at f at))
         (λ k. rw k (lt-ltb at (start (size_at f) n (at + size_at f at)) (omega (arith, three f at, start_above (size_at f) n (at + size_at f at)))))
         (λ k. rw k (seek_some n (at + size_at f at)))
+
+-- a search over entries that tile
+module _ (f : List ℕ) (end : ℕ) (name : List ℕ) (flags : ℕ) {n from i at : ℕ} (v : Left (seek f name flags) f n from i at)
+    (t : tiled (size_at f) end n from ≡ true) where
+  pub find_hit : i < n → is_key name flags (entry_at f at) ≡ true → Some at ≡ place_before end (seek f name flags n from)
+  find_hit h k =
+      let e : at ≡ seek f name flags n from = left_stop v (seek_hit f name flags (n - i) at (omega arith) k) in
+      let b : at < end = omega (arith, rest_fits v.rest (omega arith), three f at, eqb-true (start (size_at f) n from) end t) in
+      rw (← e, lt-ltb at end b)
+
+  pub find_none : n ≤ i → None ≡ place_before end (seek f name flags n from)
+  find_none h =
+      let e : at ≡ seek f name flags n from = left_stop v (seek_done f name flags (n - i) at (omega arith)) in
+      let b : end ≤ at = omega (arith, v.rest.ends, start_done (size_at f) (n - i) at (omega arith), eqb-true (start (size_at f) n from) end t) in
+      rw (← e, le-ltb at end b)

@@ -2,7 +2,7 @@
 -- Assumes nothing.
 use Prim.Native.Nat.{ℕ, ◌+◌, ◌-◌, ◌≤◌}
 use native.Mathlib.Omega.{arith}
-use mathlib.Core.Bool.{true, false, cond}
+use mathlib.Core.Bool.{Bool, true, false, cond}
 use mathlib.Core.Path.{◌≡◌, sym, ◌∙◌, ap}
 use mathlib.Core.List.{List}
 use lib.Dec.{eqb}
@@ -14,7 +14,7 @@ use Rattle.refusal.specs.declared.Refusal.{Refusal}
 use Rattle.refusal.specs.Refusal.{ASKED, number, numbered}
 use Rattle.refusal.proofs.Passed.{passed_on, code_answered}
 use Rattle.be.proofs.Bools.{by_cases}
-use Rattle.be.specs.Bytes.{byte, field}
+use Rattle.be.specs.Bytes.{byte}
 use Rattle.records.specs.Records.{stands}
 use Rattle.records.proofs.Starts.{stands_fits}
 use Rattle.edition.specs.declared.Edition.{Edition}
@@ -39,25 +39,28 @@ unfolding live_step attr_at
 live_is s f place n v g z a b d h = rw (a, b, d, h)
 
 module _ (f : List ℕ) (place : ℕ) where
-  -- as the code reads the entries' end and count
-  module _ {end n : ℕ} (e : end ≡ field 0 2 f) (m : n ≡ byte 2 f) where
-    pub walk_fits : fork_verdict f ≡ 0 → stands (size_at f) n header place ≡ true → (place ≡ end → ⊥) → place + size_at f place ≤ length f
-    unfolding totsize count
-    walk_fits z h d =
-        omega (arith, stands_fits (size_at f) place (count f) header (rw m at h) (λ q. d (q ∙ all_ends f z ∙ sym e)), all_ends f z, end_inside f z)
+  -- as the code finds out
+  pub stood : {g : List ℕ} {n from : ℕ} {r : Bool} → g ≡ f → from ≡ header → n ≡ count f → r ≡ stands (size_at g) n from place
+      → r ≡ stands (size_at f) (count f) header place
+  stood a b d h = rw (a, b, d) at h
+
+  module _ {end : ℕ} (e : end ≡ totsize f) (h : stands (size_at f) (count f) header place ≡ true) where
+    pub walk_fits : fork_verdict f ≡ 0 → (place ≡ end → ⊥) → place + size_at f place ≤ length f
+    walk_fits z d =
+        omega (arith, stands_fits (size_at f) place (count f) header h (λ q. d (q ∙ all_ends f z ∙ sym e)), all_ends f z, end_inside f z)
 
     module _ (s : ℕ) where
-      pub walk_not : stands (size_at f) n header place ≡ false → Err ASKED ≡ walked_in s f place
-      unfolding walked_in count
-      walk_not h = rw (← m, h)
+      pub walk_end : place ≡ end → Ok (record { next = place; seen = None }) ≡ walked_in s f place
+      unfolding walked_in step_in end_step
+      walk_end q = rw (← e, h, eq-eqb place end q)
 
-      pub walk_end : stands (size_at f) n header place ≡ true → place ≡ end → Ok (record { next = place; seen = None }) ≡ walked_in s f place
-      unfolding walked_in step_in end_step totsize count
-      walk_end h q = rw (← m, ← e, h, eq-eqb place end q)
+      pub walk_live : {r : Step} → (place ≡ end → ⊥) → r ≡ live_step s f place → Ok r ≡ walked_in s f place
+      unfolding walked_in step_in
+      walk_live q r = rw (← e, h, ne_eqb place end q, r)
 
-      pub walk_live : {r : Step} → stands (size_at f) n header place ≡ true → (place ≡ end → ⊥) → r ≡ live_step s f place → Ok r ≡ walked_in s f place
-      unfolding walked_in step_in totsize count
-      walk_live h q r = rw (← m, ← e, h, ne_eqb place end q, r)
+  pub walk_not : (s : ℕ) → stands (size_at f) (count f) header place ≡ false → Err ASKED ≡ walked_in s f place
+  unfolding walked_in
+  walk_not s h = rw h
 
 module _ (e : Edition) (b : List ℕ) (place : ℕ) where
   pub walked_at : {F : Fork} {r : Result Step ℕ} → Ok F ≡ fork_if (verdict e b) e b → r ≡ walked_in F.start (take (length b - F.start) (drop F.start b)) place

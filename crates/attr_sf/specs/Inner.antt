@@ -1,6 +1,6 @@
 -- What the code's inner functions promise: for code and proofs alone, no call that README lists promises anything by these.
 -- Assumes nothing.
-use Rattle.std.specs.Prelude.{ℕ, ◌+◌, ◌-◌, ◌≡◌, cond, List, ltb, eqb, length, replicate, Result}
+use Rattle.std.specs.Prelude.{ℕ, ◌+◌, ◌-◌, ◌≡◌, cond, List, ltb, eqb, length, replicate, Option, Some, None, Result}
 use Rattle.refusal.specs.Refusal.{NAME, NUMBER, answered}
 use Rattle.be.specs.Codes.{◌unless◌then◌}
 use Rattle.be.specs.Lists.{every}
@@ -16,6 +16,10 @@ use Rattle.attr_sf.specs.declared.Plan.{Plan}
 -- tests 6 and 7 of these entries, by number
 abbrev pub own_verdict : List Entry → ℕ
 own_verdict xs = NAME unless every name_legal_of xs then NUMBER unless every flags_legal_of xs then 0
+
+-- a place, where it is one before the end
+abbrev pub place_before : ℕ → ℕ → Option ℕ
+place_before end p = cond (ltb p end) (Some p) None
 
 -- where the attribute fork lies, or the tests' number
 unfoldable pub fork_if : ℕ → Edition → List ℕ → Result Fork ℕ

@@ -8,12 +8,12 @@ ghost use Rattle.records.specs.Records.{tiled, stands};
 ghost use Rattle.edition.specs.Edition.{v4, Sane};
 ghost use Rattle.refusal.specs.Refusal.{code, numbered};
 ghost use Rattle.attr_sf.specs.Entry.{entry, entry_bytes, legal_flags, legal_key, is_key, distinct};
-ghost use Rattle.attr_sf.specs.Fork.{header, totsize, size_at, entry_at, entries, name_legal_of, flags_legal_of};
+ghost use Rattle.attr_sf.specs.Fork.{header, totsize, count, size_at, entry_at, entries, name_legal_of, flags_legal_of};
 ghost use Rattle.attr_sf.specs.Fork.{fork_verdict, seek, key_place};
 ghost use Rattle.attr_sf.specs.Calls.{verdict, asked_code, found_in, lookup, LookupPromise, start_of, length_of, part_of};
 ghost use Rattle.attr_sf.specs.Calls.{remove_code, set_code, remove_bytes, set_bytes};
 ghost use Rattle.attr_sf.specs.Walk.{live_step, walked_in, walk_step, StepPromise};
-ghost use Rattle.attr_sf.specs.Inner.{own_verdict, fork_if, plan_of, closed, ForkRemoval, ForkSet};
+ghost use Rattle.attr_sf.specs.Inner.{own_verdict, place_before, fork_if, plan_of, closed, ForkRemoval, ForkSet};
 
 use dinode::Fork;
 use edition::{Edition, V4};
@@ -128,75 +128,111 @@ fn key_at<'a, 'b>(f: &'a [u8], at: usize, name: &'b [u8], flags: usize) -> bool
     name::equal(name, &f[from..to])
 }
 
-// Tests 6 and 7 of n entries.
-fn check_entries(f: &[u8], n: usize, end: usize) -> Result<(), Refusal>
-    requires { (tiled (size_at f.now) end n header ≡ true) × (end ≤ length f.now) }
-    ensures { code result ≡ own_verdict (entries f.now n header) }
-{
-    let mut at = HEADER;
-    let mut flagged = true;
-    for _ in 0..n {
-        if !name_ok(f, at) {
-            return Err(Refusal::Name);
-        }
-        flagged = flagged & flags_ok(f, at);
-        at += size(f, at);
-    }
-    if flagged {
-        return Ok(());
-    }
-    Err(Refusal::Number)
-}
-
-// Where the entry with this name and flags starts, among n entries from a place on; their end when none has them.
-fn seek_from<'a, 'b>(
-    f: &'a [u8],
-    end: usize,
-    n: usize,
+// Entries of a fork, one after the other, from a place on.
+#[derive(Clone, Copy)]
+struct Entries<'a> {
+    fork: &'a [u8],
     from: usize,
-    name: &'b [u8],
-    flags: usize,
-) -> usize
-    requires { (tiled (size_at f.now) end n from ≡ true) × (end ≤ length f.now) }
-    ensures { (result ≡ seek f.now name.now flags n from) × (result ≤ end) }
-{
-    let mut at = from;
-    for _ in 0..n {
-        if key_at(f, at, name, flags) {
-            return at;
-        }
-        at += size(f, at);
-    }
-    at
+    count: usize,
+    end: usize,
+    ghost inside: { end ≤ length fork.now },
+    ghost tiling: { tiled (size_at fork.now) end count from ≡ true },
 }
 
-// Whether one of n entries from a place on has the name and the flags of the entry at another.
-fn again(f: &[u8], end: usize, n: usize, from: usize, at: usize) -> bool
-    requires { (tiled (size_at f.now) end n from ≡ true)
-        × ((end ≤ length f.now) × (at + size_at f.now at ≤ length f.now)) }
-    ensures { result ≡ some_of (is_key (entry_at f.now at).name (entry_at f.now at).flags)
-        (entries f.now n from) }
-{
-    let start = at + 3;
-    let stop = start + be::be8(f, at);
-    let flags = be::be8(f, at + 2);
-    seek_from(f, end, n, from, &f[start..stop], flags) < end
-}
-
-// Whether no two of n entries have the same name and flags.
-fn once(f: &[u8], n: usize, end: usize) -> bool
-    requires { (tiled (size_at f.now) end n header ≡ true) × (end ≤ length f.now) }
-    ensures { result ≡ distinct (entries f.now n header) }
-{
-    let mut at = HEADER;
-    for i in 0..n {
-        let next = at + size(f, at);
-        if again(f, end, n - i - 1, next, at) {
-            return false;
+impl<'a> Entries<'a> {
+    // All entries of a fork that passes its tests.
+    fn stored(fork: &'a [u8]) -> Entries<'a>
+        requires { fork_verdict fork.now ≡ 0 }
+        ensures bytes { result.fork.now ≡ fork.now }
+        ensures places { (result.from ≡ header) × ((result.count ≡ count fork.now) × (result.end ≡ totsize fork.now)) }
+    {
+        Entries {
+            fork,
+            from: HEADER,
+            count: be::be8(fork, 2),
+            end: be::be16(fork, 0),
         }
-        at = next;
     }
-    true
+
+    // Tests 6 and 7.
+    fn check(self) -> Result<(), Refusal>
+        ensures { code result ≡ own_verdict (entries self.entry.fork.now self.entry.count self.entry.from) }
+    {
+        let mut at = self.from;
+        let mut flagged = true;
+        for _ in 0..self.count {
+            if !name_ok(self.fork, at) {
+                return Err(Refusal::Name);
+            }
+            flagged = flagged & flags_ok(self.fork, at);
+            at += size(self.fork, at);
+        }
+        if flagged {
+            return Ok(());
+        }
+        Err(Refusal::Number)
+    }
+
+    // Where the first with this name and flags starts.
+    fn find<'b>(self, name: &'b [u8], flags: usize) -> Option<usize>
+        ensures { result ≡ place_before self.entry.end (seek self.entry.fork.now name.now flags self.entry.count self.entry.from) }
+    {
+        let mut at = self.from;
+        for _ in 0..self.count {
+            if key_at(self.fork, at, name, flags) {
+                return Some(at);
+            }
+            at += size(self.fork, at);
+        }
+        None
+    }
+
+    // Whether one of them has the name and the flags of the entry at a place.
+    fn again(self, at: usize) -> bool
+        requires { at + size_at self.fork.now at ≤ length self.fork.now }
+        ensures { result ≡ some_of (is_key (entry_at self.entry.fork.now at).name (entry_at self.entry.fork.now at).flags)
+            (entries self.entry.fork.now self.entry.count self.entry.from) }
+    {
+        let start = at + 3;
+        let stop = start + be::be8(self.fork, at);
+        let flags = be::be8(self.fork, at + 2);
+        self.find(&self.fork[start..stop], flags).is_some()
+    }
+
+    // Whether no two of them have the same name and flags.
+    fn once(self) -> bool
+        ensures { result ≡ distinct (entries self.entry.fork.now self.entry.count self.entry.from) }
+    {
+        let mut at = self.from;
+        for i in 0..self.count {
+            let next = at + size(self.fork, at);
+            let rest = Entries {
+                fork: self.fork,
+                from: next,
+                count: self.count - i - 1,
+                end: self.end,
+            };
+            if rest.again(at) {
+                return false;
+            }
+            at = next;
+        }
+        true
+    }
+
+    // Whether a place is the start of one of them, or their end.
+    fn stand(self, place: usize) -> bool
+        ensures { result ≡ stands (size_at self.entry.fork.now) self.entry.count self.entry.from place }
+    {
+        let mut at = self.from;
+        for _ in 0..self.count {
+            if place == at {
+                return true;
+            }
+            at += size(self.fork, at);
+        }
+        place == at
+    }
 }
 
 // Tests 4 to 10 of a fork.
@@ -213,12 +249,18 @@ fn check_fork(f: &[u8]) -> Result<(), Refusal>
     if f.len() < end {
         return Err(Refusal::Span);
     }
-    let n = be::be8(f, 2);
-    if !tiles(f, n, end) {
+    let count = be::be8(f, 2);
+    if !tiles(f, count, end) {
         return Err(Refusal::Tile);
     }
-    check_entries(f, n, end)?;
-    if !once(f, n, end) {
+    let entries = Entries {
+        fork: f,
+        from: HEADER,
+        count,
+        end,
+    };
+    entries.check()?;
+    if !entries.once() {
         return Err(Refusal::Twice);
     }
     Ok(())
@@ -261,14 +303,12 @@ fn asked<'a, 'b>(e: Edition, b: &'a [u8], name: &'b [u8], flags: usize) -> Resul
     Ok(fork)
 }
 
-// Where the entry asked for starts in a fork; the entries' end when there is none.
-fn place_in<'a, 'b>(f: &'a [u8], name: &'b [u8], flags: usize) -> usize
+// Where the entry asked for starts in a fork.
+fn place_in<'a, 'b>(f: &'a [u8], name: &'b [u8], flags: usize) -> Option<usize>
     requires { fork_verdict f.now ≡ 0 }
-    ensures { (result ≡ key_place f.now name.now flags) × (result ≤ totsize f.now) }
+    ensures { result ≡ place_before (totsize f.now) (key_place f.now name.now flags) }
 {
-    let end = be::be16(f, 0);
-    let n = be::be8(f, 2);
-    seek_from(f, end, n, HEADER, name, flags)
+    Entries::stored(f).find(name, flags)
 }
 
 // Where its value lies in the inode whose attribute fork starts at s.
@@ -276,13 +316,14 @@ fn find_in<'a, 'b>(f: &'a [u8], s: usize, name: &'b [u8], flags: usize) -> Resul
     requires { (fork_verdict f.now ≡ 0) × (s + length f.now < 4096) }
     ensures { numbered result ≡ found_in s f.now name.now flags }
 {
-    let at = place_in(f, name, flags);
-    if at < be::be16(f, 0) {
-        let start = s + (at + 3 + be::be8(f, at));
-        let len = be::be8(f, at + 1);
-        return Ok(Place { start, len });
+    match place_in(f, name, flags) {
+        Some(at) => {
+            let start = s + (at + 3 + be::be8(f, at));
+            let len = be::be8(f, at + 1);
+            Ok(Place { start, len })
+        }
+        None => Err(Refusal::Absent),
     }
-    Err(Refusal::Absent)
 }
 
 fn look<'a, 'b>(e: Edition, b: &'a [u8], name: &'b [u8], flags: usize) -> Result<Place, Refusal>
@@ -313,21 +354,6 @@ pub fn value<'a, 'b>(b: &'a [u8], name: &'b [u8], flags: usize) -> &'a [u8]
     }
 }
 
-// Whether a place is the start of one of n entries, or their end.
-fn stands_in(f: &[u8], n: usize, end: usize, place: usize) -> bool
-    requires { (tiled (size_at f.now) end n header ≡ true) × (end ≤ length f.now) }
-    ensures { result ≡ stands (size_at f.now) n header place }
-{
-    let mut at = HEADER;
-    for _ in 0..n {
-        if place == at {
-            return true;
-        }
-        at += size(f, at);
-    }
-    place == at
-}
-
 // A step at an entry of the fork that starts at s.
 fn step_from(f: &[u8], s: usize, place: usize) -> Step
     requires { (place + size_at f.now place ≤ length f.now) × (s + length f.now < 4096) }
@@ -355,12 +381,11 @@ fn walk_in(f: &[u8], s: usize, place: usize) -> Result<Step, Refusal>
     requires { (fork_verdict f.now ≡ 0) × (s + length f.now < 4096) }
     ensures { numbered result ≡ walked_in s f.now place }
 {
-    let end = be::be16(f, 0);
-    let n = be::be8(f, 2);
-    if !stands_in(f, n, end, place) {
+    let entries = Entries::stored(f);
+    if !entries.stand(place) {
         return Err(Refusal::Asked);
     }
-    if place == end {
+    if place == entries.end {
         return Ok(Step {
             next: place,
             seen: None,
@@ -399,23 +424,21 @@ fn plan_in<'a, 'b>(f: &'a [u8], name: &'b [u8], flags: usize) -> Plan
     ensures { (result ≡ plan_of f.now name.now flags)
         × ((result.at + result.size ≤ result.end) × (result.end ≤ length f.now)) }
 {
-    let at = place_in(f, name, flags);
     let end = be::be16(f, 0);
     let count = be::be8(f, 2);
-    if at < end {
-        let size = size(f, at);
-        return Plan {
+    match place_in(f, name, flags) {
+        Some(at) => Plan {
             at,
-            size,
+            size: size(f, at),
             kept: count - 1,
             end,
-        };
-    }
-    Plan {
-        at,
-        size: 0,
-        kept: count,
-        end,
+        },
+        None => Plan {
+            at: end,
+            size: 0,
+            kept: count,
+            end,
+        },
     }
 }
 
@@ -464,11 +487,12 @@ fn remove_in<'a, 'b>(f: &'a mut [u8], name: &'b [u8], flags: usize) -> Result<()
     requires { fork_verdict f.old ≡ 0 }
     ensures { ForkRemoval f.old name.now flags (code result) f.new }
 {
-    let p = plan_in(&f[..], name, flags);
-    let at = p.at;
-    let size = p.size;
-    let kept = p.kept;
-    let end = p.end;
+    let Plan {
+        at,
+        size,
+        kept,
+        end,
+    } = plan_in(&f[..], name, flags);
     if end <= at {
         return Err(Refusal::Absent);
     }
@@ -487,11 +511,12 @@ fn set_in<'a, 'b, 'c>(
     requires { ((fork_verdict f.old ≡ 0) × (length f.old < 65536)) × ((length name.now < 256) × (flags < 256)) }
     ensures { ForkSet f.old name.now flags value.now (code result) f.new }
 {
-    let p = plan_in(&f[..], name, flags);
-    let at = p.at;
-    let size = p.size;
-    let kept = p.kept;
-    let end = p.end;
+    let Plan {
+        at,
+        size,
+        kept,
+        end,
+    } = plan_in(&f[..], name, flags);
     if 255 < value.len() {
         return Err(Refusal::NoRoom);
     }

@@ -14,21 +14,18 @@ pub returns-then-f-end : goal.returns-then-f-end
 returns-then-f-end c = search (rules, span_over)
 
 pub returns-then-not-tiles : goal.returns-then-not-tiles
-returns-then-not-tiles c = not_tiled _ c.be16-end.ensures.0 (search rules) (search rules) c.be8-n.ensures.0 (search rules) (sym c.tiles.ensures ∙ c.if-not-tiles.true)
+returns-then-not-tiles c = not_tiled _ c.be16-end.ensures.0 (search rules) (search rules) c.be8-count.ensures.0 (search rules) (sym c.tiles.ensures ∙ c.if-not-tiles.true)
 
-pub check_entries-requires : goal.check_entries-requires
-check_entries-requires c = ((sym c.tiles.ensures ∙ c.if-not-tiles.false), search rules)
+pub invariant_of-entries : goal.invariant_of-entries
+invariant_of-entries c = record { inside = search rules; tiling = sym c.tiles.ensures ∙ c.if-not-tiles.false }
 
-pub returns-in_err-check_entries : goal.returns-in_err-check_entries
-returns-in_err-check_entries c =
+pub returns-in_err-check : goal.returns-in_err-check
+returns-in_err-check c =
     code_is _ _ c.from_residual.ensures.1
-    (not_own _ c.be16-end.ensures.0 (search rules) (search rules) c.be8-n.ensures.0 (search rules) (sym c.tiles.ensures ∙ c.if-not-tiles.false) c.in_err-check_entries.ensures (number_ne _))
-
-pub once-requires : goal.once-requires
-once-requires c = ((sym c.tiles.ensures ∙ c.if-not-tiles.false), search rules)
+    (not_own _ c.be16-end.ensures.0 (search rules) (search rules) c.be8-count.ensures.0 (search rules) (sym c.tiles.ensures ∙ c.if-not-tiles.false) c.in_err-check.ensures (number_ne _))
 
 pub returns-then-not-once : goal.returns-then-not-once
-returns-then-not-once c = not_once _ c.be16-end.ensures.0 (search rules) (search rules) c.be8-n.ensures.0 (search rules) (sym c.tiles.ensures ∙ c.if-not-tiles.false) c.in_ok-check_entries.ensures (sym c.once.ensures ∙ c.if-not-once.true)
+returns-then-not-once c = not_once _ c.be16-end.ensures.0 (search rules) (search rules) c.be8-count.ensures.0 (search rules) (sym c.tiles.ensures ∙ c.if-not-tiles.false) c.in_ok-check.ensures (sym c.once.ensures ∙ c.if-not-once.true)
 
 pub returns : goal.returns
-returns c = all_passed _ c.be16-end.ensures.0 (search rules) (search rules) c.be8-n.ensures.0 (search rules) (sym c.tiles.ensures ∙ c.if-not-tiles.false) c.in_ok-check_entries.ensures (sym c.once.ensures ∙ c.if-not-once.false)
+returns c = all_passed _ c.be16-end.ensures.0 (search rules) (search rules) c.be8-count.ensures.0 (search rules) (sym c.tiles.ensures ∙ c.if-not-tiles.false) c.in_ok-check.ensures (sym c.once.ensures ∙ c.if-not-once.false)

@@ -1,19 +1,28 @@
 use native.Mathlib.Omega.{arith}
-use Rattle.attr_sf.proofs.ForkTests.{long}
+use mathlib.Core.Path.{sym, ◌∙◌}
 use Rattle.attr_sf.proofs.Seeking.{at_long, found_at, found_not}
 use Rattle.attr_sf.proofs.find_in.Goals as goal
 
-pub be16-requires : goal.be16-requires
-be16-requires c = omega (arith, long _ c.requires.0)
+pub be8-requires : goal.be8-requires
+be8-requires c = omega (arith, at_long _ _ _ (sym c.in-Some.is ∙ c.place_in.ensures) c.requires.0)
 
 pub be8-len-requires : goal.be8-len-requires
-be8-len-requires c = omega (arith, at_long _ _ _ c.place_in-at.ensures.0 c.be16.ensures.0 c.if-at-be16.true c.requires.0)
+be8-len-requires c = omega (arith, at_long _ _ _ (sym c.in-Some.is ∙ c.place_in.ensures) c.requires.0)
 
-pub be8-requires : goal.be8-requires
-be8-requires c = omega (arith, at_long _ _ _ c.place_in-at.ensures.0 c.be16.ensures.0 c.if-at-be16.true c.requires.0)
+pub overflow_add-start : goal.overflow_add-start
+overflow_add-start c = omega (arith, at_long _ _ _ (sym c.in-Some.is ∙ c.place_in.ensures) c.requires.0)
 
-pub returns-then-at-be16 : goal.returns-then-at-be16
-returns-then-at-be16 c = rw (c.be8.ensures.0, c.be8-len.ensures.0) (found_at _ _ _ _ c.place_in-at.ensures.0 c.be16.ensures.0 c.if-at-be16.true)
+pub overflow_add-start-in-Some : goal.overflow_add-start-in-Some
+overflow_add-start-in-Some c = omega (arith, at_long _ _ _ (sym c.in-Some.is ∙ c.place_in.ensures) c.requires.0, c.be8.ensures)
 
-pub returns : goal.returns
-returns c = found_not _ _ _ _ c.place_in-at.ensures.0 c.be16.ensures.0 c.if-at-be16.false
+pub overflow_add-start-in-Some-2 : goal.overflow_add-start-in-Some-2
+overflow_add-start-in-Some-2 c = omega (arith, at_long _ _ _ (sym c.in-Some.is ∙ c.place_in.ensures) c.requires.0, c.be8.ensures, c.requires.1)
+
+pub overflow_add-at : goal.overflow_add-at
+overflow_add-at c = omega (arith, at_long _ _ _ (sym c.in-Some.is ∙ c.place_in.ensures) c.requires.0)
+
+pub returns-in-Some : goal.returns-in-Some
+returns-in-Some c = rw (c.be8.ensures.0, c.be8-len.ensures.0) (found_at _ _ _ (sym c.in-Some.is ∙ c.place_in.ensures) _)
+
+pub returns-in-None : goal.returns-in-None
+returns-in-None c = found_not _ _ _ _ (sym c.in-None.is ∙ c.place_in.ensures)

@@ -1,4 +1,5 @@
 use native.Mathlib.Omega.{arith}
+use mathlib.Core.Path.{sym, ◌∙◌}
 use Rattle.attr_sf.proofs.ForkTests.{long}
 use Rattle.attr_sf.proofs.Seeking.{at_long, at_count, plan_found, plan_not}
 use Rattle.attr_sf.proofs.ChangedFork.{planned}
@@ -10,15 +11,16 @@ be16-end-requires c = omega (arith, long _ c.requires)
 pub be8-count-requires : goal.be8-count-requires
 be8-count-requires c = omega (arith, long _ c.requires)
 
-pub size-size-requires : goal.size-size-requires
-size-size-requires c = at_long _ _ _ c.place_in-at.ensures.0 c.be16-end.ensures.0 c.if-at-end.true c.requires
+pub size-requires : goal.size-requires
+size-requires c = at_long _ _ _ (sym c.in-Some.is ∙ c.place_in.ensures) c.requires
 
 pub overflow_sub-result : goal.overflow_sub-result
-overflow_sub-result c = at_count _ _ _ c.place_in-at.ensures.0 c.be16-end.ensures.0 c.if-at-end.true c.requires c.be8-count.ensures.0
+overflow_sub-result c = at_count _ _ _ (sym c.in-Some.is ∙ c.place_in.ensures) c.requires c.be8-count.ensures.0
 
-pub returns-then-at-end : goal.returns-then-at-end
-returns-then-at-end c = planned _ _ _ c.requires
-    (plan_found _ _ _ c.place_in-at.ensures.0 c.be16-end.ensures.0 c.be8-count.ensures.0 c.size-size.ensures.0 c.if-at-end.true)
+pub returns-in-Some : goal.returns-in-Some
+returns-in-Some c = planned _ _ _ c.requires
+    (plan_found _ _ _ c.be16-end.ensures.0 c.be8-count.ensures.0 (sym c.in-Some.is ∙ c.place_in.ensures) c.size.ensures.0)
 
-pub returns : goal.returns
-returns c = planned _ _ _ c.requires (plan_not _ _ _ c.place_in-at.ensures.0 c.be16-end.ensures.0 c.be8-count.ensures.0 c.if-at-end.false)
+pub returns-in-None : goal.returns-in-None
+returns-in-None c = planned _ _ _ c.requires
+    (plan_not _ _ _ c.be16-end.ensures.0 c.be8-count.ensures.0 c.requires (sym c.in-None.is ∙ c.place_in.ensures))

@@ -1,28 +1,23 @@
-use native.Mathlib.Omega.{arith}
 use mathlib.Core.Path.{sym, ◌∙◌}
-use Rattle.attr_sf.proofs.ForkTests.{long}
-use Rattle.attr_sf.proofs.Seeking.{seek_may}
-use Rattle.attr_sf.proofs.WalkSteps.{walk_fits, walk_not, walk_end, walk_live}
+use Rattle.attr_sf.proofs.WalkSteps.{stood, walk_fits, walk_not, walk_end, walk_live}
 use Rattle.attr_sf.proofs.walk_in.Goals as goal
 
-pub be16-end-requires : goal.be16-end-requires
-be16-end-requires c = omega (arith, long _ c.requires.0)
+pub returns-then-not-stand : goal.returns-then-not-stand
+returns-then-not-stand c =
+    let p = c.stored-entries.ensures.places in
+    walk_not _ _ _ (sym (stood _ _ c.stored-entries.ensures.bytes p.0 p.1.0 c.stand.ensures) ∙ c.if-not-stand.true)
 
-pub be8-n-requires : goal.be8-n-requires
-be8-n-requires c = omega (arith, long _ c.requires.0)
-
-pub stands_in-requires : goal.stands_in-requires
-stands_in-requires c = seek_may _ c.be16-end.ensures.0 c.be8-n.ensures.0 c.requires.0
-
-pub returns-then-not-stands_in : goal.returns-then-not-stands_in
-returns-then-not-stands_in c = walk_not _ _ c.be16-end.ensures.0 c.be8-n.ensures.0 _ (sym c.stands_in.ensures ∙ c.if-not-stands_in.true)
-
-pub returns-then-place-end : goal.returns-then-place-end
-returns-then-place-end c = walk_end _ _ c.be16-end.ensures.0 c.be8-n.ensures.0 _ (sym c.stands_in.ensures ∙ c.if-not-stands_in.false) c.if-place-end.true
+pub returns-then-place-entries : goal.returns-then-place-entries
+returns-then-place-entries c =
+    let p = c.stored-entries.ensures.places in
+    walk_end _ _ p.1.1 (sym (stood _ _ c.stored-entries.ensures.bytes p.0 p.1.0 c.stand.ensures) ∙ c.if-not-stand.false) _ c.if-place-entries.true
 
 pub step_from-requires : goal.step_from-requires
-step_from-requires c = (walk_fits _ _ c.be16-end.ensures.0 c.be8-n.ensures.0 c.requires.0 (sym c.stands_in.ensures ∙ c.if-not-stands_in.false) c.if-place-end.false, c.requires.1)
+step_from-requires c =
+    let p = c.stored-entries.ensures.places in
+    (walk_fits _ _ p.1.1 (sym (stood _ _ c.stored-entries.ensures.bytes p.0 p.1.0 c.stand.ensures) ∙ c.if-not-stand.false) c.requires.0 c.if-place-entries.false, c.requires.1)
 
 pub returns : goal.returns
-returns c = walk_live _ _ c.be16-end.ensures.0 c.be8-n.ensures.0 _ (sym c.stands_in.ensures ∙ c.if-not-stands_in.false) c.if-place-end.false
-    c.step_from.ensures
+returns c =
+    let p = c.stored-entries.ensures.places in
+    walk_live _ _ p.1.1 (sym (stood _ _ c.stored-entries.ensures.bytes p.0 p.1.0 c.stand.ensures) ∙ c.if-not-stand.false) _ c.if-place-entries.false c.step_from.ensures

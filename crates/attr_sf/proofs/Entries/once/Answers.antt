@@ -1,19 +1,25 @@
 use native.Mathlib.Omega.{arith}
 use mathlib.Core.Path.{sym, ◌∙◌}
 use Rattle.attr_sf.proofs.Tiling.{left_all, left_stop, left_next, distinct_fails, distinct_on, distinct_done, next_fits, next_long, next_tiled}
-use Rattle.attr_sf.proofs.once.Goals as goal
+use Rattle.attr_sf.proofs.Entries.once.Goals as goal
 
 pub loop-i-init : goal.loop-i-init
 loop-i-init c = left_all _ _ _ _
 
 pub size-requires : goal.size-requires
-size-requires c = next_long _ _ c.loop-i.invariant c.requires.0 c.loop-i-test.true c.requires.1
+size-requires c = next_long _ _ c.loop-i.invariant c.args.self.tiling c.loop-i-test.true c.args.self.inside
 
 pub overflow_add-next : goal.overflow_add-next
-overflow_add-next c = omega (arith, next_long _ _ c.loop-i.invariant c.requires.0 c.loop-i-test.true c.requires.1, c.size.ensures)
+overflow_add-next c = omega (arith, next_long _ _ c.loop-i.invariant c.args.self.tiling c.loop-i-test.true c.args.self.inside, c.size.ensures)
+
+pub invariant_of-rest : goal.invariant_of-rest
+invariant_of-rest c = record {
+  inside = c.args.self.inside;
+  tiling = rw c.size.ensures.0 (next_tiled _ _ c.loop-i.invariant c.args.self.tiling c.loop-i-test.true);
+}
 
 pub again-requires : goal.again-requires
-again-requires c = (rw c.size.ensures.0 (next_tiled _ _ c.loop-i.invariant c.requires.0 c.loop-i-test.true), (c.requires.1, next_fits _ _ c.loop-i.invariant c.requires.0 c.loop-i-test.true c.requires.1))
+again-requires c = next_fits _ _ c.loop-i.invariant c.args.self.tiling c.loop-i-test.true c.args.self.inside
 
 pub returns-then-again : goal.returns-then-again
 returns-then-again c = left_stop c.loop-i.invariant (distinct_fails _ _ _ (omega (arith, c.loop-i-test.true)) (rw c.size.ensures.0 at (sym c.again.ensures ∙ c.if-again.true)))
