@@ -13,7 +13,7 @@ use borrow.Author.Tests.{lt-ltb, le-ltb, ltb-true, not-true, not-false}
 use Rattle.refusal.specs.Refusal.{ASKED, FIXED}
 use Rattle.be.specs.Lists.{same}
 use Rattle.be.specs.Bytes.{byte, field}
-use Rattle.be.proofs.Bools.{by_cases, clash}
+use Rattle.be.proofs.Bools.{by_cases}
 use Rattle.records.specs.Records.{start, places}
 use Rattle.edition.specs.declared.Edition.{Edition}
 use Rattle.name.specs.Name.{legal_name, same_name}
@@ -94,19 +94,25 @@ found_or d (Some h) = h
 found_or d None = d
 
 module _ (e : Edition) (n u : List ℕ) (r : Option Hit) (told : r ≡ hits e n u) where
-  pub hit_held : (h : Hit) → r ≡ Some h → holds e n (entries e u) ≡ true
+  -- whether there is one
+  pub hit_some : is_some r ≡ holds e n (entries e u)
   unfolding hits
-  hit_held h f = by_cases (holds e n (entries e u)) (λ q. q) (λ q. let z : None ≡ Some h = rw q at (sym told ∙ f) in absurd (clash (ap (λ (o : Option Hit). is_some o) z) refl))
+  hit_some = by_cases (holds e n (entries e u)) (λ q. rw (told, q) refl) (λ q. rw (told, q) refl)
+
+  pub hit_held : (h : Hit) → r ≡ Some h → holds e n (entries e u) ≡ true
+  hit_held h f = sym hit_some ∙ ap is_some f
 
   pub hit_not : r ≡ None → holds e n (entries e u) ≡ false
-  unfolding hits
-  hit_not f = by_cases (holds e n (entries e u)) (λ q. let z : Some (hit_of e n u) ≡ None = rw q at (sym told ∙ f) in absurd (clash refl (ap (λ (o : Option Hit). is_some o) z))) (λ q. q)
+  hit_not f = sym hit_some ∙ ap is_some f
 
   pub hit_is : (h : Hit) → r ≡ Some h → h ≡ hit_of e n u
   unfolding hits found_or
   hit_is h f =
       let z : Some h ≡ Some (hit_of e n u) = rw (hit_held h f) at (sym f ∙ told) in
       ap (found_or h) z
+
+  pub hit_place : (h : Hit) → r ≡ Some h → h.at ≡ place_of e h.index u
+  hit_place h f = let i = hit_is h f in ap (λ (y : Hit). y.at) i ∙ ap (λ (y : Hit). place_of e y.index u) (sym i)
 
   -- it is one of the entries
   pub hit_index : (h : Hit) → r ≡ Some h → h.index < count_of u

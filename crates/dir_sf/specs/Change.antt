@@ -1,6 +1,6 @@
 -- Lookup, insert and removal, of an accepted fork's parent and entries: what a request itself comes to, and what it changes.
 -- Assumes nothing.
-use Rattle.std.specs.Prelude.{ℕ, suc, ◌+◌, Bool, true, false, not, cond, ◌&&◌, ◌||◌, List, [], ◌∷◌, leb, ltb, length, Option, Some, None}
+use Rattle.std.specs.Prelude.{ℕ, suc, ◌+◌, Bool, not, cond, ◌&&◌, ◌||◌, List, [], ◌∷◌, leb, ltb, length, Option, Some, None, is_some}
 use Rattle.refusal.specs.Refusal.{ASKED, FIXED, ABSENT, EXISTS, NOROOM}
 use Rattle.be.specs.Lists.{same, without_first}
 use Rattle.be.specs.Codes.{◌unless◌then◌}
@@ -73,9 +73,8 @@ unfoldable pub inserted : Edition → ℕ → List ℕ → Target → List SfEnt
 inserted e told n t xs = put_by (tag_for e told (length n) xs) n (kept_of e t) xs
 
 -- there is such a tag
-unfoldable pub is_free : Option ℕ → Bool
-is_free (Some tag) = true
-is_free None = false
+abbrev pub is_free : Option ℕ → Bool
+is_free = is_some
 
 -- 15 NOROOM: no such tag, or the new size passes the fork
 unfoldable pub has_room : Edition → ℕ → ℕ → List ℕ → Target → ℕ → List SfEntry → Bool

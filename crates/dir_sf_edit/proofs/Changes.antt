@@ -7,6 +7,9 @@ use mathlib.Core.Path.{◌≡◌, refl, sym, ◌∙◌, ap, ap₂}
 use mathlib.Core.List.{List, [], ◌∷◌, ◌++◌}
 use lib.ListN.{length, take, drop, replicate, length-take, length-drop}
 use borrow.Author.Tests.{eqb-true, eq-eqb, ne_eqb}
+use Rattle.refusal.specs.declared.Refusal.{Refusal}
+use Rattle.refusal.specs.Refusal.{number}
+use Rattle.refusal.proofs.Passed.{number_ne}
 use Rattle.be.specs.Bytes.{to_be, put, written}
 use Rattle.be.specs.Lists.{every}
 use Rattle.be.proofs.Bools.{and_left, and_both}
@@ -32,19 +35,19 @@ use Rattle.dir_sf_edit.proofs.Keeps.{removed_fits, inserts}
 use Rattle.dir_sf_edit.proofs.Inserts.{number_of, inserted_is, every_placed, length_placed}
 use Rattle.dir_sf_edit.proofs.Insertions.{lay_few}
 use Rattle.dir_sf.proofs.Listed.{count_is}
-use Rattle.dir_sf.proofs.Tested.{wides_known, names_known, is_directory, used_passes, used_is, used_long, used_header, used_bounds, used_readable}
+use Rattle.dir_sf.proofs.Tested.{wides_known, names_known, is_directory, used_passes, used_is, used_long, used_header, used_bounds, used_readable, verdict_not}
 
 -- ---- the answer
 
-pub remove_refused : (e : Edition) (told c : ℕ) (b n : List ℕ) → c ≡ verdict e told b → (c ≡ 0 → ⊥) → c ≡ remove_code e told b n
+pub remove_refused : (e : Edition) (told : ℕ) (b n : List ℕ) (x : Refusal) → number x ≡ verdict e told b → number x ≡ remove_code e told b n
 unfolding remove_code
-remove_refused e told c b n h f = h ∙ sym (rw (ne_eqb (verdict e told b) 0 (λ q. f (h ∙ q))) refl)
+remove_refused e told b n x h = h ∙ sym (rw (verdict_not e told b x h) refl)
 
-pub remove_passed : (e : Edition) (sane : Sane e) (told c z r : ℕ) (b n : List ℕ) → c ≡ verdict e told b → c ≡ 0 → z ≡ size_of b
+pub remove_passed : (e : Edition) (sane : Sane e) (told z r : ℕ) (b n : List ℕ) → 0 ≡ verdict e told b → z ≡ size_of b
     → r ≡ remove_request e n (entries e (take (e.literal + z - e.literal) (drop e.literal b))) → r ≡ remove_code e told b n
 unfolding remove_code
-remove_passed e sane told c z r b n h f q k =
-    let v : verdict e told b ≡ 0 = sym h ∙ f in
+remove_passed e sane told z r b n h q k =
+    let v : verdict e told b ≡ 0 = sym h in
     k ∙ ap (λ (u : List ℕ). remove_request e n (entries e u)) (used_is e sane told b v z q) ∙ sym (rw (eq-eqb _ _ v) refl)
 
 -- ---- what is laid out anew is as long as what was there
@@ -157,37 +160,37 @@ module _ (e : Edition) (sane : Sane e) (told : ℕ) (b n : List ℕ) (h : remove
     taken_out m s t b₁ e₀ f g k =
         written_back e sane told b remove_passes (removed e n (entries e (used e b))) remove_fits m s t b₁ e₀ (rw same at f) (rw same at g) k
 
-pub remove_alone : (e : Edition) (told c : ℕ) (b n : List ℕ) → c ≡ remove_code e told b n → (c ≡ 0 → ⊥) → b ≡ remove_bytes e told b n
+pub remove_alone : (e : Edition) (told : ℕ) (b n : List ℕ) (x : Refusal) → number x ≡ remove_code e told b n → b ≡ remove_bytes e told b n
 unfolding remove_bytes
-remove_alone e told c b n h f = sym (rw (ne_eqb (remove_code e told b n) 0 (λ q. f (h ∙ q))) refl)
+remove_alone e told b n x h = sym (rw (ne_eqb (remove_code e told b n) 0 (λ q. number_ne x (h ∙ q))) refl)
 
-pub remove_done : (e : Edition) (told c : ℕ) (b n b₁ : List ℕ) → c ≡ remove_code e told b n → c ≡ 0 → b₁ ≡ with_entries e b (removed e n (entries e (used e b)))
+pub remove_done : (e : Edition) (told : ℕ) (b n b₁ : List ℕ) → 0 ≡ remove_code e told b n → b₁ ≡ with_entries e b (removed e n (entries e (used e b)))
     → b₁ ≡ remove_bytes e told b n
 unfolding remove_bytes
-remove_done e told c b n b₁ h f k = k ∙ sym (rw (eq-eqb (remove_code e told b n) 0 (sym h ∙ f)) refl)
+remove_done e told b n b₁ h k = k ∙ sym (rw (eq-eqb (remove_code e told b n) 0 (sym h)) refl)
 
 -- ---- insert
 
-pub insert_refused : (e : Edition) (told c : ℕ) (b n : List ℕ) (to : Target) → c ≡ verdict e told b → (c ≡ 0 → ⊥) → c ≡ insert_code e told b n to
+pub insert_refused : (e : Edition) (told : ℕ) (b n : List ℕ) (to : Target) (x : Refusal) → number x ≡ verdict e told b → number x ≡ insert_code e told b n to
 unfolding insert_code
-insert_refused e told c b n to h f = h ∙ sym (rw (ne_eqb (verdict e told b) 0 (λ q. f (h ∙ q))) refl)
+insert_refused e told b n to x h = h ∙ sym (rw (verdict_not e told b x h) refl)
 
-pub insert_passed : (e : Edition) (sane : Sane e) (told c z fork r : ℕ) (b n : List ℕ) (to : Target) → c ≡ verdict e told b → c ≡ 0 → z ≡ size_of b → fork ≡ data_length e b
+pub insert_passed : (e : Edition) (sane : Sane e) (told z fork r : ℕ) (b n : List ℕ) (to : Target) → 0 ≡ verdict e told b → z ≡ size_of b → fork ≡ data_length e b
     → r ≡ insert_request e told fork n to (parent (take (e.literal + z - e.literal) (drop e.literal b))) (entries e (take (e.literal + z - e.literal) (drop e.literal b)))
     → r ≡ insert_code e told b n to
 unfolding insert_code
-insert_passed e sane told c z fork r b n to h f q g k =
-    let v : verdict e told b ≡ 0 = sym h ∙ f in
+insert_passed e sane told z fork r b n to h q g k =
+    let v : verdict e told b ≡ 0 = sym h in
     k ∙ ap₂ (λ (j : ℕ) (u : List ℕ). insert_request e told j n to (parent u) (entries e u)) g (used_is e sane told b v z q) ∙ sym (rw (eq-eqb _ _ v) refl)
 
-pub tested_dir : (e : Edition) (sane : Sane e) (told c : ℕ) (b : List ℕ) → c ≡ verdict e told b → c ≡ 0 → directory_code e b ≡ 0
-tested_dir e sane told c b h f = is_directory e sane told b (sym h ∙ f)
+pub tested_dir : (e : Edition) (sane : Sane e) (told : ℕ) (b : List ℕ) → 0 ≡ verdict e told b → directory_code e b ≡ 0
+tested_dir e sane told b h = is_directory e sane told b (sym h)
 
-pub lent_whole : (e : Edition) (sane : Sane e) (told c z : ℕ) (b : List ℕ) → c ≡ verdict e told b → c ≡ 0 → z ≡ size_of b
+pub lent_whole : (e : Edition) (sane : Sane e) (told z : ℕ) (b : List ℕ) → 0 ≡ verdict e told b → z ≡ size_of b
     → length (lay e (parent (take (e.literal + z - e.literal) (drop e.literal b))) (entries e (take (e.literal + z - e.literal) (drop e.literal b))))
     ≡ length (take (e.literal + z - e.literal) (drop e.literal b))
-lent_whole e sane told c z b h f q =
-    let v : verdict e told b ≡ 0 = sym h ∙ f in
+lent_whole e sane told z b h q =
+    let v : verdict e told b ≡ 0 = sym h in
     rw (used_is e sane told b v z q) (same_long e told (used e b) (used_passes e sane told b v) (used_header e sane told b v))
 
 module _ (e : Edition) (sane : Sane e) (told : ℕ) (b n : List ℕ) (to : Target) (h : insert_code e told b n to ≡ 0) where
@@ -248,14 +251,14 @@ module _ (e : Edition) (sane : Sane e) (told : ℕ) (b n : List ℕ) (to : Targe
     put_in_is m s t b₁ e₀ f g k =
         written_back e sane told b insert_passes (inserted e told n to (entries e (used e b))) insert_fits m s t b₁ e₀ (rw lent at f) (rw lent at g) k
 
-pub insert_alone : (e : Edition) (told c : ℕ) (b n : List ℕ) (to : Target) → c ≡ insert_code e told b n to → (c ≡ 0 → ⊥) → b ≡ insert_bytes e told b n to
+pub insert_alone : (e : Edition) (told : ℕ) (b n : List ℕ) (to : Target) (x : Refusal) → number x ≡ insert_code e told b n to → b ≡ insert_bytes e told b n to
 unfolding insert_bytes
-insert_alone e told c b n to h f = sym (rw (ne_eqb (insert_code e told b n to) 0 (λ q. f (h ∙ q))) refl)
+insert_alone e told b n to x h = sym (rw (ne_eqb (insert_code e told b n to) 0 (λ q. number_ne x (h ∙ q))) refl)
 
-pub insert_done : (e : Edition) (told c : ℕ) (b n b₁ : List ℕ) (to : Target) → c ≡ insert_code e told b n to → c ≡ 0
+pub insert_done : (e : Edition) (told : ℕ) (b n b₁ : List ℕ) (to : Target) → 0 ≡ insert_code e told b n to
     → b₁ ≡ with_entries e b (inserted e told n to (entries e (used e b))) → b₁ ≡ insert_bytes e told b n to
 unfolding insert_bytes
-insert_done e told c b n b₁ to h f k = k ∙ sym (rw (eq-eqb (insert_code e told b n to) 0 (sym h ∙ f)) refl)
+insert_done e told b n b₁ to h k = k ∙ sym (rw (eq-eqb (insert_code e told b n to) 0 (sym h)) refl)
 
 -- of the edition that was made
 pub remove_made : (e f : Edition) (told : ℕ) (b n : List ℕ) (r : ℕ) → r ≡ remove_code e told b n → e ≡ f → r ≡ remove_code f told b n

@@ -11,17 +11,16 @@ use borrow.Author.Tests.{le-leb, lt-leb, not-true, not-false}
 use Rattle.refusal.specs.Refusal.{ASKED, FIXED, EXISTS, NOROOM}
 use Rattle.be.specs.Lists.{tally, every}
 use Rattle.be.specs.Bytes.{byte, put}
-use Rattle.be.proofs.Bools.{by_cases, clash, and_left, every_head, every_tail}
+use Rattle.be.proofs.Bools.{by_cases, and_left, every_head, every_tail}
 use Rattle.edition.specs.declared.Edition.{Edition}
 use Rattle.dir.specs.declared.Target.{Target}
 use Rattle.dir.specs.Target.{legal_target, kept_of}
 use Rattle.name.specs.Name.{legal_name, fixed_name}
 use Rattle.name.proofs.Legality.{legal_bounds}
-use Rattle.dir_sf.specs.declared.FreeTag.{FreeTag}
-use Rattle.dir_sf.specs.declared.FreeTag.TheVariants.{At, Nowhere}
+use Rattle.std.specs.Prelude.{Option, Some, None}
 use Rattle.dir_sf.specs.Entry.{SfEntry, entry, width_of, entry_bytes, entries_bytes, is_wide, wides_of}
 use Rattle.dir_sf.specs.Fork.{laid, lay, count_of, stored_wides, parent, entries, holds, name_ok, names_ok}
-use Rattle.dir_sf.specs.Change.{placed, tag_for, is_free, put_by, inserted, has_room, insert_request}
+use Rattle.dir_sf.specs.Change.{placed, tag_for, put_by, inserted, has_room, insert_request}
 use Rattle.dir_sf.specs.Inner.{Readable}
 use Rattle.dir_sf_edit.specs.Inner.{rank, with_nth}
 use Rattle.dir_sf.proofs.Leaves.{narrow, broad, width_least}
@@ -147,39 +146,34 @@ module _ (e : Edition) (told fork : ℕ) (n : List ℕ) (to : Target) (p : ℕ) 
           unfolding insert_request
           last = rw (sym h₁ ∙ not-false t₁ g₁, sym h₂ ∙ not-false t₂ g₂, sym h₃ ∙ g₃, sym h₄ ∙ g₄) refl
 
-          module _ (s : ℕ) (free : FreeTag) (l : s ≡ length n) (ht : free ≡ tag_for e told s xs) where
+          module _ (s : ℕ) (free : Option ℕ) (l : s ≡ length n) (ht : free ≡ tag_for e told s xs) where
             tag_is : tag_for e told (length n) xs ≡ free
             tag_is = ap (λ (z : ℕ). tag_for e told z xs) (sym l) ∙ sym ht
 
-            pub insert_no_tag : free ≡ Nowhere → ◌≡◌ {A = ℕ} NOROOM (insert_request e told fork n to p xs)
-            unfolding has_room is_free
+            pub insert_no_tag : free ≡ None → ◌≡◌ {A = ℕ} NOROOM (insert_request e told fork n to p xs)
+            unfolding has_room
             insert_no_tag f = sym (last ∙ rw (tag_is ∙ f) refl)
 
-            module _ (tag : ℕ) (f : free ≡ At tag) (x : Target) (hx : x ≡ kept_of e to) (z : ℕ) (hz : z ≡ length (lay e p (placed (entry tag n x) xs))) where
+            module _ (tag : ℕ) (f : free ≡ Some tag) (x : Target) (hx : x ≡ kept_of e to) (z : ℕ) (hz : z ≡ length (lay e p (placed (entry tag n x) xs))) where
               size_is : length (lay e p (inserted e told n to xs)) ≡ z
               unfolding inserted put_by
-              size_is = ap₂ (λ (k : FreeTag) (y : Target). length (lay e p (put_by k n y xs))) (tag_is ∙ f) (sym hx) ∙ sym hz
+              size_is = ap₂ (λ (k : Option ℕ) (y : Target). length (lay e p (put_by k n y xs))) (tag_is ∙ f) (sym hx) ∙ sym hz
 
               pub insert_no_fit : fork < z → ◌≡◌ {A = ℕ} NOROOM (insert_request e told fork n to p xs)
-              unfolding has_room is_free
+              unfolding has_room
               insert_no_fit h = sym (last ∙ rw (tag_is ∙ f, size_is, lt-leb z fork h) refl)
 
               pub insert_done : z ≤ fork → ◌≡◌ {A = ℕ} 0 (insert_request e told fork n to p xs)
-              unfolding has_room is_free
+              unfolding has_room
               insert_done h = sym (last ∙ rw (tag_is ∙ f, size_is, le-leb z fork h) refl)
-
--- where there is a tag, it is somewhere
-pub somewhere : (free t : FreeTag) → free ≡ t → free ≡ Nowhere → is_free t ≡ true → ⊥
-unfolding is_free
-somewhere free t h f k = clash (sym (ap is_free (sym h ∙ f)) ∙ k) refl
 
 -- ---- the directory with the entry in
 
-module _ (e : Edition) (u name : List ℕ) (r : Readable e u) (told wides one s tag : ℕ) (free : FreeTag) (to x : Target) (index : ℕ) (b : wides ≡ byte 1 u) (g : one ≡ cond (is_wide to.inode) 1 0) (hx : x ≡ kept_of e to)
-    (n : s ≡ length name) (ht : free ≡ tag_for e told s (entries e u)) (hf : free ≡ At tag) (hi : index ≡ rank tag (entries e u)) where
+module _ (e : Edition) (u name : List ℕ) (r : Readable e u) (told wides one s tag : ℕ) (free : Option ℕ) (to x : Target) (index : ℕ) (b : wides ≡ byte 1 u) (g : one ≡ cond (is_wide to.inode) 1 0) (hx : x ≡ kept_of e to)
+    (n : s ≡ length name) (ht : free ≡ tag_for e told s (entries e u)) (hf : free ≡ Some tag) (hi : index ≡ rank tag (entries e u)) where
   is_placed : inserted e told name to (entries e u) ≡ placed (entry tag name (kept_of e to)) (entries e u)
   unfolding inserted put_by
-  is_placed = ap (λ (f : FreeTag). put_by f name (kept_of e to) (entries e u)) (ap (λ (z : ℕ). tag_for e told z (entries e u)) (sym n) ∙ sym ht ∙ hf)
+  is_placed = ap (λ (f : Option ℕ). put_by f name (kept_of e to) (entries e u)) (ap (λ (z : ℕ). tag_for e told z (entries e u)) (sym n) ∙ sym ht ∙ hf)
 
   new_is : inserted e told name to (entries e u) ≡ with_nth index (entry tag name x) (entries e u)
   new_is =

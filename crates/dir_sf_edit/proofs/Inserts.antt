@@ -16,8 +16,7 @@ use Rattle.name.specs.Name.{same_name}
 use Rattle.dir.specs.declared.Target.{Target}
 use Rattle.dir.specs.Target.{kept_of}
 use Rattle.be.proofs.Bools.{by_cases, clash, every_head, every_tail, every_cons, neither}
-use Rattle.dir_sf.specs.declared.FreeTag.{FreeTag}
-use Rattle.dir_sf.specs.declared.FreeTag.TheVariants.{At, Nowhere}
+use Rattle.std.specs.Prelude.{Option, Some, None}
 use Rattle.dir_sf.specs.Entry.{SfEntry, entry, next_tag, tags_ok, end_tag}
 use Rattle.dir_sf.specs.Fork.{holds, once_ok}
 use Rattle.dir_sf.specs.Change.{entry_in, target_in, gap_tag, tag_for, put_by, is_free, placed, inserted}
@@ -31,19 +30,19 @@ pub record Tags (e : Edition) : Type 0 where
 
 -- ---- the tag that there is
 
-pub number_of : FreeTag → ℕ
-number_of (At tag) = tag
-number_of Nowhere = 0
+pub number_of : Option ℕ → ℕ
+number_of (Some tag) = tag
+number_of None = 0
 
-pub free_at : (f : FreeTag) → is_free f ≡ true → f ≡ At (number_of f)
-unfolding is_free number_of
-free_at (At tag) h = refl
-free_at Nowhere h = absurd (clash h refl)
+pub free_at : (f : Option ℕ) → is_free f ≡ true → f ≡ Some (number_of f)
+unfolding number_of
+free_at (Some tag) h = refl
+free_at None h = absurd (clash h refl)
 
 pub inserted_is : (e : Edition) (told : ℕ) (n : List ℕ) (to : Target) (xs : List SfEntry) → is_free (tag_for e told (length n) xs) ≡ true
     → inserted e told n to xs ≡ placed (entry (number_of (tag_for e told (length n) xs)) n (kept_of e to)) xs
 unfolding inserted put_by
-inserted_is e told n to xs h = ap (λ (f : FreeTag). put_by f n (kept_of e to) xs) (free_at (tag_for e told (length n) xs) h)
+inserted_is e told n to xs h = ap (λ (f : Option ℕ). put_by f n (kept_of e to) xs) (free_at (tag_for e told (length n) xs) h)
 
 -- ---- the new entry among the others
 
@@ -153,7 +152,7 @@ module _ (e : Edition) (y : SfEntry) where
 
   -- in the lowest gap that holds it
   pub placed_in_gap : (low : ℕ) (xs : List SfEntry) → low % 8 ≡ 0 → tags_ok e low xs ≡ true
-      → gap_tag e (entry_size e (length y.name)) low xs ≡ At y.tag
+      → gap_tag e (entry_size e (length y.name)) low xs ≡ Some y.tag
       → (tags_ok e low (placed y xs) ≡ true) × (end_tag e low (placed y xs) ≡ end_tag e low xs) × (low ≤ y.tag)
   unfolding placed end_tag gap_tag next_tag
   placed_in_gap low [] m t q = absurd (let z : ◌≡◌ {A = ℕ} 0 1 = cc in omega arith)
@@ -162,7 +161,7 @@ module _ (e : Edition) (y : SfEntry) where
       let g = tagged e low x xs t in
       by_cases (leb (low + long) x.tag)
       (λ l.
-      let a : At low ≡ At y.tag = rw l at q in
+      let a : Some low ≡ Some y.tag = rw l at q in
       let at : low ≡ y.tag = cc in
       let le : low + long ≤ x.tag = leb-true _ _ l in
       let lt : y.tag < x.tag = omega (arith, next_more e y) in

@@ -16,7 +16,7 @@ use Rattle.dir.specs.declared.Target.{Target}
 use Rattle.dir.specs.Target.{legal_target, kept_of}
 use Rattle.dir.proofs.FileTypes.{target_number, target_type, kept_fits}
 use Rattle.name.specs.Name.{legal_name, legal_number, same_name, fixed_name}
-use Rattle.dir_sf.specs.declared.FreeTag.TheVariants.{At, Nowhere}
+use Rattle.std.specs.Prelude.{Some, None}
 use Rattle.dir_sf.specs.Entry.{SfEntry, entry, width_of, entries_bytes, wides_of, next_tag, tags_ok, end_tag, in_block}
 use Rattle.dir_sf.specs.Fork.{name_ok, names_ok, numbers_ok, holds, lay}
 use Rattle.dir_sf.specs.Change.{gap_tag, tag_for, is_free, placed, inserted, has_room, insert_request, removed}
@@ -57,21 +57,21 @@ module _ (e : Edition) (ok : Tags e) (told p : ℕ) (n : List ℕ) (to : Target)
       (r.0, rw (m, length_placed y xs) h)
 
   in_gap : (y : SfEntry) → y.name ≡ n → in_block told (end_tag e e.first xs) (suc (length xs)) ≡ true
-      → gap_tag e (entry_size e (length n)) e.first xs ≡ At y.tag → FitsIn y
+      → gap_tag e (entry_size e (length n)) e.first xs ≡ Some y.tag → FitsIn y
   in_gap y q h t =
-      let t' : gap_tag e (entry_size e (length y.name)) e.first xs ≡ At y.tag = rw q t in
+      let t' : gap_tag e (entry_size e (length y.name)) e.first xs ≡ Some y.tag = rw q t in
       let r = placed_in_gap e y e.first xs ok.first_eights g.tags t' in
       (r.0, rw (r.1, length_placed y xs) h)
 
-  tag_fits : (y : SfEntry) → y.name ≡ n → tag_for e told (length n) xs ≡ At y.tag → FitsIn y
+  tag_fits : (y : SfEntry) → y.name ≡ n → tag_for e told (length n) xs ≡ Some y.tag → FitsIn y
   unfolding tag_for
   tag_fits y q t =
       by_cases (in_block told (end_tag e e.first xs + entry_size e (length n)) (suc (length xs)))
-      (λ a. let k : At (end_tag e e.first xs) ≡ At y.tag = rw a at t in at_end y q a (cc))
+      (λ a. let k : Some (end_tag e e.first xs) ≡ Some y.tag = rw a at t in at_end y q a (cc))
       (λ a.
       by_cases (in_block told (end_tag e e.first xs) (suc (length xs)))
       (λ b. in_gap y q b (rw (a, b) at t))
-      (λ b. let k : Nowhere ≡ At y.tag = rw (a, b) at t in let z : ◌≡◌ {A = ℕ} 0 1 = cc in absurd (omega arith)))
+      (λ b. let k : None ≡ Some y.tag = rw (a, b) at t in let z : ◌≡◌ {A = ℕ} 0 1 = cc in absurd (omega arith)))
 
   module _ (fork : ℕ) (sane : Sane e) (done : insert_request e told fork n to p xs ≡ 0) where
     -- good before, good after

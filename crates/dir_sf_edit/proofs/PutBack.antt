@@ -39,7 +39,7 @@ pub record Room (e : Edition) (long low : ℕ) (xs ys : List SfEntry) (last : Bo
   pub between : last ≡ false → is_free (gap_tag e long low ys) ≡ true
 
 gap_more : (e : Edition) (long low : ℕ) (x : SfEntry) (ys : List SfEntry) → is_free (gap_tag e long (next_tag e x) ys) ≡ true → is_free (gap_tag e long low (x ∷ ys)) ≡ true
-unfolding gap_tag is_free
+unfolding gap_tag
 gap_more e long low x ys k = by_cases (leb (low + long) x.tag) (λ q. rw q refl) (λ q. rw q k)
 
 -- whether the first entry of the name is the last of all
@@ -50,7 +50,7 @@ last_of e n (x ∷ (z ∷ zs)) = let r = last_of e n (z ∷ zs) in cond (same_na
 
 head_room : (e : Edition) (n : List ℕ) (low : ℕ) (x : SfEntry) (xs : List SfEntry) → same_name e n x.name ≡ true → tags_ok e low (x ∷ xs) ≡ true
     → Room e (entry_size e (length n)) low (x ∷ xs) xs (last_of e n (x ∷ xs))
-unfolding last_of is_free
+unfolding last_of
 head_room e n low x [] q t =
     let g = tagged e low x [] t in
     record {
@@ -133,7 +133,7 @@ module _ (e : Edition) (told p fork : ℕ) (n : List ℕ) (kind : ℕ) (typed : 
 
   -- a tag
   tagged_again : is_free (tag_for e told (length n) (removed e n xs)) ≡ true
-  unfolding tag_for is_free
+  unfolding tag_for
   tagged_again =
       let long : ℕ = entry_size e (length n) in
       let end : ℕ = end_tag e e.first (removed e n xs) in

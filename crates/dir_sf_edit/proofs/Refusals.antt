@@ -76,11 +76,11 @@ module _ (e : Edition) (n : List ℕ) (xs : List SfEntry) (t₁ : Bool) (h₁ : 
     unfolding remove_request
     remove_fixed f = sym (rw (sym h₁ ∙ not-false t₁ g₁, sym h₂ ∙ f) refl)
 
-    module _ (g₂ : t₂ ≡ false) (t₃ : Bool) (h₃ : t₃ ≡ holds e n xs) where
-      pub remove_absent : not t₃ ≡ true → ◌≡◌ {A = ℕ} ABSENT (remove_request e n xs)
+    module _ (g₂ : t₂ ≡ false) (t₃ : Bool) (h₃ : holds e n xs ≡ not t₃) where
+      pub remove_absent : t₃ ≡ true → ◌≡◌ {A = ℕ} ABSENT (remove_request e n xs)
       unfolding remove_request
-      remove_absent f = sym (rw (sym h₁ ∙ not-false t₁ g₁, sym h₂ ∙ g₂, sym h₃ ∙ not-true t₃ f) refl)
+      remove_absent f = sym (rw (sym h₁ ∙ not-false t₁ g₁, sym h₂ ∙ g₂, h₃, f) refl)
 
-      pub remove_done : not t₃ ≡ false → ◌≡◌ {A = ℕ} 0 (remove_request e n xs)
+      pub remove_done : t₃ ≡ false → ◌≡◌ {A = ℕ} 0 (remove_request e n xs)
       unfolding remove_request
-      remove_done f = sym (rw (sym h₁ ∙ not-false t₁ g₁, sym h₂ ∙ g₂, sym h₃ ∙ not-false t₃ f) refl)
+      remove_done f = sym (rw (sym h₁ ∙ not-false t₁ g₁, sym h₂ ∙ g₂, h₃, f) refl)

@@ -13,8 +13,7 @@ use Rattle.be.specs.Bytes.{byte, field}
 use Rattle.records.specs.Records.{start}
 use Rattle.edition.specs.declared.Edition.{Edition}
 use Rattle.edition.specs.Edition.{entry_size, Sane}
-use Rattle.dir_sf.specs.declared.FreeTag.{FreeTag}
-use Rattle.dir_sf.specs.declared.FreeTag.TheVariants.{At, Nowhere}
+use Rattle.std.specs.Prelude.{Option, Some, None}
 use Rattle.dir_sf.specs.Entry.{SfEntry, width_of, size_at, entry_at, entries_in, next_tag, end_tag, in_block}
 use Rattle.dir_sf.specs.Change.{gap_tag, tag_for}
 use Rattle.dir_sf.specs.Fork.{count_of, entries, place_of}
@@ -65,7 +64,7 @@ ends_done e w u at k i p low s h = sym (s.rest ∙ ap (end_tag e low) (run_over 
 
 -- ---- the lowest gap
 
-pub gap_here : (e : Edition) (long low : ℕ) (x : SfEntry) (xs : List SfEntry) → low + long ≤ x.tag → gap_tag e long low (x ∷ xs) ≡ At low
+pub gap_here : (e : Edition) (long low : ℕ) (x : SfEntry) (xs : List SfEntry) → low + long ≤ x.tag → gap_tag e long low (x ∷ xs) ≡ Some low
 unfolding gap_tag
 gap_here e long low x xs h = rw (le-leb _ _ h) refl
 
@@ -73,7 +72,7 @@ gap_later : (e : Edition) (long low : ℕ) (x : SfEntry) (xs : List SfEntry) →
 unfolding gap_tag
 gap_later e long low x xs h = rw (lt-leb _ _ h) refl
 
-gap_none : (e : Edition) (long low : ℕ) → gap_tag e long low [] ≡ Nowhere
+gap_none : (e : Edition) (long low : ℕ) → gap_tag e long low [] ≡ None
 unfolding gap_tag
 gap_none e long low = refl
 
@@ -86,7 +85,7 @@ pub gaps_start : (e : Edition) (w long : ℕ) (u : List ℕ) (at k : ℕ) → Sa
 gaps_start e w long u at k sane f = record { run = run_start e w u at k f; small = omega (arith, sane.first_after, sane.header_most); rest = ap (gap_tag e long e.first) (run_whole e w u at k) }
 
 pub gaps_found : (e : Edition) (w long : ℕ) (u : List ℕ) (at k i p low n tag : ℕ) → Gaps e w long u at k i p low → i < k → n ≡ get_or u p 0 → tag ≡ field (p + 1) 2 u → low + long ≤ tag
-    → At low ≡ gap_tag e long e.first (entries_in e w u k at)
+    → Some low ≡ gap_tag e long e.first (entries_in e w u k at)
 gaps_found e w long u at k i p low n tag s h a c l =
     let t : (entry_at e w u p).tag ≡ tag = tag_at_is e w u p ∙ sym c in
     sym (s.rest ∙ ap (gap_tag e long low) (run_rest e w u at k i p n (e.ftype + w) s.run h a refl) ∙ gap_here e long low _ _ (omega arith))
@@ -102,7 +101,7 @@ gaps_on e w long u at k i p low n v tag e₀ s h a b c l g f m =
           ∙ ap (λ (y : ℕ). gap_tag e long y (entries_in e w u (k - (i + 1)) (p + 3 + n + v))) (next_is e w u p n tag e₀ (one_in e w p u (run_one e w u at k i p s.run h)) a c f);
     }
 
-pub gaps_done : (e : Edition) (w long : ℕ) (u : List ℕ) (at k i p low : ℕ) → Gaps e w long u at k i p low → k ≤ i → Nowhere ≡ gap_tag e long e.first (entries_in e w u k at)
+pub gaps_done : (e : Edition) (w long : ℕ) (u : List ℕ) (at k i p low : ℕ) → Gaps e w long u at k i p low → k ≤ i → None ≡ gap_tag e long e.first (entries_in e w u k at)
 gaps_done e w long u at k i p low s h = sym (s.rest ∙ ap (gap_tag e long low) (run_over e w u k i p h) ∙ gap_none e long low)
 
 -- ---- where a tag stands
@@ -167,17 +166,17 @@ module _ (e : Edition) (u : List ℕ) (told n k wides w long end : ℕ) (a : k �
       let q : z + 8 * (suc (length (entries e u)) + 2) + 8 ≡ z + 8 * (k + 1 + 2) + 8 = omega (arith, count_is e u) in
       ap (λ (x : ℕ). leb x told) q
 
-  pub tag_last : end + long + 8 * (k + 1 + 2) + 8 ≤ told → At end ≡ tag_for e told n (entries e u)
+  pub tag_last : end + long + 8 * (k + 1 + 2) + 8 ≤ told → Some end ≡ tag_for e told n (entries e u)
   unfolding tag_for
   tag_last h = rw (← l, ends, limit (end + long), le-leb _ _ h) refl
 
-  pub tag_gap : (r : FreeTag) → told < end + long + 8 * (k + 1 + 2) + 8 → end + 8 * (k + 1 + 2) + 8 ≤ told
+  pub tag_gap : (r : Option ℕ) → told < end + long + 8 * (k + 1 + 2) + 8 → end + 8 * (k + 1 + 2) + 8 ≤ told
       → r ≡ gap_tag e long e.first (entries_in e (width_of wides) u k (2 + w)) → r ≡ tag_for e told n (entries e u)
   unfolding tag_for
   tag_gap r h m q =
       rw (← l, ends, limit (end + long), lt-leb _ _ h, limit end, le-leb _ _ m) (q ∙ ap (gap_tag e long e.first) (sym (entries_is e u k wides w a b c)))
 
-  pub tag_none : told < end + 8 * (k + 1 + 2) + 8 → Nowhere ≡ tag_for e told n (entries e u)
+  pub tag_none : told < end + 8 * (k + 1 + 2) + 8 → None ≡ tag_for e told n (entries e u)
   unfolding tag_for
   tag_none m =
       let h : told < end + long + 8 * (k + 1 + 2) + 8 = omega arith in

@@ -2,6 +2,7 @@
 #![tactic(auto)]
 
 ghost use Rattle.std.specs.Prelude.{◌≡◌, true, cond, ◌∷◌, ◌++◌, ◌+◌, ◌-◌, ◌≤◌, ◌<◌, length, take, drop};
+ghost use Rattle.refusal.specs.Refusal.{code};
 ghost use Rattle.be.specs.Bytes.{byte, put, to_be};
 ghost use Rattle.records.specs.Records.{start};
 ghost use Rattle.edition.specs.Edition.{v4, Sane};
@@ -15,8 +16,9 @@ ghost use Rattle.dir_sf_edit.specs.Inner.{rank, with_nth, without_nth};
 ghost use Rattle.dir_sf.specs.Inode.{used, insert_code, remove_code, with_entries, insert_bytes, remove_bytes};
 
 use dir::Target;
-use dir_sf::{FreeTag, Spot};
+use dir_sf::Spot;
 use edition::{Edition, V4};
+use refusal::Refusal;
 
 // ---- entries stored
 
@@ -234,41 +236,37 @@ fn shrink<'a, 'b, 'c>(e: Edition, t: &'a mut [u8], u: &'b [u8], name: &'c [u8]) 
         ≡ put t.old 0 (lay e (parent u.now) (removed e name.now (entries e u.now))))
         × (result ≡ length (lay e (parent u.now) (removed e name.now (entries e u.now)))) }
 {
-    let h = dir_sf::seek_name(e, u, name);
+    let h = dir_sf::seek_name(e, u, name).unwrap();
     let after = wides_without(u, h.target.inode);
     lay_without(e, t, u, h.index, h.at, after)
 }
 
-// What a removal answers, of a directory that passes the tests.
-fn removal_code<'a, 'b>(e: Edition, u: &'a [u8], name: &'b [u8]) -> usize
+// What refuses a removal, in a directory that passes the tests.
+fn check_removal<'a, 'b>(e: Edition, u: &'a [u8], name: &'b [u8]) -> Result<(), Refusal>
     requires { Sane e × Readable e u.now }
-    ensures { result ≡ remove_request e name.now (entries e u.now) }
+    ensures { code result ≡ remove_request e name.now (entries e u.now) }
 {
     if !name::legal(e, name) {
-        return refusal::ASKED;
+        return Err(Refusal::Asked);
     }
     if name::fixed(name) {
-        return refusal::FIXED;
+        return Err(Refusal::Fixed);
     }
-    let h = dir_sf::seek_name(e, u, name);
-    if !h.held {
-        return refusal::ABSENT;
+    if dir_sf::seek_name(e, u, name).is_none() {
+        return Err(Refusal::Absent);
     }
-    0
+    Ok(())
 }
 
-// What a removal answers.
-fn remove_answer<'a, 'b>(e: Edition, b: &'a [u8], told: usize, name: &'b [u8]) -> usize
+// What refuses a removal.
+fn check_remove<'a, 'b>(e: Edition, b: &'a [u8], told: usize, name: &'b [u8]) -> Result<(), Refusal>
     requires { Sane e }
-    ensures { result ≡ remove_code e told b.now name.now }
+    ensures { code result ≡ remove_code e told b.now name.now }
 {
-    let c = dir_sf::code(e, b, told);
-    if c != 0 {
-        return c;
-    }
+    dir_sf::check(e, b, told)?;
     let start = e.literal;
     let end = start + dir_sf::used_long(e, b, told);
-    removal_code(e, &b[start..end], name)
+    check_removal(e, &b[start..end], name)
 }
 
 // Takes the entry of a name out.
@@ -284,22 +282,24 @@ fn take_out<'a, 'b>(e: Edition, b: &'a mut [u8], told: usize, name: &'b [u8])
     write_back(e, b, &t[..], n, size);
 }
 
-fn remove_from<'a, 'b>(e: Edition, b: &'a mut [u8], told: usize, name: &'b [u8]) -> usize
+fn remove_from<'a, 'b>(
+    e: Edition,
+    b: &'a mut [u8],
+    told: usize,
+    name: &'b [u8],
+) -> Result<(), Refusal>
     requires { Sane e }
-    ensures { (result ≡ remove_code e told b.old name.now)
+    ensures { (code result ≡ remove_code e told b.old name.now)
         × (b.new ≡ remove_bytes e told b.old name.now) }
 {
-    let c = remove_answer(e, &b[..], told, name);
-    if c != 0 {
-        return c;
-    }
+    check_remove(e, &b[..], told, name)?;
     take_out(e, b, told, name);
-    0
+    Ok(())
 }
 
-// Removes the entry of a name: 0, or why not.
-pub fn remove<'a, 'b>(b: &'a mut [u8], told: usize, name: &'b [u8]) -> usize
-    ensures { (result ≡ remove_code v4 told b.old name.now)
+// Removes the entry of a name.
+pub fn remove<'a, 'b>(b: &'a mut [u8], told: usize, name: &'b [u8]) -> Result<(), Refusal>
+    ensures { (code result ≡ remove_code v4 told b.old name.now)
         × (b.new ≡ remove_bytes v4 told b.old name.now) }
 {
     remove_from(V4::edition(), b, told, name)
@@ -327,7 +327,7 @@ fn end_of(e: Edition, u: &[u8], at: usize, k: usize, wides: usize) -> usize
 }
 
 // The start of the lowest gap in the tags that holds `long`, if there is one.
-fn gap_of(e: Edition, u: &[u8], at: usize, k: usize, wides: usize, long: usize) -> FreeTag
+fn gap_of(e: Edition, u: &[u8], at: usize, k: usize, wides: usize, long: usize) -> Option<usize>
     requires { Sane e × (at ≤ length u.now) × (enough e (width_of wides) u.now k at ≡ true) × (long < 280) }
     ensures { result ≡ gap_tag e long e.first (entries_in e (width_of wides) u.now k at) }
 {
@@ -339,13 +339,13 @@ fn gap_of(e: Edition, u: &[u8], at: usize, k: usize, wides: usize, long: usize) 
         let n = dir_sf::namelen(e, u, p, wides);
         let tag = be::be16(u, p + 1);
         if low + long <= tag {
-            return FreeTag::At(low);
+            return Some(low);
         }
         low = tag + edition::entry_size(e, n);
         p = p + 3 + n + w;
         i += 1;
     }
-    FreeTag::Nowhere
+    None
 }
 
 // Where an entry with a tag goes: how many are before it, and where the next one starts.
@@ -368,8 +368,8 @@ fn rank_of(e: Edition, u: &[u8], at: usize, k: usize, wides: usize, tag: usize) 
     Spot { index: i, at: p }
 }
 
-// The tag of a new entry with a name of n bytes.
-fn tag_of(e: Edition, u: &[u8], n: usize, told: usize) -> FreeTag
+// The tag of a new entry with a name of n bytes, if one is free.
+fn tag_of(e: Edition, u: &[u8], n: usize, told: usize) -> Option<usize>
     requires { Sane e × Readable e u.now × (n < 256) }
     ensures { result ≡ tag_for e told n (entries e u.now) }
 {
@@ -379,12 +379,12 @@ fn tag_of(e: Edition, u: &[u8], n: usize, told: usize) -> FreeTag
     let long = edition::entry_size(e, n);
     let end = end_of(e, u, at, k, wides);
     if end + long + 8 * (k + 1 + 2) + 8 <= told {
-        return FreeTag::At(end);
+        return Some(end);
     }
     if end + 8 * (k + 1 + 2) + 8 <= told {
         return gap_of(e, u, at, k, wides, long);
     }
-    FreeTag::Nowhere
+    None
 }
 
 // Where an entry with a tag goes among those in u.
@@ -441,55 +441,55 @@ fn grown<'a, 'b>(e: Edition, u: &'a [u8], name: &'b [u8], tag: usize, to: Target
     plain + 4 * (be::be8(u, 0) + 1)
 }
 
-// What an insert answers, of a directory that passes the tests.
-fn insertion_code<'a, 'b>(
+// What refuses an insert, in a directory that passes the tests.
+fn check_insertion<'a, 'b>(
     e: Edition,
     u: &'a [u8],
     told: usize,
     fork: usize,
     name: &'b [u8],
     to: Target,
-) -> usize
+) -> Result<(), Refusal>
     requires { Sane e × Readable e u.now × (length u.now ≤ 1948) × (length (lay e (parent u.now) (entries e u.now)) ≡ length u.now) }
-    ensures { result ≡ insert_request e told fork name.now to (parent u.now) (entries e u.now) }
+    ensures { code result ≡ insert_request e told fork name.now to (parent u.now) (entries e u.now) }
 {
     if !name::legal(e, name) {
-        return refusal::ASKED;
+        return Err(Refusal::Asked);
     }
     if !dir::target_legal(e, to) {
-        return refusal::ASKED;
+        return Err(Refusal::Asked);
     }
     if name::fixed(name) {
-        return refusal::FIXED;
+        return Err(Refusal::Fixed);
     }
-    let h = dir_sf::seek_name(e, u, name);
-    if h.held {
-        return refusal::EXISTS;
+    if dir_sf::seek_name(e, u, name).is_some() {
+        return Err(Refusal::Exists);
     }
-    match tag_of(e, u, name.len(), told) {
-        FreeTag::At(tag) => {
-            if fork < grown(e, u, name, tag, dir::kept(e, to)) {
-                return refusal::NOROOM;
-            }
-            0
-        }
-        FreeTag::Nowhere => refusal::NOROOM,
+    let Some(tag) = tag_of(e, u, name.len(), told) else {
+        return Err(Refusal::NoRoom);
+    };
+    if fork < grown(e, u, name, tag, dir::kept(e, to)) {
+        return Err(Refusal::NoRoom);
     }
+    Ok(())
 }
 
-// What an insert answers.
-fn insert_answer<'a, 'b>(e: Edition, b: &'a [u8], told: usize, name: &'b [u8], to: Target) -> usize
+// What refuses an insert.
+fn check_insert<'a, 'b>(
+    e: Edition,
+    b: &'a [u8],
+    told: usize,
+    name: &'b [u8],
+    to: Target,
+) -> Result<(), Refusal>
     requires { Sane e }
-    ensures { result ≡ insert_code e told b.now name.now to }
+    ensures { code result ≡ insert_code e told b.now name.now to }
 {
-    let c = dir_sf::code(e, b, told);
-    if c != 0 {
-        return c;
-    }
+    dir_sf::check(e, b, told)?;
     let fork = dir_sf::fork_long(e, b);
     let start = e.literal;
     let end = start + dir_sf::used_long(e, b, told);
-    insertion_code(e, &b[start..end], told, fork, name, to)
+    check_insertion(e, &b[start..end], told, fork, name, to)
 }
 
 // Lays out the directory in u with a new entry, for which there is a tag. Gives its size.
@@ -508,14 +508,10 @@ fn grow<'a, 'b, 'c>(
         ≡ put t.old 0 (lay e (parent u.now) (inserted e told name.now to (entries e u.now))))
         × (result ≡ length (lay e (parent u.now) (inserted e told name.now to (entries e u.now)))) }
 {
-    match tag_of(e, u, name.len(), told) {
-        FreeTag::At(tag) => {
-            let s = spot_of(e, u, tag);
-            let after = be::be8(u, 1) + dir_sf::one_if_wide(to.inode);
-            lay_with(e, t, u, s.index, s.at, after, name, tag, dir::kept(e, to))
-        }
-        FreeTag::Nowhere => 0,
-    }
+    let tag = tag_of(e, u, name.len(), told).unwrap();
+    let s = spot_of(e, u, tag);
+    let after = be::be8(u, 1) + dir_sf::one_if_wide(to.inode);
+    lay_with(e, t, u, s.index, s.at, after, name, tag, dir::kept(e, to))
 }
 
 // Puts a new entry in.
@@ -538,22 +534,24 @@ fn insert_into<'a, 'b>(
     told: usize,
     name: &'b [u8],
     to: Target,
-) -> usize
+) -> Result<(), Refusal>
     requires { Sane e }
-    ensures { (result ≡ insert_code e told b.old name.now to)
+    ensures { (code result ≡ insert_code e told b.old name.now to)
         × (b.new ≡ insert_bytes e told b.old name.now to) }
 {
-    let c = insert_answer(e, &b[..], told, name, to);
-    if c != 0 {
-        return c;
-    }
+    check_insert(e, &b[..], told, name, to)?;
     put_in(e, b, told, name, to);
-    0
+    Ok(())
 }
 
-// Inserts an entry: 0, or why not.
-pub fn insert<'a, 'b>(b: &'a mut [u8], told: usize, name: &'b [u8], number: u64) -> usize
-    ensures { (result ≡ insert_code v4 told b.old name.now (target number 0))
+// Inserts an entry.
+pub fn insert<'a, 'b>(
+    b: &'a mut [u8],
+    told: usize,
+    name: &'b [u8],
+    number: u64,
+) -> Result<(), Refusal>
+    ensures { (code result ≡ insert_code v4 told b.old name.now (target number 0))
         × (b.new ≡ insert_bytes v4 told b.old name.now (target number 0)) }
 {
     let to = Target {

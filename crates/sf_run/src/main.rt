@@ -1,7 +1,8 @@
 // Short-form directories: document 004's dumps, the room of a 256-byte inode, widths, a tag gap, and each refusal.
 #![tactic(auto)]
 
-use dir::{Looked, Seen, Walked};
+use dir::{Looked, Seen};
+use refusal::Refusal;
 
 // The process's own streams, by the numbers that the system gives them.
 const STDOUT_FILENO: i32 = 1;
@@ -20,38 +21,44 @@ fn count(n: usize) {
     number(n as u64);
 }
 
+// A refusal's number.
+fn refused(r: Refusal) {
+    say(b" refused");
+    number(r.number() as u64);
+}
+
+// A test's or a change's number: 0 when nothing is refused.
+fn answer(r: Result<(), Refusal>) {
+    match r {
+        Ok(()) => number(0),
+        Err(r) => number(r.number() as u64),
+    }
+}
+
 fn line() {
     say(b"\n");
 }
 
 // 1 where two runs of bytes are equal.
 fn same<'a, 'b>(a: &'a [u8], b: &'b [u8]) {
-    if name::equal(a, b) {
-        number(1);
-    } else {
-        number(0);
-    }
+    number((a == b) as u64);
 }
 
 fn look<'a, 'b>(b: &'a [u8], name: &'b [u8]) {
     say(b"lookup");
     match dir_sf::lookup(b, 4096, name) {
-        Looked::Found {
-            target,
-            tag,
-            compared,
-        } => {
+        Ok(
+            Looked::Found {
+                target,
+                tag,
+                compared,
+            },
+        ) => {
             number(target.inode);
             count(tag);
         }
-        Looked::Absent { compared } => {
-            say(b" refused");
-            count(refusal::ABSENT);
-        }
-        Looked::Refused(n) => {
-            say(b" refused");
-            count(n);
-        }
+        Ok(Looked::Absent { compared }) => refused(Refusal::Absent),
+        Err(r) => refused(r),
     }
     line();
 }
@@ -59,10 +66,9 @@ fn look<'a, 'b>(b: &'a [u8], name: &'b [u8]) {
 fn step(b: &[u8], place: usize) {
     say(b"step");
     match dir_sf::step_at(b, 4096, place) {
-        Walked::Stepped(s) => {
+        Ok(s) => {
             count(s.next);
-            let seen = s.seen;
-            match seen {
+            match s.seen {
                 Seen::Live(x) => {
                     number(x.target.inode);
                     count(x.tag);
@@ -73,10 +79,7 @@ fn step(b: &[u8], place: usize) {
                 Seen::End => say(b" end"),
             }
         }
-        Walked::Refused(n) => {
-            say(b" refused");
-            count(n);
-        }
+        Err(r) => refused(r),
     }
     line();
 }
@@ -139,7 +142,7 @@ fn steps(b: &[u8]) {
 // The test's answer and the size.
 fn dump(b: &[u8; 256]) {
     say(b"dump");
-    count(dir_sf::test(b, 4096));
+    answer(dir_sf::test(b, 4096));
     number(be::be64(b, dinode::SIZE_PLACE));
     line();
 }
@@ -154,12 +157,8 @@ fn dumps() {
 
 // Whether two inodes have the same bytes from a place to another.
 fn compare<'a, 'b>(b: &'a [u8], d: &'b [u8], from: usize, to: usize) {
-    if from <= to {
-        if to <= b.len() {
-            if to <= d.len() {
-                same(&b[from..to], &d[from..to]);
-            }
-        }
+    if from <= to && to <= b.len() && to <= d.len() {
+        same(&b[from..to], &d[from..to]);
     }
 }
 
@@ -167,8 +166,8 @@ fn compare<'a, 'b>(b: &'a [u8], d: &'b [u8], from: usize, to: usize) {
 fn removal() {
     let mut b = first_dump();
     say(b"remove");
-    count(dir_sf_edit::remove(&mut b, 4096, b"frame000001.tst"));
-    count(dir_sf::test(&b, 4096));
+    answer(dir_sf_edit::remove(&mut b, 4096, b"frame000001.tst"));
+    answer(dir_sf::test(&b, 4096));
     number(be::be64(&b, dinode::SIZE_PLACE));
     let d = second_dump();
     compare(&b, &d, dinode::SIZE_PLACE, dinode::SIZE_PLACE + 8);
@@ -183,15 +182,15 @@ fn removal() {
 fn six() {
     let mut b = empty();
     say(b"six");
-    count(dir_sf_edit::insert(&mut b, 4096, b"frame000000.tst", 25165953));
-    count(dir_sf_edit::insert(&mut b, 4096, b"frame000001.tst", 25165954));
-    count(dir_sf_edit::insert(&mut b, 4096, b"frame000002.tst", 25165955));
-    count(dir_sf_edit::insert(&mut b, 4096, b"frame000003.tst", 25165956));
+    answer(dir_sf_edit::insert(&mut b, 4096, b"frame000000.tst", 25165953));
+    answer(dir_sf_edit::insert(&mut b, 4096, b"frame000001.tst", 25165954));
+    answer(dir_sf_edit::insert(&mut b, 4096, b"frame000002.tst", 25165955));
+    answer(dir_sf_edit::insert(&mut b, 4096, b"frame000003.tst", 25165956));
     same(&b[106..194], &first_dump()[106..194]);
-    count(dir_sf_edit::insert(&mut b, 4096, b"frame000004.tst", 25165957));
-    count(dir_sf_edit::insert(&mut b, 4096, b"frame000005.tst", 25165958));
+    answer(dir_sf_edit::insert(&mut b, 4096, b"frame000004.tst", 25165957));
+    answer(dir_sf_edit::insert(&mut b, 4096, b"frame000005.tst", 25165958));
     number(be::be64(&b, dinode::SIZE_PLACE));
-    count(dir_sf_edit::insert(&mut b, 4096, b"frame000006.tst", 25165959));
+    answer(dir_sf_edit::insert(&mut b, 4096, b"frame000006.tst", 25165959));
     number(be::be64(&b, dinode::SIZE_PLACE));
     line();
 }
@@ -200,18 +199,18 @@ fn six() {
 fn widths() {
     let mut b = empty();
     say(b"widths");
-    count(dir_sf_edit::insert(&mut b, 4096, b"a", 5));
+    answer(dir_sf_edit::insert(&mut b, 4096, b"a", 5));
     same(
         &b[100..114],
         b"\x01\x00\x00\x00\x00\x80\x01\x000a\x00\x00\x00\x05",
     );
-    count(dir_sf_edit::insert(&mut b, 4096, b"w", 4294967296));
+    answer(dir_sf_edit::insert(&mut b, 4096, b"w", 4294967296));
     same(
         &b[100..134],
         b"\x02\x01\x00\x00\x00\x00\x00\x00\x00\x80\x01\x000a\x00\x00\x00\x00\x00\x00\x00\x05\x01\x00@w\x00\x00\x00\x01\x00\x00\x00\x00",
     );
     number(be::be64(&b, dinode::SIZE_PLACE));
-    count(dir_sf_edit::remove(&mut b, 4096, b"w"));
+    answer(dir_sf_edit::remove(&mut b, 4096, b"w"));
     number(be::be64(&b, dinode::SIZE_PLACE));
     same(
         &b[100..114],
@@ -227,13 +226,13 @@ fn wide_parent() {
         b"\x01\x02\x00\x00\x00\x01\x00\x00\x00\x00\x01\x000w\x00\x00\x00\x01\x00\x00\x00\x00",
     );
     say(b"wide parent");
-    count(dir_sf::test(&b, 4096));
-    count(dir_sf_edit::remove(&mut b, 4096, b"w"));
+    answer(dir_sf::test(&b, 4096));
+    answer(dir_sf_edit::remove(&mut b, 4096, b"w"));
     number(be::be64(&b, dinode::SIZE_PLACE));
     same(&b[100..110], b"\x00\x01\x00\x00\x00\x01\x00\x00\x00\x00");
     same(&b[110..256], &[0u8; 146]);
-    count(dir_sf::test(&b, 4096));
-    count(dir_sf_edit::insert(&mut b, 4096, b"a", 5));
+    answer(dir_sf::test(&b, 4096));
+    answer(dir_sf_edit::insert(&mut b, 4096, b"a", 5));
     same(
         &b[100..122],
         b"\x01\x01\x00\x00\x00\x01\x00\x00\x00\x00\x01\x000a\x00\x00\x00\x00\x00\x00\x00\x05",
@@ -245,9 +244,9 @@ fn wide_parent() {
 fn three() -> [u8; 512] {
     let mut b = [0u8; 512];
     be::copy_into(&mut b, 0, &empty());
-    count(dir_sf_edit::insert(&mut b, 512, &[97u8; 100], 1));
-    count(dir_sf_edit::insert(&mut b, 512, &[98u8; 100], 2));
-    count(dir_sf_edit::insert(&mut b, 512, &[99u8; 100], 3));
+    answer(dir_sf_edit::insert(&mut b, 512, &[97u8; 100], 1));
+    answer(dir_sf_edit::insert(&mut b, 512, &[98u8; 100], 2));
+    answer(dir_sf_edit::insert(&mut b, 512, &[99u8; 100], 3));
     b
 }
 
@@ -255,21 +254,21 @@ fn three() -> [u8; 512] {
 fn gap() {
     say(b"gap");
     let mut b = three();
-    count(dir_sf_edit::insert(&mut b, 512, &[100u8; 62], 4));
-    count(dir_sf_edit::remove(&mut b, 512, &[97u8; 100]));
-    count(dir_sf_edit::insert(&mut b, 512, &[100u8; 102], 4));
-    count(dir_sf_edit::insert(&mut b, 512, &[100u8; 101], 4));
+    answer(dir_sf_edit::insert(&mut b, 512, &[100u8; 62], 4));
+    answer(dir_sf_edit::remove(&mut b, 512, &[97u8; 100]));
+    answer(dir_sf_edit::insert(&mut b, 512, &[100u8; 102], 4));
+    answer(dir_sf_edit::insert(&mut b, 512, &[100u8; 101], 4));
     count(be::be16(&b, 107));
     count(be::be8(&b, 109));
     number(be::be64(&b, dinode::SIZE_PLACE));
-    count(dir_sf::test(&b, 512));
+    answer(dir_sf::test(&b, 512));
     line();
 }
 
 // Tests 1 to 10, each by an inode that fails it.
 fn tested(u: &[u8]) {
     let b = with_used(u);
-    count(dir_sf::test(&b, 4096));
+    answer(dir_sf::test(&b, 4096));
 }
 
 fn set(b: &mut [u8], at: usize, v: usize) {
@@ -282,13 +281,13 @@ fn set(b: &mut [u8], at: usize, v: usize) {
 fn changed(at: usize, v: usize) {
     let mut b = empty();
     set(&mut b, at, v);
-    count(dir_sf::test(&b, 4096));
+    answer(dir_sf::test(&b, 4096));
 }
 
 fn cores() {
     say(b"tests");
-    count(dir_sf::test(&empty(), 500));
-    count(dir_sf::test(&[0u8; 255], 4096));
+    answer(dir_sf::test(&empty(), 500));
+    answer(dir_sf::test(&[0u8; 255], 4096));
     changed(1, 0);
     changed(4, 3);
     changed(5, 2);
@@ -313,17 +312,17 @@ fn refusals() {
 fn requests() {
     let mut b = first_dump();
     say(b"requests");
-    count(dir_sf_edit::insert(&mut b, 4096, b"", 5));
-    count(dir_sf_edit::insert(&mut b, 4096, b"a/b", 5));
-    count(dir_sf_edit::insert(&mut b, 4096, b"a", 0));
-    count(dir_sf_edit::insert(&mut b, 4096, b"..", 5));
-    count(dir_sf_edit::insert(&mut b, 4096, b"frame000002.tst", 5));
-    count(dir_sf_edit::insert(&mut b, 4096, &[97u8; 60], 5));
+    answer(dir_sf_edit::insert(&mut b, 4096, b"", 5));
+    answer(dir_sf_edit::insert(&mut b, 4096, b"a/b", 5));
+    answer(dir_sf_edit::insert(&mut b, 4096, b"a", 0));
+    answer(dir_sf_edit::insert(&mut b, 4096, b"..", 5));
+    answer(dir_sf_edit::insert(&mut b, 4096, b"frame000002.tst", 5));
+    answer(dir_sf_edit::insert(&mut b, 4096, &[97u8; 60], 5));
     line();
     say(b"removals");
-    count(dir_sf_edit::remove(&mut b, 4096, b""));
-    count(dir_sf_edit::remove(&mut b, 4096, b"."));
-    count(dir_sf_edit::remove(&mut b, 4096, b"a"));
+    answer(dir_sf_edit::remove(&mut b, 4096, b""));
+    answer(dir_sf_edit::remove(&mut b, 4096, b"."));
+    answer(dir_sf_edit::remove(&mut b, 4096, b"a"));
     same(&b, &first_dump());
     line();
 }

@@ -1,6 +1,8 @@
 use borrow.Author.Rules.{rules}
+use mathlib.Core.Path.{◌∙◌}
+use Rattle.dir_sf.proofs.Looks.{hit_some}
 use Rattle.dir_sf_edit.proofs.Insertions.{insert_name, insert_asked, insert_fixed, insert_exists, insert_no_tag, insert_no_fit, insert_done, short_name}
-use Rattle.dir_sf_edit.proofs.insertion_code.Goals as goal
+use Rattle.dir_sf_edit.proofs.check_insertion.Goals as goal
 
 pub returns-then-not-legal : goal.returns-then-not-legal
 returns-then-not-legal c = search (rules, insert_name)
@@ -11,20 +13,22 @@ returns-then-not-target_legal c = search (rules, insert_asked)
 pub returns-then-fixed : goal.returns-then-fixed
 returns-then-fixed c = search (rules, insert_fixed)
 
-pub returns-then-h : goal.returns-then-h
-returns-then-h c = search (rules, insert_exists)
+pub returns-then-is_some : goal.returns-then-is_some
+returns-then-is_some c = let h = c.is_some.ensures ∙ hit_some _ _ _ _ c.seek_name.ensures in search (rules, insert_exists)
 
 pub tag_of-requires : goal.tag_of-requires
 tag_of-requires c = (search rules, search rules, search (rules, short_name))
+
+pub returns-in_default : goal.returns-in_default
+returns-in_default c = let h = c.is_some.ensures ∙ hit_some _ _ _ _ c.seek_name.ensures in search (rules, insert_no_tag)
 
 pub grown-requires : goal.grown-requires
 grown-requires c = (search rules, search rules, search rules, search (rules, short_name), search rules)
 
 pub returns-then-fork-grown : goal.returns-then-fork-grown
-returns-then-fork-grown c = let f = c.in-At.is in search (rules, insert_no_fit)
+returns-then-fork-grown c =
+    let h = c.is_some.ensures ∙ hit_some _ _ _ _ c.seek_name.ensures in let f = c.in-Some.is in search (rules, insert_no_fit)
 
-pub returns-else-fork-grown : goal.returns-else-fork-grown
-returns-else-fork-grown c = let f = c.in-At.is in search (rules, insert_done)
-
-pub returns-in-Nowhere : goal.returns-in-Nowhere
-returns-in-Nowhere c = let f = c.in-Nowhere.is in search (rules, insert_no_tag)
+pub returns : goal.returns
+returns c =
+    let h = c.is_some.ensures ∙ hit_some _ _ _ _ c.seek_name.ensures in let f = c.in-Some.is in search (rules, insert_done)
