@@ -2,7 +2,8 @@
 // after the removal that 004 shows, and a block for each refusal.
 #![tactic(auto)]
 
-use dir::{Looked, Seen, Step, Walked};
+use dir::{Looked, Seen, Step};
+use refusal::Refusal;
 
 // The process's own streams, by the numbers that the system gives them.
 const STDIN_FILENO: i32 = 0;
@@ -18,10 +19,19 @@ fn number(n: u64) {
     io::print_decimal(STDOUT_FILENO, n);
 }
 
-// The verdict on a block.
+// A refusal's number.
+fn refused(r: Refusal) {
+    text(b" refused");
+    number(r.number() as u64);
+}
+
+// The verdict on a block: 0, or the refusal's number.
 fn test(label: &[u8], b: &[u8]) {
     text(label);
-    number(dir_block_test::test(b) as u64);
+    match dir_block_test::test(b) {
+        Ok(()) => number(0),
+        Err(r) => number(r.number() as u64),
+    }
     text(b"\n");
 }
 
@@ -30,23 +40,22 @@ fn look(b: &[u8], name: &[u8]) {
     text(b"lookup ");
     text(name);
     match dir_block_lookup::lookup(b, name) {
-        Looked::Found {
-            target,
-            tag,
-            compared,
-        } => {
+        Ok(
+            Looked::Found {
+                target,
+                tag,
+                compared,
+            },
+        ) => {
             number(target.inode);
             number(tag as u64);
             number(compared as u64);
         }
-        Looked::Absent { compared } => {
+        Ok(Looked::Absent { compared }) => {
             text(b" absent");
             number(compared as u64);
         }
-        Looked::Refused(n) => {
-            text(b" refused");
-            number(n as u64);
-        }
+        Err(r) => refused(r),
     }
     text(b"\n");
 }
@@ -69,16 +78,15 @@ fn seen(s: Step) {
 }
 
 // What a step answers, and where it leads.
-fn answer(w: Walked) -> usize {
+fn answer(w: Result<Step, Refusal>) -> usize {
     match w {
-        Walked::Stepped(s) => {
+        Ok(s) => {
             seen(s);
             text(b"\n");
             s.next
         }
-        Walked::Refused(n) => {
-            text(b" refused");
-            number(n as u64);
+        Err(r) => {
+            refused(r);
             text(b"\n");
             0
         }
@@ -118,10 +126,8 @@ fn walker(b: &[u8]) {
 // The walk from the start: as many steps as there are records, plus one.
 fn walk(b: &[u8], steps: usize) {
     let mut p = 16;
-    let mut i = 0;
-    while i < steps {
+    for _ in 0..steps {
         p = step(b, p);
-        i += 1;
     }
 }
 

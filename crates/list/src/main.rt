@@ -4,11 +4,13 @@
 ghost use Rattle.std.specs.Prelude.{◌≡◌, ◌++◌, ◌+◌, ◌≤◌, ◌<◌, length};
 ghost use Rattle.io.specs.Counts.{IsPrefixLen};
 ghost use Rattle.edition.specs.Edition.{Sane, largest_block};
+ghost use Rattle.refusal.specs.Refusal.{code};
 ghost use Rattle.dir_block_rules.specs.Verdict.{verdict};
 ghost use Rattle.dir_block_laws.specs.Tiled.{Ready};
 
 use dir::{Entry, Seen};
 use edition::{Edition, V4};
+use refusal::Refusal;
 
 // The process's own streams, by the numbers that the system gives them.
 const STDIN_FILENO: i32 = 0;
@@ -149,33 +151,31 @@ fn listing(e: Edition, b: &[u8])
     io::write_all(STDOUT_FILENO, &out[..n]);
 }
 
-fn refused(code: usize) {
+fn refused(refusal: Refusal) {
     let mut out = [0u8; BUFFER];
-    let n = number(&mut out, 0, b"refused ", code as u64);
+    let n = number(&mut out, 0, b"refused ", refusal.number() as u64);
     let n = text(&mut out, n, b"\n");
     io::write_all(STDOUT_FILENO, &out[..n]);
 }
 
-// The number for what was read: b, and the bytes after it. Only a full buffer can have bytes after it, and then the whole is too long.
-fn code<'a, 'b>(e: Edition, b: &'a [u8], more: &'b [u8]) -> usize
+// Whether what was read is refused: b, and the bytes after it. Only a full buffer can have bytes after it, and then the whole is too long.
+fn check<'a, 'b>(e: Edition, b: &'a [u8], more: &'b [u8]) -> Result<(), Refusal>
     requires { Sane e × (length b.now < largest_block → length more.now ≡ 0) }
-    ensures { result ≡ verdict e (b.now ++ more.now) }
+    ensures { code result ≡ verdict e (b.now ++ more.now) }
 {
     if more.len() == 0 {
-        return dir_block_test::code(e, b);
+        return dir_block_test::check(e, b);
     }
-    refusal::SIZE
+    Err(Refusal::Size)
 }
 
 fn answer<'a, 'b>(e: Edition, b: &'a [u8], more: &'b [u8])
     requires { Sane e × (length b.now < largest_block → length more.now ≡ 0) }
 {
-    let n = code(e, b, more);
-    if n == 0 {
-        listing(e, b);
-        return;
+    match check(e, b, more) {
+        Ok(()) => listing(e, b),
+        Err(refusal) => refused(refusal),
     }
-    refused(n);
 }
 
 // How many bytes come behind the first n, as many as `more` has room for at most. None is asked for unless the n filled their buffer.
