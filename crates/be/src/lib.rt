@@ -5,18 +5,12 @@ ghost use Rattle.std.specs.Prelude.{◌≡◌, ◌+◌, ◌≤◌, ◌<◌, eqb,
 ghost use Rattle.be.specs.Bytes.{byte, part, field, put, to_be};
 ghost use Rattle.be.specs.Words.{le, to_le};
 
-fn wide(x: u8) -> usize
-    ensures { (result ≡ x) × (result < 256) }
-{
-    x as usize
-}
-
 // The byte at a place.
 pub fn be8(b: &[u8], o: usize) -> usize
     requires { o < length b.now }
     ensures { (result ≡ byte o b.now) × (result < 256) }
 {
-    wide(b[o])
+    usize::from(b[o])
 }
 
 // The number in 2 bytes from a place on.

@@ -273,18 +273,6 @@ const LATER: [u32; 1792] = [
 
 // ---- the sum
 
-fn wide(x: u8) -> u64
-    ensures { (result ≡ x) × (result < 256) }
-{
-    x as u64
-}
-
-fn wide32(c: u32) -> u64
-    ensures { result ≡ c }
-{
-    c as u64
-}
-
 // Eight steps of the lowest byte of x.
 fn first(t: &[u32; 256], x: u64) -> u32
     requires { Table t.now }
@@ -308,7 +296,7 @@ fn turn(t: &[u32; 256], u: &[u32; 1792], c: u32, w: u64) -> u32
     requires { Table t.now × Later u.now }
     ensures { result ≡ poly_steps 64 (bit_xor c w) }
 {
-    let x = wide32(c) ^ w;
+    let x = u64::from(c) ^ w;
     later(u, 6, x)
         ^ (later(u, 5, x / 256)
             ^ (later(u, 4, x / 256 / 256)
@@ -324,7 +312,7 @@ fn next(t: &[u32; 256], c: u32, b: u8) -> u32
     requires { Table t.now }
     ensures { result ≡ eight (bit_xor c b) }
 {
-    first(t, wide32(c) ^ wide(b)) ^ (c / 256)
+    first(t, u64::from(c) ^ u64::from(b)) ^ (c / 256)
 }
 
 // With some bytes more, byte by byte.
@@ -333,10 +321,8 @@ fn bytes(t: &[u32; 256], c0: u32, s: &[u8]) -> u32
     ensures { result ≡ crc_from c0 s.now }
 {
     let mut c = c0;
-    let mut i = 0;
-    while i < s.len() {
-        c = next(t, c, s[i]);
-        i += 1;
+    for &x in s {
+        c = next(t, c, x);
     }
     c
 }
@@ -390,7 +376,7 @@ pub fn sealed_ok(b: &[u8], at: usize) -> bool
     requires { at + 4 ≤ length b.now }
     ensures { result ≡ seal_ok at b.now }
 {
-    be::le32(b, at) == wide32(sum_without(b, at))
+    be::le32(b, at) == u64::from(sum_without(b, at))
 }
 
 // Stores the checksum in the field at a place.
@@ -398,6 +384,6 @@ pub fn seal(b: &mut [u8], at: usize)
     requires { at + 4 ≤ length b.old }
     ensures { b.new ≡ sealed at b.old }
 {
-    let v = wide32(sum_without(&b[..], at));
+    let v = u64::from(sum_without(&b[..], at));
     be::put_le32(b, at, v);
 }

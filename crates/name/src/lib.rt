@@ -60,13 +60,6 @@ pub fn number_legal(i: u64) -> bool
     (1 <= i) & (i < 72057594037927936)
 }
 
-// 32 bits as a number.
-pub fn wide(h: u32) -> usize
-    ensures { (result ≡ h) × (result < 4294967296) }
-{
-    h as usize
-}
-
 // 32 bits, rotated left by k.
 pub fn rotated(h: u32, k: u32) -> u32
     requires { (0 < k) × (k < 32) }
@@ -130,7 +123,7 @@ fn hash32(e: Edition, s: &[u8]) -> u32
 pub fn hash(e: Edition, s: &[u8]) -> usize
     ensures { (result ≡ hash_of e s.now) × (result < 4294967296) }
 {
-    wide(hash32(e, s))
+    hash32(e, s) as usize
 }
 
 // Whether the 32 bytes at i of both are equal, by words.

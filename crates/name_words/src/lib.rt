@@ -196,7 +196,7 @@ pub struct Checked {
 fn judged(g: Read) -> Checked
     ensures { (result.legal ≡ marked g.marks) × ((result.hash ≡ g.hash) × (result.hash < 4294967296)) }
 {
-    let hash = name::wide(g.hash);
+    let hash = g.hash as usize;
     let legal = (g.marks & HIGH_BITS) == HIGH_BITS;
     Checked { legal, hash }
 }
@@ -318,7 +318,7 @@ pub fn hash(e: Edition, s: &[u8]) -> usize
         return name::hash(e, s);
     }
     let g = runs(s);
-    name::wide(hash_rest(s, g.at, g.hash))
+    hash_rest(s, g.at, g.hash) as usize
 }
 
 // ---- a second hash of a name

@@ -15,7 +15,7 @@ use refusal::Refusal;
 pub extern "C" fn pzw_attr_test(inode: &[u8]) -> u32
     ensures { result ≡ verdict v4 inode.now }
 {
-    crate::code(attr_sf::test(inode))
+    Refusal::code(attr_sf::test(inode))
 }
 
 // Where a value lies, for C.
@@ -57,7 +57,7 @@ pub extern "C" fn pzw_attr_set<'a, 'b, 'c>(
     ensures { (result ≡ set_code v4 inode.old name.now flags value.now)
         × (inode.new ≡ set_bytes v4 inode.old name.now flags value.now) }
 {
-    crate::code(attr_sf::set(inode, name, flags as usize, value))
+    Refusal::code(attr_sf::set(inode, name, flags as usize, value))
 }
 
 // Takes an attribute out.
@@ -66,7 +66,7 @@ pub extern "C" fn pzw_attr_remove<'a, 'b>(inode: &'a mut [u8], name: &'b [u8], f
     ensures { (result ≡ remove_code v4 inode.old name.now flags)
         × (inode.new ≡ remove_bytes v4 inode.old name.now flags) }
 {
-    crate::code(attr_sf::remove(inode, name, flags as usize))
+    Refusal::code(attr_sf::remove(inode, name, flags as usize))
 }
 
 // A step that meets no attribute.

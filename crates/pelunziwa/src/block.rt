@@ -9,13 +9,14 @@ ghost use Rattle.dir_block_rules.specs.Walk.{walk_step};
 ghost use Rattle.pelunziwa.specs.Answers.{as_found, as_step};
 
 use crate::{Found, Step};
+use refusal::Refusal;
 
 // Tests a block.
 #[unsafe(no_mangle)]
 pub extern "C" fn pzw_block_test(block: &[u8]) -> u32
     ensures { result ≡ verdict v4 block.now }
 {
-    crate::code(dir_block_test::test(block))
+    Refusal::code(dir_block_test::test(block))
 }
 
 // The inode number and the tag stored with a name, and the names compared.
@@ -32,7 +33,7 @@ pub extern "C" fn pzw_block_insert(block: &mut [u8], name: &[u8], number: u64) -
     ensures { (result ≡ insert_code v4 block.old name.now (target number 0))
         × (block.new ≡ insert_bytes v4 block.old name.now (target number 0)) }
 {
-    crate::code(dir_block_edit::insert(block, name, number))
+    Refusal::code(dir_block_edit::insert(block, name, number))
 }
 
 // Takes an entry out.
@@ -41,7 +42,7 @@ pub extern "C" fn pzw_block_remove(block: &mut [u8], name: &[u8]) -> u32
     ensures { (result ≡ remove_code v4 block.old name.now)
         × (block.new ≡ remove_bytes v4 block.old name.now) }
 {
-    crate::code(dir_block_edit::remove(block, name))
+    Refusal::code(dir_block_edit::remove(block, name))
 }
 
 // One step of the walk.

@@ -4,7 +4,7 @@
 #![tactic(auto)]
 
 ghost use Rattle.std.specs.Prelude.{◌≡◌, ◌<◌};
-ghost use Rattle.refusal.specs.Refusal.{code, numbered};
+ghost use Rattle.refusal.specs.Refusal.{numbered};
 ghost use Rattle.pelunziwa.specs.Answers.{found_target, not_found, as_found, live, no_entry, as_seen, as_step};
 ghost use Rattle.dir.specs.Answers.{looked_target};
 
@@ -78,16 +78,6 @@ pub struct AttrStep {
     pub value_len: u64,
 }
 
-// The number of a refusal, or 0 for done.
-fn code(answer: Result<(), Refusal>) -> u32
-    ensures { result ≡ code answer }
-{
-    match answer {
-        Ok(()) => 0,
-        Err(refusal) => refusal.number(),
-    }
-}
-
 // A lookup that finds: a file type is one byte, so that no bits are lost.
 fn found_target(target: Target, tag: usize, compared: usize) -> Found
     requires { target.kind < 256 }
@@ -115,18 +105,28 @@ fn not_found(refusal: u32, compared: usize) -> Found
     }
 }
 
+// What a lookup finds.
+fn looked(found: Looked) -> Found
+    requires { (looked_target (Ok found)).kind < 256 }
+    ensures { result ≡ as_found (Ok found) }
+{
+    match found {
+        Looked::Found {
+            target,
+            tag,
+            compared,
+        } => found_target(target, tag, compared),
+        Looked::Absent { compared } => not_found(Refusal::Absent.number(), compared),
+    }
+}
+
 // A lookup's answer, of either directory form.
 fn lookup_answer(answer: Result<Looked, Refusal>) -> Found
     requires { (looked_target (numbered answer)).kind < 256 }
     ensures { result ≡ as_found (numbered answer) }
 {
     match answer {
-        Ok(Looked::Found {
-            target,
-            tag,
-            compared,
-        }) => found_target(target, tag, compared),
-        Ok(Looked::Absent { compared }) => not_found(Refusal::Absent.number(), compared),
+        Ok(found) => looked(found),
         Err(refusal) => not_found(refusal.number(), 0),
     }
 }

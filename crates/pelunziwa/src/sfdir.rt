@@ -7,13 +7,14 @@ ghost use Rattle.dir_sf.specs.Walk.{walk_step};
 ghost use Rattle.pelunziwa.specs.Answers.{as_found, as_step};
 
 use crate::{Found, Step};
+use refusal::Refusal;
 
 // Tests a directory.
 #[unsafe(no_mangle)]
 pub extern "C" fn pzw_sfdir_test(inode: &[u8], told: u64) -> u32
     ensures { result ≡ verdict v4 told inode.now }
 {
-    crate::code(dir_sf::test(inode, told as usize))
+    Refusal::code(dir_sf::test(inode, told as usize))
 }
 
 // The inode number and the tag stored with a name; ".." gives the parent, and tag 0.
@@ -35,7 +36,7 @@ pub extern "C" fn pzw_sfdir_insert<'a, 'b>(
     ensures { (result ≡ insert_code v4 told inode.old name.now (target number 0))
         × (inode.new ≡ insert_bytes v4 told inode.old name.now (target number 0)) }
 {
-    crate::code(dir_sf_edit::insert(inode, told as usize, name, number))
+    Refusal::code(dir_sf_edit::insert(inode, told as usize, name, number))
 }
 
 // Takes an entry out.
@@ -44,7 +45,7 @@ pub extern "C" fn pzw_sfdir_remove<'a, 'b>(inode: &'a mut [u8], told: u64, name:
     ensures { (result ≡ remove_code v4 told inode.old name.now)
         × (inode.new ≡ remove_bytes v4 told inode.old name.now) }
 {
-    crate::code(dir_sf_edit::remove(inode, told as usize, name))
+    Refusal::code(dir_sf_edit::remove(inode, told as usize, name))
 }
 
 // One step of the walk, from a place counted from the fork's start.

@@ -39,12 +39,22 @@ pub enum Refusal {
 }
 
 impl Refusal {
-    ghost use Rattle.refusal.specs.Refusal.{number, HIGHEST};
+    ghost use Rattle.refusal.specs.Refusal.{number, code, HIGHEST};
 
     // The paper's number.
     pub fn number(self) -> u32
         ensures { (result ≡ number self) × (result ≤ HIGHEST) }
     {
         self as u32
+    }
+
+    // The number that a call answers: 0 when nothing is refused.
+    pub fn code<T: Copy>(answer: Result<T, Refusal>) -> u32
+        ensures { result ≡ code answer }
+    {
+        match answer {
+            Ok(_) => 0,
+            Err(refusal) => refusal.number(),
+        }
     }
 }

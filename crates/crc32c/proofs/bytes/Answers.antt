@@ -7,16 +7,16 @@ use Rattle.crc32c.specs.Crc.{crc_from}
 use Rattle.crc32c.proofs.Steps.{from_drop, from_end}
 use Rattle.crc32c.proofs.bytes.Goals as goal
 
-pub loop-i-init : goal.loop-i-init
-loop-i-init c = (omega arith, refl)
+pub loop-x-init : goal.loop-x-init
+loop-x-init c = (omega arith, refl)
 
 pub next-c-requires : goal.next-c-requires
 next-c-requires c = c.requires
 
-pub loop-i-preserved : goal.loop-i-preserved
-loop-i-preserved c =
-    let l = c.loop-i in
-    (omega arith, l.invariant.1 ∙ from_drop l.c l.i c.args.s.now (search rules) ∙ ap (λ (x : ℕ). crc_from x (drop (l.i + 1) c.args.s.now)) (sym c.next-c.ensures))
+pub loop-x-preserved : goal.loop-x-preserved
+loop-x-preserved c =
+    let l = c.loop-x in
+    (omega arith, l.invariant.1 ∙ from_drop l.c l.x-index c.args.s.now (search rules) ∙ ap (λ (x : ℕ). crc_from x (drop (l.x-index + 1) c.args.s.now)) (sym c.next-c.ensures))
 
 pub returns : goal.returns
-returns c = sym (c.loop-i.invariant.1 ∙ from_end c.loop-i.c c.loop-i.i _ (search rules))
+returns c = sym (c.loop-x.invariant.1 ∙ from_end c.loop-x.c c.loop-x.x-index _ (search rules))

@@ -4,4 +4,4 @@ use Rattle.crc32c.proofs.next.Goals as goal
 pub returns : goal.returns
 returns c =
     let a = c.args in
-    next_law a.c a.b _ _ c.ranges.b.fits c.wide32.ensures c.wide.ensures.0 c.first.ensures
+    next_law a.c a.b _ _ c.ranges.b.fits c.from.ensures c.from-2.ensures c.first.ensures

@@ -10,7 +10,7 @@ pub returns : goal.returns
 returns c =
     let a = c.args in
     let f = c.ranges in
-    let w = c.wide32 in
+    let w = c.from in
     turn_law (bit_xor w.result a.w) _ _ _ _ _ _ _ _ (xor_lt 64 w.result a.w (omega arith) f.w.fits)
     c.later.ensures c.later-2.ensures
     c.later-3.ensures c.later-4.ensures

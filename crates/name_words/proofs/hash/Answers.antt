@@ -9,4 +9,4 @@ hash_rest-requires c = (c.runs-g.ensures.0, omega arith)
 pub returns : goal.returns
 returns c =
     let a = c.args in
-    (hash_whole a.e a.s.now _ (c.wide.ensures.0 ∙ c.hash_rest.ensures ∙ sym c.runs-g.ensures.1), c.wide.ensures.1)
+    (hash_whole a.e a.s.now _ (c.hash_rest.ensures ∙ sym c.runs-g.ensures.1), c.hash_rest.type_inv)
