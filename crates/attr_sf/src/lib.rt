@@ -8,7 +8,7 @@ ghost use Rattle.records.specs.Records.{tiled, stands};
 ghost use Rattle.edition.specs.Edition.{v4, Sane};
 ghost use Rattle.refusal.specs.Refusal.{code, numbered};
 ghost use Rattle.attr_sf.specs.Entry.{entry, entry_bytes, legal_flags, legal_key, is_key, distinct};
-ghost use Rattle.attr_sf.specs.Fork.{header, totsize, count, size_at, entry_at, entries, name_legal_of, flags_legal_of};
+ghost use Rattle.attr_sf.specs.Fork.{header, totsize, count, size_at, entry_at, entries};
 ghost use Rattle.attr_sf.specs.Fork.{fork_verdict, seek, key_place};
 ghost use Rattle.attr_sf.specs.Calls.{verdict, asked_code, found_in, lookup, LookupPromise, start_of, length_of, part_of};
 ghost use Rattle.attr_sf.specs.Calls.{remove_code, set_code, remove_bytes, set_bytes};
@@ -97,35 +97,63 @@ fn tiles(f: &[u8], n: usize, end: usize) -> bool
     at == end
 }
 
-// Whether the entry at a place has a legal name.
-fn name_ok(f: &[u8], at: usize) -> bool
-    requires { at + size_at f.now at ≤ length f.now }
-    ensures { result ≡ name_legal_of (entry_at f.now at) }
-{
-    let from = at + 3;
-    let to = from + be::be8(f, at);
-    name::attr_legal(&f[from..to])
+// The entry at a place of a fork.
+#[derive(Clone, Copy)]
+struct Entry<'a> {
+    fork: &'a [u8],
+    at: usize,
+    ghost inside: { at + size_at fork.now at ≤ length fork.now },
 }
 
-// Whether its flags are legal.
-fn flags_ok(f: &[u8], at: usize) -> bool
-    requires { at + 3 ≤ length f.now }
-    ensures { result ≡ flags_legal_of (entry_at f.now at) }
-{
-    flags_legal(be::be8(f, at + 2))
-}
-
-// Whether it has this name and these flags.
-fn key_at<'a, 'b>(f: &'a [u8], at: usize, name: &'b [u8], flags: usize) -> bool
-    requires { at + size_at f.now at ≤ length f.now }
-    ensures { result ≡ is_key name.now flags (entry_at f.now at) }
-{
-    if flags != be::be8(f, at + 2) {
-        return false;
+impl<'a> Entry<'a> {
+    fn name(self) -> &'a [u8]
+        ensures { result.now ≡ (entry_at self.entry.fork.now self.entry.at).name }
+    {
+        let from = self.at + 3;
+        let to = from + be::be8(self.fork, self.at);
+        &self.fork[from..to]
     }
-    let from = at + 3;
-    let to = from + be::be8(f, at);
-    name::equal(name, &f[from..to])
+
+    fn flags(self) -> usize
+        ensures { result ≡ (entry_at self.entry.fork.now self.entry.at).flags }
+    {
+        be::be8(self.fork, self.at + 2)
+    }
+
+    // Where the next one starts.
+    fn next(self) -> usize
+        ensures { result ≡ self.entry.at + size_at self.entry.fork.now self.entry.at }
+    {
+        self.at + size(self.fork, self.at)
+    }
+
+    // Whether it has this name and these flags.
+    fn has<'b>(self, name: &'b [u8], flags: usize) -> bool
+        ensures { result ≡ is_key name.now flags (entry_at self.entry.fork.now self.entry.at) }
+    {
+        if flags != self.flags() {
+            return false;
+        }
+        name::equal(name, self.name())
+    }
+
+    // A step that meets it, where the fork starts at s in the inode.
+    fn step(self, s: usize) -> Step
+        requires { s + length self.fork.now < 4096 }
+        ensures { result ≡ live_step s self.entry.fork.now self.entry.at }
+    {
+        let name_len = be::be8(self.fork, self.at);
+        let attr = Attr {
+            flags: self.flags(),
+            name_start: s + (self.at + 3),
+            name_len,
+            value_start: s + (self.at + 3 + name_len),
+            value_len: be::be8(self.fork, self.at + 1),
+        };
+        let seen = Some(attr);
+        let next = self.next();
+        Step { next, seen }
+    }
 }
 
 // Entries of a fork, one after the other, from a place on.
@@ -161,11 +189,15 @@ impl<'a> Entries<'a> {
         let mut at = self.from;
         let mut flagged = true;
         for _ in 0..self.count {
-            if !name_ok(self.fork, at) {
+            let entry = Entry {
+                fork: self.fork,
+                at,
+            };
+            if !name::attr_legal(entry.name()) {
                 return Err(Refusal::Name);
             }
-            flagged = flagged & flags_ok(self.fork, at);
-            at += size(self.fork, at);
+            flagged &= flags_legal(entry.flags());
+            at = entry.next();
         }
         if flagged {
             return Ok(());
@@ -179,24 +211,25 @@ impl<'a> Entries<'a> {
     {
         let mut at = self.from;
         for _ in 0..self.count {
-            if key_at(self.fork, at, name, flags) {
+            let entry = Entry {
+                fork: self.fork,
+                at,
+            };
+            if entry.has(name, flags) {
                 return Some(at);
             }
-            at += size(self.fork, at);
+            at = entry.next();
         }
         None
     }
 
-    // Whether one of them has the name and the flags of the entry at a place.
-    fn again(self, at: usize) -> bool
-        requires { at + size_at self.fork.now at ≤ length self.fork.now }
-        ensures { result ≡ some_of (is_key (entry_at self.entry.fork.now at).name (entry_at self.entry.fork.now at).flags)
+    // Whether one of them has the name and the flags of another.
+    fn again<'b>(self, other: Entry<'b>) -> bool
+        ensures { result ≡ some_of
+            (is_key (entry_at other.entry.fork.now other.entry.at).name (entry_at other.entry.fork.now other.entry.at).flags)
             (entries self.entry.fork.now self.entry.count self.entry.from) }
     {
-        let start = at + 3;
-        let stop = start + be::be8(self.fork, at);
-        let flags = be::be8(self.fork, at + 2);
-        self.find(&self.fork[start..stop], flags).is_some()
+        self.find(other.name(), other.flags()).is_some()
     }
 
     // Whether no two of them have the same name and flags.
@@ -205,14 +238,18 @@ impl<'a> Entries<'a> {
     {
         let mut at = self.from;
         for i in 0..self.count {
-            let next = at + size(self.fork, at);
+            let entry = Entry {
+                fork: self.fork,
+                at,
+            };
+            let next = entry.next();
             let rest = Entries {
                 fork: self.fork,
                 from: next,
                 count: self.count - i - 1,
                 end: self.end,
             };
-            if rest.again(at) {
+            if rest.again(entry) {
                 return false;
             }
             at = next;
@@ -229,7 +266,11 @@ impl<'a> Entries<'a> {
             if place == at {
                 return true;
             }
-            at += size(self.fork, at);
+            let entry = Entry {
+                fork: self.fork,
+                at,
+            };
+            at = entry.next();
         }
         place == at
     }
@@ -354,28 +395,6 @@ pub fn value<'a, 'b>(b: &'a [u8], name: &'b [u8], flags: usize) -> &'a [u8]
     }
 }
 
-// A step at an entry of the fork that starts at s.
-fn step_from(f: &[u8], s: usize, place: usize) -> Step
-    requires { (place + size_at f.now place ≤ length f.now) × (s + length f.now < 4096) }
-    ensures { result ≡ live_step s f.now place }
-{
-    let name_len = be::be8(f, place);
-    let value_len = be::be8(f, place + 1);
-    let flags = be::be8(f, place + 2);
-    let name_start = s + (place + 3);
-    let value_start = s + (place + 3 + name_len);
-    let attr = Attr {
-        flags,
-        name_start,
-        name_len,
-        value_start,
-        value_len,
-    };
-    let seen = Some(attr);
-    let next = place + size(f, place);
-    Step { next, seen }
-}
-
 // A step in a fork that passes its tests.
 fn walk_in(f: &[u8], s: usize, place: usize) -> Result<Step, Refusal>
     requires { (fork_verdict f.now ≡ 0) × (s + length f.now < 4096) }
@@ -391,7 +410,8 @@ fn walk_in(f: &[u8], s: usize, place: usize) -> Result<Step, Refusal>
             seen: None,
         });
     }
-    Ok(step_from(f, s, place))
+    let entry = Entry { fork: f, at: place };
+    Ok(entry.step(s))
 }
 
 fn walk_on(e: Edition, b: &[u8], place: usize) -> Result<Step, Refusal>

@@ -12,12 +12,12 @@ returns-then-place-entries c =
     let p = c.stored-entries.ensures.places in
     walk_end _ _ p.1.1 (sym (stood _ _ c.stored-entries.ensures.bytes p.0 p.1.0 c.stand.ensures) ∙ c.if-not-stand.false) _ c.if-place-entries.true
 
-pub step_from-requires : goal.step_from-requires
-step_from-requires c =
+pub invariant_of-entry : goal.invariant_of-entry
+invariant_of-entry c =
     let p = c.stored-entries.ensures.places in
-    (walk_fits _ _ p.1.1 (sym (stood _ _ c.stored-entries.ensures.bytes p.0 p.1.0 c.stand.ensures) ∙ c.if-not-stand.false) c.requires.0 c.if-place-entries.false, c.requires.1)
+    record { inside = walk_fits _ _ p.1.1 (sym (stood _ _ c.stored-entries.ensures.bytes p.0 p.1.0 c.stand.ensures) ∙ c.if-not-stand.false) c.requires.0 c.if-place-entries.false }
 
 pub returns : goal.returns
 returns c =
     let p = c.stored-entries.ensures.places in
-    walk_live _ _ p.1.1 (sym (stood _ _ c.stored-entries.ensures.bytes p.0 p.1.0 c.stand.ensures) ∙ c.if-not-stand.false) _ c.if-place-entries.false c.step_from.ensures
+    walk_live _ _ p.1.1 (sym (stood _ _ c.stored-entries.ensures.bytes p.0 p.1.0 c.stand.ensures) ∙ c.if-not-stand.false) _ c.if-place-entries.false c.step.ensures
