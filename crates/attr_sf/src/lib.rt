@@ -168,20 +168,6 @@ struct Entries<'a> {
 }
 
 impl<'a> Entries<'a> {
-    // All entries of a fork that passes its tests.
-    fn stored(fork: &'a [u8]) -> Entries<'a>
-        requires { fork_verdict fork.now ≡ 0 }
-        ensures bytes { result.fork.now ≡ fork.now }
-        ensures places { (result.from ≡ header) × ((result.count ≡ count fork.now) × (result.end ≡ totsize fork.now)) }
-    {
-        Entries {
-            fork,
-            from: HEADER,
-            count: be::be8(fork, 2),
-            end: be::be16(fork, 0),
-        }
-    }
-
     // Tests 6 and 7.
     fn check(self) -> Result<(), Refusal>
         ensures { code result ≡ own_verdict (entries self.entry.fork.now self.entry.count self.entry.from) }
@@ -307,6 +293,104 @@ fn check_fork(f: &[u8]) -> Result<(), Refusal>
     Ok(())
 }
 
+// What a set or a removal reads first: where the entry asked for starts (the entries' end when there is none), its size (0),
+// how many entries are kept, and the entries' end.
+#[derive(Clone, Copy)]
+struct Plan {
+    at: usize,
+    size: usize,
+    kept: usize,
+    end: usize,
+}
+
+// A fork that passes its tests.
+#[derive(Clone, Copy)]
+struct Accepted<'a> {
+    fork: &'a [u8],
+    ghost passes: { fork_verdict fork.now ≡ 0 },
+}
+
+impl<'a> Accepted<'a> {
+    fn entries(self) -> Entries<'a>
+        ensures bytes { result.fork.now ≡ self.entry.fork.now }
+        ensures places { (result.from ≡ header)
+            × ((result.count ≡ count self.entry.fork.now) × (result.end ≡ totsize self.entry.fork.now)) }
+    {
+        Entries {
+            fork: self.fork,
+            from: HEADER,
+            count: be::be8(self.fork, 2),
+            end: be::be16(self.fork, 0),
+        }
+    }
+
+    // Where the entry with this name and flags starts.
+    fn find<'b>(self, name: &'b [u8], flags: usize) -> Option<usize>
+        ensures { result ≡ place_before (totsize self.entry.fork.now) (key_place self.entry.fork.now name.now flags) }
+    {
+        self.entries().find(name, flags)
+    }
+
+    // Where its value lies, where the fork starts at s in the inode.
+    fn lookup<'b>(self, s: usize, name: &'b [u8], flags: usize) -> Result<Place, Refusal>
+        requires { s + length self.fork.now < 4096 }
+        ensures { numbered result ≡ found_in s self.entry.fork.now name.now flags }
+    {
+        match self.find(name, flags) {
+            Some(at) => {
+                let start = s + (at + 3 + be::be8(self.fork, at));
+                let len = be::be8(self.fork, at + 1);
+                Ok(Place { start, len })
+            }
+            None => Err(Refusal::Absent),
+        }
+    }
+
+    // A step of the walk, where the fork starts at s in the inode.
+    fn step(self, s: usize, place: usize) -> Result<Step, Refusal>
+        requires { s + length self.fork.now < 4096 }
+        ensures { numbered result ≡ walked_in s self.entry.fork.now place }
+    {
+        let entries = self.entries();
+        if !entries.stand(place) {
+            return Err(Refusal::Asked);
+        }
+        if place == entries.end {
+            return Ok(Step {
+                next: place,
+                seen: None,
+            });
+        }
+        let entry = Entry {
+            fork: self.fork,
+            at: place,
+        };
+        Ok(entry.step(s))
+    }
+
+    fn plan<'b>(self, name: &'b [u8], flags: usize) -> Plan
+        ensures { (result ≡ plan_of self.entry.fork.now name.now flags)
+            × ((result.at + result.size ≤ result.end) × (result.end ≤ length self.entry.fork.now)) }
+    {
+        let end = be::be16(self.fork, 0);
+        let count = be::be8(self.fork, 2);
+        match self.find(name, flags) {
+            Some(at) => Plan {
+                at,
+                size: size(self.fork, at),
+                kept: count - 1,
+                end,
+            },
+            None => Plan {
+                at: end,
+                size: 0,
+                kept: count,
+                end,
+            },
+        }
+    }
+}
+
 // Tests 1 to 10: where the attribute fork lies.
 fn tested(e: Edition, b: &[u8]) -> Result<Fork, Refusal>
     requires { Sane e }
@@ -344,35 +428,15 @@ fn asked<'a, 'b>(e: Edition, b: &'a [u8], name: &'b [u8], flags: usize) -> Resul
     Ok(fork)
 }
 
-// Where the entry asked for starts in a fork.
-fn place_in<'a, 'b>(f: &'a [u8], name: &'b [u8], flags: usize) -> Option<usize>
-    requires { fork_verdict f.now ≡ 0 }
-    ensures { result ≡ place_before (totsize f.now) (key_place f.now name.now flags) }
-{
-    Entries::stored(f).find(name, flags)
-}
-
-// Where its value lies in the inode whose attribute fork starts at s.
-fn find_in<'a, 'b>(f: &'a [u8], s: usize, name: &'b [u8], flags: usize) -> Result<Place, Refusal>
-    requires { (fork_verdict f.now ≡ 0) × (s + length f.now < 4096) }
-    ensures { numbered result ≡ found_in s f.now name.now flags }
-{
-    match place_in(f, name, flags) {
-        Some(at) => {
-            let start = s + (at + 3 + be::be8(f, at));
-            let len = be::be8(f, at + 1);
-            Ok(Place { start, len })
-        }
-        None => Err(Refusal::Absent),
-    }
-}
-
 fn look<'a, 'b>(e: Edition, b: &'a [u8], name: &'b [u8], flags: usize) -> Result<Place, Refusal>
     requires { Sane e }
     ensures { numbered result ≡ lookup e b.now name.now flags }
 {
     let fork = asked(e, b, name, flags)?;
-    find_in(&b[fork.start..], fork.start, name, flags)
+    let accepted = Accepted {
+        fork: &b[fork.start..],
+    };
+    accepted.lookup(fork.start, name, flags)
 }
 
 // Looks an attribute up: where its value lies in the inode.
@@ -395,31 +459,15 @@ pub fn value<'a, 'b>(b: &'a [u8], name: &'b [u8], flags: usize) -> &'a [u8]
     }
 }
 
-// A step in a fork that passes its tests.
-fn walk_in(f: &[u8], s: usize, place: usize) -> Result<Step, Refusal>
-    requires { (fork_verdict f.now ≡ 0) × (s + length f.now < 4096) }
-    ensures { numbered result ≡ walked_in s f.now place }
-{
-    let entries = Entries::stored(f);
-    if !entries.stand(place) {
-        return Err(Refusal::Asked);
-    }
-    if place == entries.end {
-        return Ok(Step {
-            next: place,
-            seen: None,
-        });
-    }
-    let entry = Entry { fork: f, at: place };
-    Ok(entry.step(s))
-}
-
 fn walk_on(e: Edition, b: &[u8], place: usize) -> Result<Step, Refusal>
     requires { Sane e }
     ensures { numbered result ≡ walk_step e b.now place }
 {
     let fork = tested(e, b)?;
-    walk_in(&b[fork.start..], fork.start, place)
+    let accepted = Accepted {
+        fork: &b[fork.start..],
+    };
+    accepted.step(fork.start, place)
 }
 
 // One step of the walk over an inode's attributes, from a place that is counted from the fork's start.
@@ -427,39 +475,6 @@ pub fn step_at(b: &[u8], place: usize) -> Result<Step, Refusal>
     ensures { StepPromise v4 b.now place result }
 {
     walk_on(V4::edition(), b, place)
-}
-
-// What a set or a removal reads first: where the entry asked for starts (the entries' end when there is none), its size (0),
-// how many entries are kept, and the entries' end.
-#[derive(Clone, Copy)]
-struct Plan {
-    at: usize,
-    size: usize,
-    kept: usize,
-    end: usize,
-}
-
-fn plan_in<'a, 'b>(f: &'a [u8], name: &'b [u8], flags: usize) -> Plan
-    requires { fork_verdict f.now ≡ 0 }
-    ensures { (result ≡ plan_of f.now name.now flags)
-        × ((result.at + result.size ≤ result.end) × (result.end ≤ length f.now)) }
-{
-    let end = be::be16(f, 0);
-    let count = be::be8(f, 2);
-    match place_in(f, name, flags) {
-        Some(at) => Plan {
-            at,
-            size: size(f, at),
-            kept: count - 1,
-            end,
-        },
-        None => Plan {
-            at: end,
-            size: 0,
-            kept: count,
-            end,
-        },
-    }
 }
 
 // Takes s bytes at a place out of the entries, and zeroes what is unused then.
@@ -512,7 +527,7 @@ fn remove_in<'a, 'b>(f: &'a mut [u8], name: &'b [u8], flags: usize) -> Result<()
         size,
         kept,
         end,
-    } = plan_in(&f[..], name, flags);
+    } = Accepted { fork: &f[..] }.plan(name, flags);
     if end <= at {
         return Err(Refusal::Absent);
     }
@@ -536,7 +551,7 @@ fn set_in<'a, 'b, 'c>(
         size,
         kept,
         end,
-    } = plan_in(&f[..], name, flags);
+    } = Accepted { fork: &f[..] }.plan(name, flags);
     if 255 < value.len() {
         return Err(Refusal::NoRoom);
     }
