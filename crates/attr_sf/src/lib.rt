@@ -64,10 +64,10 @@ fn flags_byte(f: u8) -> bool
 fn flags_legal(f: usize) -> bool
     ensures { result ≡ legal_flags f }
 {
-    if 255 < f {
-        return false;
+    match u8::try_from(f) {
+        Ok(byte) => flags_byte(byte),
+        Err(_) => false,
     }
-    flags_byte(f as u8)
 }
 
 // The bytes of the entry at a place.
@@ -270,10 +270,7 @@ fn check_fork(f: &[u8]) -> Result<(), Refusal>
         return Err(Refusal::Span);
     }
     let end = be::be16(f, 0);
-    if end < HEADER {
-        return Err(Refusal::Span);
-    }
-    if f.len() < end {
+    if (end < HEADER) | (f.len() < end) {
         return Err(Refusal::Span);
     }
     let count = be::be8(f, 2);
