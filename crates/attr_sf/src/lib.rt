@@ -480,9 +480,7 @@ fn close(f: &mut [u8], end: usize, at: usize, s: usize)
     ensures { f.new ≡ closed f.old end at s }
 {
     be::move_down(f, at + s, at, end - (at + s));
-    let from = end - s;
-    let n = f.len() - from;
-    be::zero(f, from, n);
+    f[end - s..].fill(0);
 }
 
 // Writes totsize and count; the pad byte is left alone.

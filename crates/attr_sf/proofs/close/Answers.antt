@@ -1,6 +1,5 @@
-use mathlib.Core.Path.{refl}
 use Rattle.attr_sf.proofs.ForkWrites.{close_steps}
 use Rattle.attr_sf.proofs.close.Goals as goal
 
 pub returns : goal.returns
-returns c = close_steps _ _ _ _ _ _ _ c.move_down.ensures c.move_down.auto.b refl c.zero.ensures
+returns c = close_steps _ _ _ _ c.move_down.ensures c.move_down.auto.b c.requires (c.fill.ensures.after (λ y h. h))
