@@ -259,7 +259,7 @@ fn second_dump() {
 
 // Whether bytes are as they were.
 fn kept<'a, 'b>(b: &'a [u8], before: &'b [u8]) {
-    if name::equal(b, before) {
+    if b == before {
         line(b" kept");
     } else {
         line(b" changed");

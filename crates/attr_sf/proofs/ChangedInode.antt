@@ -1,13 +1,11 @@
 -- A change of the whole inode, from the change of the fork that was lent.
 -- Assumes nothing.
-use Prim.Native.Nat.{ℕ, ◌+◌, ◌-◌, ◌≤◌}
-use native.Mathlib.Omega.{arith}
+use Prim.Native.Nat.{ℕ, ◌-◌, ◌≤◌}
 use mathlib.Core.Bool.{false}
 use mathlib.Core.Path.{◌≡◌, refl, sym, ◌∙◌, ap}
-use mathlib.Core.List.{List, ◌++◌}
+use mathlib.Core.List.{List}
 use lib.Dec.{eqb}
-use lib.ListN.{length, take, drop, length-drop}
-use lib.Seq.{drop-drop, take_all}
+use lib.ListN.{length, take, drop}
 use borrow.Rule.Slice.PartMut.{put_mid}
 use borrow.Author.Tests.{ne_eqb}
 use Rattle.std.specs.Prelude.{Result, Ok, Err}
@@ -17,7 +15,7 @@ use Rattle.refusal.specs.Refusal.{number, code}
 use Rattle.refusal.proofs.Passed.{number_ne, code_is}
 use Rattle.be.specs.Bytes.{put}
 use Rattle.be.proofs.Bools.{by_cases}
-use Rattle.be.proofs.Writes.{put_whole, put_same}
+use Rattle.be.proofs.Writes.{put_same}
 use Rattle.be.specs.Codes.{◌and_then◌}
 use Rattle.edition.specs.declared.Edition.{Edition}
 use Rattle.dinode.specs.Core.{attr_start, attr_fork}
@@ -26,16 +24,8 @@ use Rattle.attr_sf.specs.Entry.{Entry, others}
 use Rattle.attr_sf.specs.Fork.{stored}
 use Rattle.attr_sf.specs.Calls.{asked_code, held_request, lookup_code, room_request, set_entries, set_code, changed, remove_bytes, set_bytes}
 use Rattle.attr_sf.specs.Inner.{fork_if, fork_changed, ForkRemoval, ForkSet}
+use Rattle.attr_sf.proofs.ForkWrites.{lent_put, lent_length}
 use Rattle.attr_sf.proofs.InodeTests.{lent_fork, first_refused, then_is, if_passed, if_refused}
-
--- the part from a place on was lent, and came back
-lent_put : (s : ℕ) (b new : List ℕ) → s ≤ length b → length new ≡ length b - s → put_mid s (length b - s) b new ≡ put b s new
-lent_put s b new h l =
-    let e : drop (length b - s) (drop s b) ≡ drop (s + length new) b = drop-drop (length b - s) s b ∙ ap (λ (n : ℕ). drop (s + n) b) (sym l) in
-    ap (λ (x : List ℕ). take s b ++ (new ++ x)) e ∙ sym (put_whole b s new (omega arith))
-
-lent_length : (s : ℕ) (b : List ℕ) → length (take (length b - s) (drop s b)) ≡ length b - s
-lent_length s b = ap length (take_all (length b - s) (drop s b) (simp length-drop (omega arith))) ∙ length-drop s b
 
 module _ (e : Edition) (b : List ℕ) where
   -- the fork written over itself

@@ -27,13 +27,13 @@ module _ {f : List ℕ} {n from i at : ℕ} {flagged : Bool} (v : Passed f n fro
         → 6 ≡ own_verdict (entries f n from)
     passed_stop q = rw (v.names.rest.whole ∙ every_fails (size_at f) (entry_at f) name_legal_of (n - i) at (omega arith) q)
 
-    pub passed_next : (s : ℕ) (g : Bool) → name_legal_of (entry_at f at) ≡ true → g ≡ flags_legal_of (entry_at f at) → s ≡ size_at f at
-        → Passed f n from (i + 1) (at + s) (flagged && g)
-    passed_next s g q p e =
+    pub passed_next : {p : ℕ} {g : Bool} → name_legal_of (entry_at f at) ≡ true → g ≡ flags_legal_of (entry_at f at) → p ≡ at + size_at f at
+        → Passed f n from (i + 1) p (flagged && g)
+    passed_next q g e =
         let k : n - (i + 1) ≡ n - i - 1 = omega arith in
         record {
           names = left_next v.names h e (every_on (size_at f) (entry_at f) name_legal_of (n - i) at (omega arith) q);
-          flags = rw (k, e, p) (v.flags ∙ every_and (size_at f) (entry_at f) flags_legal_of flagged (n - i) at (omega arith));
+          flags = rw (k, e, g) (v.flags ∙ every_and (size_at f) (entry_at f) flags_legal_of flagged (n - i) at (omega arith));
         }
 
   module _ (h : n ≤ i) where

@@ -2,12 +2,12 @@
 -- Assumes nothing.
 use Prim.Native.Nat.{ℕ, ◌≤◌, ◌<◌}
 use native.Mathlib.Omega.{arith}
-use mathlib.Core.Bool.{Bool, true, false, cond}
+use mathlib.Core.Bool.{Bool, true, false, cond, ◌||◌}
 use mathlib.Core.Path.{◌≡◌, refl, sym, ◌∙◌}
 use mathlib.Core.List.{List}
-use lib.Dec.{leb}
+use lib.Dec.{leb, ltb}
 use lib.ListN.{length}
-use borrow.Author.Tests.{le-leb, lt-leb, leb-true, eqb-true}
+use borrow.Author.Tests.{le-leb, lt-leb, leb-true, eqb-true, ltb-true, ltb-false}
 use Rattle.be.specs.Lists.{every}
 use Rattle.be.specs.Bytes.{byte, field}
 use Rattle.be.proofs.Bools.{by_cases, and_left, and_right}
@@ -22,15 +22,21 @@ module _ (f : List ℕ) where
   span_short h = rw (lt-leb header (length f) h)
 
   module _ {end : ℕ} (e : end ≡ field 0 2 f) (h : header ≤ length f) where
-    pub span_low : end < header → 4 ≡ fork_verdict f
+    span_low : end < header → 4 ≡ fork_verdict f
     unfolding fork_verdict span_ok totsize
     span_low k = rw (← e, le-leb header (length f) h, lt-leb header end k)
 
     module _ (k : header ≤ end) where
-      pub span_over : length f < end → 4 ≡ fork_verdict f
+      span_over : length f < end → 4 ≡ fork_verdict f
       unfolding fork_verdict span_ok totsize
       span_over l = rw (← e, le-leb header (length f) h, le-leb header end k, lt-leb end (length f) l)
 
+    pub span_out : (ltb end header || ltb (length f) end) ≡ true → 4 ≡ fork_verdict f
+    span_out t =
+        by_cases (ltb end header) (λ q. span_low (ltb-true end header q))
+        (λ q. span_over (ltb-false end header q) (ltb-true (length f) end (rw q at t)))
+
+    module _ (k : header ≤ end) where
       module _ {n : ℕ} (m : n ≡ byte 2 f) (l : end ≤ length f) where
         span_is : span_ok f ≡ true
         unfolding span_ok totsize

@@ -5,7 +5,8 @@ use native.Mathlib.Omega.{arith}
 use mathlib.Core.Path.{◌≡◌, refl, sym, ◌∙◌, ap}
 use mathlib.Core.List.{List, [], ◌∷◌, ◌++◌, append_assoc, append-nil}
 use lib.ListN.{length, take, drop, replicate, length-append, length-drop, length-replicate, replicate-append-replicate}
-use lib.Seq.{take_at}
+use lib.Seq.{take_at, drop-drop, take_all}
+use borrow.Rule.Slice.PartMut.{put_mid}
 use Rattle.be.specs.Bytes.{part, put, to_be}
 use Rattle.be.proofs.Numbers.{length_to_be, to_be_1}
 use Rattle.be.proofs.Parts.{part_at, part_length, part_add}
@@ -39,10 +40,22 @@ close_writes f H A E B R p s end e hp hs he =
     ∙ ap (λ (x : List ℕ). put x (end - s) (zeros (length f - (end - s)))) (one ∙ join) ∙ two
     ∙ rw (append-nil (zeros (length f - (end - s)))) (simp append_assoc)
 
+-- the part from a place on was lent, and came back
+pub lent_put : (s : ℕ) (b new : List ℕ) → s ≤ length b → length new ≡ length b - s → put_mid s (length b - s) b new ≡ put b s new
+lent_put s b new h l =
+    let e : drop (length b - s) (drop s b) ≡ drop (s + length new) b = drop-drop (length b - s) s b ∙ ap (λ (n : ℕ). drop (s + n) b) (sym l) in
+    ap (λ (x : List ℕ). take s b ++ (new ++ x)) e ∙ sym (put_whole b s new (omega arith))
+
+pub lent_length : (s : ℕ) (b : List ℕ) → length (take (length b - s) (drop s b)) ≡ length b - s
+lent_length s b = ap length (take_all (length b - s) (drop s b) (simp length-drop (omega arith))) ∙ length-drop s b
+
 -- the two writes of the code
-pub close_steps : (f g h : List ℕ) (end at s n : ℕ) → g ≡ put f at (part (at + s) (end - (at + s)) f) → length g ≡ length f → n ≡ length g - (end - s)
-    → h ≡ put g (end - s) (zeros n) → h ≡ put (put f at (part (at + s) (end - (at + s)) f)) (end - s) (zeros (length f - (end - s)))
-close_steps f g h end at s n q l m w = w ∙ rw (m, l, q)
+pub close_steps : (f : List ℕ) {g h : List ℕ} (end at s : ℕ) → g ≡ put f at (part (at + s) (end - (at + s)) f) → length g ≡ length f → (at + s ≤ end) × (end ≤ length f)
+    → h ≡ replicate (length (take (length g - (end - s)) (drop (end - s) g))) 0
+    → put_mid (end - s) (length g - (end - s)) g h ≡ put (put f at (part (at + s) (end - (at + s)) f)) (end - s) (zeros (length f - (end - s)))
+close_steps f {g} {h} end at s q l r w =
+    let z : h ≡ zeros (length g - (end - s)) = w ∙ ap zeros (lent_length (end - s) g) in
+    lent_put (end - s) g h (omega arith) (ap length z ∙ length-replicate (length g - (end - s)) 0) ∙ rw (z, l, q)
 
 -- bytes written over the first zeros
 pub append_writes : (H C N : List ℕ) (o m k : ℕ) → o ≡ length H + length C → m ≡ length N + k

@@ -44,8 +44,8 @@ module _ {A : Type 0} {g : ℕ → ℕ → A} {f : List ℕ} {n from i at : ℕ}
   pub left_stop : {r : A} → g (n - i) at ≡ r → r ≡ g n from
   left_stop q = rest_stop v.rest q
 
-  pub left_next : {s : ℕ} → i < n → s ≡ size_at f at → g (n - i) at ≡ g (n - i - 1) (at + size_at f at) → Left g f n from (i + 1) (at + s)
-  left_next h e q = let k : n - (i + 1) ≡ n - i - 1 = omega arith in record { rest = rw k (rest_next v.rest (omega arith) e q) }
+  pub left_next : {p : ℕ} → i < n → p ≡ at + size_at f at → g (n - i) at ≡ g (n - i - 1) (at + size_at f at) → Left g f n from (i + 1) p
+  left_next h e q = let k : n - (i + 1) ≡ n - i - 1 = omega arith in record { rest = rw (k, e) (rest_next v.rest (omega arith) refl q) }
 
 -- the entries so far lie within the end
 pub record Tiles (f : List ℕ) (end n i at : ℕ) : Type 0 where
@@ -65,7 +65,7 @@ module _ {f : List ℕ} {end n i at : ℕ} (v : Tiles f end n i at) where
       tiles_next k =
           record {
             upto = omega (arith, v.upto);
-            rest = left_next v.rest h e (ap (λ (x : ℕ). eqb x end) (start_on (size_at f) (n - i) at (omega arith)));
+            rest = left_next v.rest h (ap (λ (x : ℕ). at + x) e) (ap (λ (x : ℕ). eqb x end) (start_on (size_at f) (n - i) at (omega arith)));
           }
 
   pub tiles_done : n ≤ i → eqb at end ≡ tiled (size_at f) end n header

@@ -21,7 +21,7 @@ use Rattle.edition.specs.declared.Edition.{Edition}
 use Rattle.dinode.specs.Core.{attr_start, attr_fork}
 use Rattle.dinode.specs.declared.Fork.{Fork}
 use Rattle.attr_sf.specs.declared.Step.{Step}
-use Rattle.attr_sf.specs.Fork.{fork_verdict, header, totsize, count, size_at}
+use Rattle.attr_sf.specs.Fork.{fork_verdict, header, totsize, count, size_at, entry_at}
 use Rattle.attr_sf.specs.Calls.{verdict, attr_at}
 use Rattle.attr_sf.specs.Walk.{live_step, end_step, step_in, walked_in, walk_step, step_code, walked_next, walked_seen, step_next, step_seen, StepPromise}
 use Rattle.attr_sf.specs.Inner.{fork_if}
@@ -29,14 +29,14 @@ use Rattle.attr_sf.proofs.ForkTests.{all_ends, end_inside}
 use Rattle.attr_sf.proofs.InodeTests.{lent_fork, first_refused, if_passed, if_refused}
 
 -- a step at an entry, as it is read
-pub live_is : (s : ℕ) (f : List ℕ) (place n v g z : ℕ) → n ≡ byte place f → v ≡ byte (place + 1) f → g ≡ byte (place + 2) f → z ≡ size_at f place
+pub live_is : (s : ℕ) (f : List ℕ) (place : ℕ) {n v g z : ℕ} → n ≡ byte place f → v ≡ byte (place + 1) f → g ≡ (entry_at f place).flags → z ≡ place + size_at f place
     → ◌≡◌ {A = Step}
     (record {
-      next = place + z;
+      next = z;
       seen = Some (record { flags = g; name_start = s + (place + 3); name_len = n; value_start = s + (place + 3 + n); value_len = v });
     }) (live_step s f place)
-unfolding live_step attr_at
-live_is s f place n v g z a b d h = rw (a, b, d, h)
+unfolding live_step attr_at entry_at
+live_is s f place a b d h = rw (a, b, d, h)
 
 module _ (f : List ℕ) (place : ℕ) where
   -- as the code finds out

@@ -8,7 +8,7 @@ ghost use Rattle.records.specs.Records.{tiled, stands};
 ghost use Rattle.edition.specs.Edition.{v4, Sane};
 ghost use Rattle.refusal.specs.Refusal.{code, numbered};
 ghost use Rattle.attr_sf.specs.Entry.{entry, entry_bytes, legal_flags, legal_key, is_key, distinct};
-ghost use Rattle.attr_sf.specs.Fork.{header, totsize, count, size_at, entry_at, entries, name_legal_of, flags_legal_of};
+ghost use Rattle.attr_sf.specs.Fork.{header, totsize, count, size_at, entry_at, entries};
 ghost use Rattle.attr_sf.specs.Fork.{fork_verdict, seek, key_place};
 ghost use Rattle.attr_sf.specs.Calls.{verdict, asked_code, found_in, lookup, LookupPromise, start_of, length_of, part_of};
 ghost use Rattle.attr_sf.specs.Calls.{remove_code, set_code, remove_bytes, set_bytes};
@@ -64,10 +64,10 @@ fn flags_byte(f: u8) -> bool
 fn flags_legal(f: usize) -> bool
     ensures { result ≡ legal_flags f }
 {
-    if 255 < f {
-        return false;
+    match u8::try_from(f) {
+        Ok(byte) => flags_byte(byte),
+        Err(_) => false,
     }
-    flags_byte(f as u8)
 }
 
 // The bytes of the entry at a place.
@@ -97,35 +97,63 @@ fn tiles(f: &[u8], n: usize, end: usize) -> bool
     at == end
 }
 
-// Whether the entry at a place has a legal name.
-fn name_ok(f: &[u8], at: usize) -> bool
-    requires { at + size_at f.now at ≤ length f.now }
-    ensures { result ≡ name_legal_of (entry_at f.now at) }
-{
-    let from = at + 3;
-    let to = from + be::be8(f, at);
-    name::attr_legal(&f[from..to])
+// The entry at a place of a fork.
+#[derive(Clone, Copy)]
+struct Entry<'a> {
+    fork: &'a [u8],
+    at: usize,
+    ghost inside: { at + size_at fork.now at ≤ length fork.now },
 }
 
-// Whether its flags are legal.
-fn flags_ok(f: &[u8], at: usize) -> bool
-    requires { at + 3 ≤ length f.now }
-    ensures { result ≡ flags_legal_of (entry_at f.now at) }
-{
-    flags_legal(be::be8(f, at + 2))
-}
-
-// Whether it has this name and these flags.
-fn key_at<'a, 'b>(f: &'a [u8], at: usize, name: &'b [u8], flags: usize) -> bool
-    requires { at + size_at f.now at ≤ length f.now }
-    ensures { result ≡ is_key name.now flags (entry_at f.now at) }
-{
-    if flags != be::be8(f, at + 2) {
-        return false;
+impl<'a> Entry<'a> {
+    fn name(self) -> &'a [u8]
+        ensures { result.now ≡ (entry_at self.entry.fork.now self.entry.at).name }
+    {
+        let from = self.at + 3;
+        let to = from + be::be8(self.fork, self.at);
+        &self.fork[from..to]
     }
-    let from = at + 3;
-    let to = from + be::be8(f, at);
-    name::equal(name, &f[from..to])
+
+    fn flags(self) -> usize
+        ensures { result ≡ (entry_at self.entry.fork.now self.entry.at).flags }
+    {
+        be::be8(self.fork, self.at + 2)
+    }
+
+    // Where the next one starts.
+    fn next(self) -> usize
+        ensures { result ≡ self.entry.at + size_at self.entry.fork.now self.entry.at }
+    {
+        self.at + size(self.fork, self.at)
+    }
+
+    // Whether it has this name and these flags.
+    fn has<'b>(self, name: &'b [u8], flags: usize) -> bool
+        ensures { result ≡ is_key name.now flags (entry_at self.entry.fork.now self.entry.at) }
+    {
+        if flags != self.flags() {
+            return false;
+        }
+        name::equal(name, self.name())
+    }
+
+    // A step that meets it, where the fork starts at s in the inode.
+    fn step(self, s: usize) -> Step
+        requires { s + length self.fork.now < 4096 }
+        ensures { result ≡ live_step s self.entry.fork.now self.entry.at }
+    {
+        let name_len = be::be8(self.fork, self.at);
+        let attr = Attr {
+            flags: self.flags(),
+            name_start: s + (self.at + 3),
+            name_len,
+            value_start: s + (self.at + 3 + name_len),
+            value_len: be::be8(self.fork, self.at + 1),
+        };
+        let seen = Some(attr);
+        let next = self.next();
+        Step { next, seen }
+    }
 }
 
 // Entries of a fork, one after the other, from a place on.
@@ -140,20 +168,6 @@ struct Entries<'a> {
 }
 
 impl<'a> Entries<'a> {
-    // All entries of a fork that passes its tests.
-    fn stored(fork: &'a [u8]) -> Entries<'a>
-        requires { fork_verdict fork.now ≡ 0 }
-        ensures bytes { result.fork.now ≡ fork.now }
-        ensures places { (result.from ≡ header) × ((result.count ≡ count fork.now) × (result.end ≡ totsize fork.now)) }
-    {
-        Entries {
-            fork,
-            from: HEADER,
-            count: be::be8(fork, 2),
-            end: be::be16(fork, 0),
-        }
-    }
-
     // Tests 6 and 7.
     fn check(self) -> Result<(), Refusal>
         ensures { code result ≡ own_verdict (entries self.entry.fork.now self.entry.count self.entry.from) }
@@ -161,11 +175,15 @@ impl<'a> Entries<'a> {
         let mut at = self.from;
         let mut flagged = true;
         for _ in 0..self.count {
-            if !name_ok(self.fork, at) {
+            let entry = Entry {
+                fork: self.fork,
+                at,
+            };
+            if !name::attr_legal(entry.name()) {
                 return Err(Refusal::Name);
             }
-            flagged = flagged & flags_ok(self.fork, at);
-            at += size(self.fork, at);
+            flagged &= flags_legal(entry.flags());
+            at = entry.next();
         }
         if flagged {
             return Ok(());
@@ -179,24 +197,25 @@ impl<'a> Entries<'a> {
     {
         let mut at = self.from;
         for _ in 0..self.count {
-            if key_at(self.fork, at, name, flags) {
+            let entry = Entry {
+                fork: self.fork,
+                at,
+            };
+            if entry.has(name, flags) {
                 return Some(at);
             }
-            at += size(self.fork, at);
+            at = entry.next();
         }
         None
     }
 
-    // Whether one of them has the name and the flags of the entry at a place.
-    fn again(self, at: usize) -> bool
-        requires { at + size_at self.fork.now at ≤ length self.fork.now }
-        ensures { result ≡ some_of (is_key (entry_at self.entry.fork.now at).name (entry_at self.entry.fork.now at).flags)
+    // Whether one of them has the name and the flags of another.
+    fn again<'b>(self, other: Entry<'b>) -> bool
+        ensures { result ≡ some_of
+            (is_key (entry_at other.entry.fork.now other.entry.at).name (entry_at other.entry.fork.now other.entry.at).flags)
             (entries self.entry.fork.now self.entry.count self.entry.from) }
     {
-        let start = at + 3;
-        let stop = start + be::be8(self.fork, at);
-        let flags = be::be8(self.fork, at + 2);
-        self.find(&self.fork[start..stop], flags).is_some()
+        self.find(other.name(), other.flags()).is_some()
     }
 
     // Whether no two of them have the same name and flags.
@@ -205,14 +224,18 @@ impl<'a> Entries<'a> {
     {
         let mut at = self.from;
         for i in 0..self.count {
-            let next = at + size(self.fork, at);
+            let entry = Entry {
+                fork: self.fork,
+                at,
+            };
+            let next = entry.next();
             let rest = Entries {
                 fork: self.fork,
                 from: next,
                 count: self.count - i - 1,
                 end: self.end,
             };
-            if rest.again(at) {
+            if rest.again(entry) {
                 return false;
             }
             at = next;
@@ -229,7 +252,11 @@ impl<'a> Entries<'a> {
             if place == at {
                 return true;
             }
-            at += size(self.fork, at);
+            let entry = Entry {
+                fork: self.fork,
+                at,
+            };
+            at = entry.next();
         }
         place == at
     }
@@ -243,10 +270,7 @@ fn check_fork(f: &[u8]) -> Result<(), Refusal>
         return Err(Refusal::Span);
     }
     let end = be::be16(f, 0);
-    if end < HEADER {
-        return Err(Refusal::Span);
-    }
-    if f.len() < end {
+    if (end < HEADER) | (f.len() < end) {
         return Err(Refusal::Span);
     }
     let count = be::be8(f, 2);
@@ -264,6 +288,104 @@ fn check_fork(f: &[u8]) -> Result<(), Refusal>
         return Err(Refusal::Twice);
     }
     Ok(())
+}
+
+// What a set or a removal reads first: where the entry asked for starts (the entries' end when there is none), its size (0),
+// how many entries are kept, and the entries' end.
+#[derive(Clone, Copy)]
+struct Plan {
+    at: usize,
+    size: usize,
+    kept: usize,
+    end: usize,
+}
+
+// A fork that passes its tests.
+#[derive(Clone, Copy)]
+struct Accepted<'a> {
+    fork: &'a [u8],
+    ghost passes: { fork_verdict fork.now ≡ 0 },
+}
+
+impl<'a> Accepted<'a> {
+    fn entries(self) -> Entries<'a>
+        ensures bytes { result.fork.now ≡ self.entry.fork.now }
+        ensures places { (result.from ≡ header)
+            × ((result.count ≡ count self.entry.fork.now) × (result.end ≡ totsize self.entry.fork.now)) }
+    {
+        Entries {
+            fork: self.fork,
+            from: HEADER,
+            count: be::be8(self.fork, 2),
+            end: be::be16(self.fork, 0),
+        }
+    }
+
+    // Where the entry with this name and flags starts.
+    fn find<'b>(self, name: &'b [u8], flags: usize) -> Option<usize>
+        ensures { result ≡ place_before (totsize self.entry.fork.now) (key_place self.entry.fork.now name.now flags) }
+    {
+        self.entries().find(name, flags)
+    }
+
+    // Where its value lies, where the fork starts at s in the inode.
+    fn lookup<'b>(self, s: usize, name: &'b [u8], flags: usize) -> Result<Place, Refusal>
+        requires { s + length self.fork.now < 4096 }
+        ensures { numbered result ≡ found_in s self.entry.fork.now name.now flags }
+    {
+        match self.find(name, flags) {
+            Some(at) => {
+                let start = s + (at + 3 + be::be8(self.fork, at));
+                let len = be::be8(self.fork, at + 1);
+                Ok(Place { start, len })
+            }
+            None => Err(Refusal::Absent),
+        }
+    }
+
+    // A step of the walk, where the fork starts at s in the inode.
+    fn step(self, s: usize, place: usize) -> Result<Step, Refusal>
+        requires { s + length self.fork.now < 4096 }
+        ensures { numbered result ≡ walked_in s self.entry.fork.now place }
+    {
+        let entries = self.entries();
+        if !entries.stand(place) {
+            return Err(Refusal::Asked);
+        }
+        if place == entries.end {
+            return Ok(Step {
+                next: place,
+                seen: None,
+            });
+        }
+        let entry = Entry {
+            fork: self.fork,
+            at: place,
+        };
+        Ok(entry.step(s))
+    }
+
+    fn plan<'b>(self, name: &'b [u8], flags: usize) -> Plan
+        ensures { (result ≡ plan_of self.entry.fork.now name.now flags)
+            × ((result.at + result.size ≤ result.end) × (result.end ≤ length self.entry.fork.now)) }
+    {
+        let end = be::be16(self.fork, 0);
+        let count = be::be8(self.fork, 2);
+        match self.find(name, flags) {
+            Some(at) => Plan {
+                at,
+                size: size(self.fork, at),
+                kept: count - 1,
+                end,
+            },
+            None => Plan {
+                at: end,
+                size: 0,
+                kept: count,
+                end,
+            },
+        }
+    }
 }
 
 // Tests 1 to 10: where the attribute fork lies.
@@ -303,35 +425,15 @@ fn asked<'a, 'b>(e: Edition, b: &'a [u8], name: &'b [u8], flags: usize) -> Resul
     Ok(fork)
 }
 
-// Where the entry asked for starts in a fork.
-fn place_in<'a, 'b>(f: &'a [u8], name: &'b [u8], flags: usize) -> Option<usize>
-    requires { fork_verdict f.now ≡ 0 }
-    ensures { result ≡ place_before (totsize f.now) (key_place f.now name.now flags) }
-{
-    Entries::stored(f).find(name, flags)
-}
-
-// Where its value lies in the inode whose attribute fork starts at s.
-fn find_in<'a, 'b>(f: &'a [u8], s: usize, name: &'b [u8], flags: usize) -> Result<Place, Refusal>
-    requires { (fork_verdict f.now ≡ 0) × (s + length f.now < 4096) }
-    ensures { numbered result ≡ found_in s f.now name.now flags }
-{
-    match place_in(f, name, flags) {
-        Some(at) => {
-            let start = s + (at + 3 + be::be8(f, at));
-            let len = be::be8(f, at + 1);
-            Ok(Place { start, len })
-        }
-        None => Err(Refusal::Absent),
-    }
-}
-
 fn look<'a, 'b>(e: Edition, b: &'a [u8], name: &'b [u8], flags: usize) -> Result<Place, Refusal>
     requires { Sane e }
     ensures { numbered result ≡ lookup e b.now name.now flags }
 {
     let fork = asked(e, b, name, flags)?;
-    find_in(&b[fork.start..], fork.start, name, flags)
+    let accepted = Accepted {
+        fork: &b[fork.start..],
+    };
+    accepted.lookup(fork.start, name, flags)
 }
 
 // Looks an attribute up: where its value lies in the inode.
@@ -354,52 +456,15 @@ pub fn value<'a, 'b>(b: &'a [u8], name: &'b [u8], flags: usize) -> &'a [u8]
     }
 }
 
-// A step at an entry of the fork that starts at s.
-fn step_from(f: &[u8], s: usize, place: usize) -> Step
-    requires { (place + size_at f.now place ≤ length f.now) × (s + length f.now < 4096) }
-    ensures { result ≡ live_step s f.now place }
-{
-    let name_len = be::be8(f, place);
-    let value_len = be::be8(f, place + 1);
-    let flags = be::be8(f, place + 2);
-    let name_start = s + (place + 3);
-    let value_start = s + (place + 3 + name_len);
-    let attr = Attr {
-        flags,
-        name_start,
-        name_len,
-        value_start,
-        value_len,
-    };
-    let seen = Some(attr);
-    let next = place + size(f, place);
-    Step { next, seen }
-}
-
-// A step in a fork that passes its tests.
-fn walk_in(f: &[u8], s: usize, place: usize) -> Result<Step, Refusal>
-    requires { (fork_verdict f.now ≡ 0) × (s + length f.now < 4096) }
-    ensures { numbered result ≡ walked_in s f.now place }
-{
-    let entries = Entries::stored(f);
-    if !entries.stand(place) {
-        return Err(Refusal::Asked);
-    }
-    if place == entries.end {
-        return Ok(Step {
-            next: place,
-            seen: None,
-        });
-    }
-    Ok(step_from(f, s, place))
-}
-
 fn walk_on(e: Edition, b: &[u8], place: usize) -> Result<Step, Refusal>
     requires { Sane e }
     ensures { numbered result ≡ walk_step e b.now place }
 {
     let fork = tested(e, b)?;
-    walk_in(&b[fork.start..], fork.start, place)
+    let accepted = Accepted {
+        fork: &b[fork.start..],
+    };
+    accepted.step(fork.start, place)
 }
 
 // One step of the walk over an inode's attributes, from a place that is counted from the fork's start.
@@ -409,48 +474,13 @@ pub fn step_at(b: &[u8], place: usize) -> Result<Step, Refusal>
     walk_on(V4::edition(), b, place)
 }
 
-// What a set or a removal reads first: where the entry asked for starts (the entries' end when there is none), its size (0),
-// how many entries are kept, and the entries' end.
-#[derive(Clone, Copy)]
-struct Plan {
-    at: usize,
-    size: usize,
-    kept: usize,
-    end: usize,
-}
-
-fn plan_in<'a, 'b>(f: &'a [u8], name: &'b [u8], flags: usize) -> Plan
-    requires { fork_verdict f.now ≡ 0 }
-    ensures { (result ≡ plan_of f.now name.now flags)
-        × ((result.at + result.size ≤ result.end) × (result.end ≤ length f.now)) }
-{
-    let end = be::be16(f, 0);
-    let count = be::be8(f, 2);
-    match place_in(f, name, flags) {
-        Some(at) => Plan {
-            at,
-            size: size(f, at),
-            kept: count - 1,
-            end,
-        },
-        None => Plan {
-            at: end,
-            size: 0,
-            kept: count,
-            end,
-        },
-    }
-}
-
 // Takes s bytes at a place out of the entries, and zeroes what is unused then.
 fn close(f: &mut [u8], end: usize, at: usize, s: usize)
     requires { (at + s ≤ end) × (end ≤ length f.old) }
     ensures { f.new ≡ closed f.old end at s }
 {
     be::move_bytes(f, at + s, at, end - (at + s));
-    let from = end - s;
-    let n = f.len() - from;
-    be::zero(f, from, n);
+    f[end - s..].fill(0);
 }
 
 // Writes totsize and count; the pad byte is left alone.
@@ -492,7 +522,7 @@ fn remove_in<'a, 'b>(f: &'a mut [u8], name: &'b [u8], flags: usize) -> Result<()
         size,
         kept,
         end,
-    } = plan_in(&f[..], name, flags);
+    } = Accepted { fork: &f[..] }.plan(name, flags);
     if end <= at {
         return Err(Refusal::Absent);
     }
@@ -516,7 +546,7 @@ fn set_in<'a, 'b, 'c>(
         size,
         kept,
         end,
-    } = plan_in(&f[..], name, flags);
+    } = Accepted { fork: &f[..] }.plan(name, flags);
     if 255 < value.len() {
         return Err(Refusal::NoRoom);
     }

@@ -1,17 +1,14 @@
 use mathlib.Core.Path.{sym, ◌∙◌}
 use borrow.Author.Rules.{rules}
 use Rattle.refusal.proofs.Passed.{number_ne, code_is}
-use Rattle.attr_sf.proofs.ForkTests.{span_short, span_low, span_over, not_tiled, not_own, not_once, all_passed}
+use Rattle.attr_sf.proofs.ForkTests.{span_short, span_out, not_tiled, not_own, not_once, all_passed}
 use Rattle.attr_sf.proofs.check_fork.Goals as goal
 
 pub returns-then-f-lt-HEADER : goal.returns-then-f-lt-HEADER
 returns-then-f-lt-HEADER c = search (rules, span_short)
 
-pub returns-then-end-lt-HEADER : goal.returns-then-end-lt-HEADER
-returns-then-end-lt-HEADER c = search (rules, span_low)
-
-pub returns-then-f-end : goal.returns-then-f-end
-returns-then-f-end c = search (rules, span_over)
+pub returns-then-end-f : goal.returns-then-end-f
+returns-then-end-f c = span_out _ c.be16-end.ensures.0 (search rules) c.if-end-f.true
 
 pub returns-then-not-tiles : goal.returns-then-not-tiles
 returns-then-not-tiles c = not_tiled _ c.be16-end.ensures.0 (search rules) (search rules) c.be8-count.ensures.0 (search rules) (sym c.tiles.ensures ∙ c.if-not-tiles.true)

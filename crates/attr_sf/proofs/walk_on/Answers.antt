@@ -6,14 +6,17 @@ use Rattle.attr_sf.proofs.walk_on.Goals as goal
 pub returns-in_err-fork : goal.returns-in_err-fork
 returns-in_err-fork c = walked_refused _ _ _ _ _ c.from_residual.ensures.1 c.in_err-fork.ensures
 
-pub slice_bounds-walk_in-count : goal.slice_bounds-walk_in-count
-slice_bounds-walk_in-count c = (located _ _ c.in_ok-fork.ensures).0
+pub slice_bounds-accepted-count : goal.slice_bounds-accepted-count
+slice_bounds-accepted-count c = (located _ _ c.in_ok-fork.ensures).0
 
-pub slice_bounds-walk_in-start : goal.slice_bounds-walk_in-start
-slice_bounds-walk_in-start c = (located _ _ c.in_ok-fork.ensures).0
+pub slice_bounds-accepted-start : goal.slice_bounds-accepted-start
+slice_bounds-accepted-start c = (located _ _ c.in_ok-fork.ensures).0
 
-pub walk_in-requires : goal.walk_in-requires
-walk_in-requires c = let z = located _ _ c.in_ok-fork.ensures in (z.1.0, omega (arith, z.1.1))
+pub invariant_of-accepted : goal.invariant_of-accepted
+invariant_of-accepted c = record { passes = (located _ _ c.in_ok-fork.ensures).1.0 }
+
+pub step-requires : goal.step-requires
+step-requires c = omega (arith, (located _ _ c.in_ok-fork.ensures).1.1)
 
 pub returns : goal.returns
-returns c = walked_at _ _ _ c.in_ok-fork.ensures c.walk_in.ensures
+returns c = walked_at _ _ _ c.in_ok-fork.ensures c.step.ensures
