@@ -70,6 +70,22 @@ fn flags_legal(f: usize) -> bool
     }
 }
 
+// What an attribute is asked for by.
+#[derive(Clone, Copy)]
+struct Key<'a> {
+    name: &'a [u8],
+    flags: usize,
+}
+
+impl<'a> Key<'a> {
+    // Whether its name and flags are legal.
+    fn legal(self) -> bool
+        ensures { result ≡ legal_key self.entry.name.now self.entry.flags }
+    {
+        name::attr_legal(self.name) & flags_legal(self.flags)
+    }
+}
+
 // The bytes of the entry at a place.
 fn size(f: &[u8], at: usize) -> usize
     requires { at + 3 ≤ length f.now }
@@ -128,13 +144,13 @@ impl<'a> Entry<'a> {
     }
 
     // Whether it has this name and these flags.
-    fn has<'b>(self, name: &'b [u8], flags: usize) -> bool
-        ensures { result ≡ is_key name.now flags (entry_at self.entry.fork.now self.entry.at) }
+    fn has<'b>(self, key: Key<'b>) -> bool
+        ensures { result ≡ is_key key.entry.name.now key.entry.flags (entry_at self.entry.fork.now self.entry.at) }
     {
-        if flags != self.flags() {
+        if key.flags != self.flags() {
             return false;
         }
-        name::equal(name, self.name())
+        name::equal(key.name, self.name())
     }
 
     // A step that meets it, where the fork starts at s in the inode.
@@ -192,8 +208,8 @@ impl<'a> Entries<'a> {
     }
 
     // Where the first with this name and flags starts.
-    fn find<'b>(self, name: &'b [u8], flags: usize) -> Option<usize>
-        ensures { result ≡ place_before self.entry.end (seek self.entry.fork.now name.now flags self.entry.count self.entry.from) }
+    fn find<'b>(self, key: Key<'b>) -> Option<usize>
+        ensures { result ≡ place_before self.entry.end (seek self.entry.fork.now key.entry.name.now key.entry.flags self.entry.count self.entry.from) }
     {
         let mut at = self.from;
         for _ in 0..self.count {
@@ -201,7 +217,7 @@ impl<'a> Entries<'a> {
                 fork: self.fork,
                 at,
             };
-            if entry.has(name, flags) {
+            if entry.has(key) {
                 return Some(at);
             }
             at = entry.next();
@@ -215,7 +231,11 @@ impl<'a> Entries<'a> {
             (is_key (entry_at other.entry.fork.now other.entry.at).name (entry_at other.entry.fork.now other.entry.at).flags)
             (entries self.entry.fork.now self.entry.count self.entry.from) }
     {
-        self.find(other.name(), other.flags()).is_some()
+        let key = Key {
+            name: other.name(),
+            flags: other.flags(),
+        };
+        self.find(key).is_some()
     }
 
     // Whether no two of them have the same name and flags.
@@ -322,18 +342,18 @@ impl<'a> Accepted<'a> {
     }
 
     // Where the entry with this name and flags starts.
-    fn find<'b>(self, name: &'b [u8], flags: usize) -> Option<usize>
-        ensures { result ≡ place_before (totsize self.entry.fork.now) (key_place self.entry.fork.now name.now flags) }
+    fn find<'b>(self, key: Key<'b>) -> Option<usize>
+        ensures { result ≡ place_before (totsize self.entry.fork.now) (key_place self.entry.fork.now key.entry.name.now key.entry.flags) }
     {
-        self.entries().find(name, flags)
+        self.entries().find(key)
     }
 
     // Where its value lies, where the fork starts at s in the inode.
-    fn lookup<'b>(self, s: usize, name: &'b [u8], flags: usize) -> Result<Place, Refusal>
+    fn lookup<'b>(self, s: usize, key: Key<'b>) -> Result<Place, Refusal>
         requires { s + length self.fork.now < 4096 }
-        ensures { numbered result ≡ found_in s self.entry.fork.now name.now flags }
+        ensures { numbered result ≡ found_in s self.entry.fork.now key.entry.name.now key.entry.flags }
     {
-        match self.find(name, flags) {
+        match self.find(key) {
             Some(at) => {
                 let start = s + (at + 3 + be::be8(self.fork, at));
                 let len = be::be8(self.fork, at + 1);
@@ -365,13 +385,13 @@ impl<'a> Accepted<'a> {
         Ok(entry.step(s))
     }
 
-    fn plan<'b>(self, name: &'b [u8], flags: usize) -> Plan
-        ensures { (result ≡ plan_of self.entry.fork.now name.now flags)
+    fn plan<'b>(self, key: Key<'b>) -> Plan
+        ensures { (result ≡ plan_of self.entry.fork.now key.entry.name.now key.entry.flags)
             × ((result.at + result.size ≤ result.end) × (result.end ≤ length self.entry.fork.now)) }
     {
         let end = be::be16(self.fork, 0);
         let count = be::be8(self.fork, 2);
-        match self.find(name, flags) {
+        match self.find(key) {
             Some(at) => Plan {
                 at,
                 size: size(self.fork, at),
@@ -406,41 +426,34 @@ pub fn test(b: &[u8]) -> Result<(), Refusal>
     Ok(())
 }
 
-// Whether a caller's name and flags are legal.
-fn key_legal(name: &[u8], flags: usize) -> bool
-    ensures { result ≡ legal_key name.now flags }
-{
-    name::attr_legal(name) & flags_legal(flags)
-}
-
 // The tests, then what was asked.
-fn asked<'a, 'b>(e: Edition, b: &'a [u8], name: &'b [u8], flags: usize) -> Result<Fork, Refusal>
+fn asked<'a, 'b>(e: Edition, b: &'a [u8], key: Key<'b>) -> Result<Fork, Refusal>
     requires { Sane e }
-    ensures { numbered result ≡ fork_if (asked_code e b.now name.now flags) e b.now }
+    ensures { numbered result ≡ fork_if (asked_code e b.now key.entry.name.now key.entry.flags) e b.now }
 {
     let fork = tested(e, b)?;
-    if !key_legal(name, flags) {
+    if !key.legal() {
         return Err(Refusal::Asked);
     }
     Ok(fork)
 }
 
-fn look<'a, 'b>(e: Edition, b: &'a [u8], name: &'b [u8], flags: usize) -> Result<Place, Refusal>
+fn look<'a, 'b>(e: Edition, b: &'a [u8], key: Key<'b>) -> Result<Place, Refusal>
     requires { Sane e }
-    ensures { numbered result ≡ lookup e b.now name.now flags }
+    ensures { numbered result ≡ lookup e b.now key.entry.name.now key.entry.flags }
 {
-    let fork = asked(e, b, name, flags)?;
+    let fork = asked(e, b, key)?;
     let accepted = Accepted {
         fork: &b[fork.start..],
     };
-    accepted.lookup(fork.start, name, flags)
+    accepted.lookup(fork.start, key)
 }
 
 // Looks an attribute up: where its value lies in the inode.
 pub fn lookup<'a, 'b>(b: &'a [u8], name: &'b [u8], flags: usize) -> Result<Place, Refusal>
     ensures { LookupPromise v4 b.now name.now flags result }
 {
-    look(V4::edition(), b, name, flags)
+    look(V4::edition(), b, Key { name, flags })
 }
 
 // The value in place, a part of the inode; an empty part at its start where the lookup is refused: lookup's answer tells that from an empty value.
@@ -493,36 +506,30 @@ fn head(f: &mut [u8], total: usize, n: usize)
 }
 
 // Writes an entry at a place.
-fn write_entry<'a, 'b, 'c>(
-    f: &'a mut [u8],
-    at: usize,
-    name: &'b [u8],
-    flags: usize,
-    value: &'c [u8],
-)
-    requires { ((at + 3 + length name.now + length value.now ≤ length f.old) × (flags < 256))
-        × ((length name.now < 256) × (length value.now < 256)) }
-    ensures { f.new ≡ put f.old at (entry_bytes (entry flags name.now value.now)) }
+fn write_entry<'a, 'b, 'c>(f: &'a mut [u8], at: usize, key: Key<'b>, value: &'c [u8])
+    requires { ((at + 3 + length key.name.now + length value.now ≤ length f.old) × (key.flags < 256))
+        × ((length key.name.now < 256) × (length value.now < 256)) }
+    ensures { f.new ≡ put f.old at (entry_bytes (entry key.entry.flags key.entry.name.now value.now)) }
 {
-    let k = name.len();
+    let k = key.name.len();
     be::put8(f, at, k);
     be::put8(f, at + 1, value.len());
-    be::put8(f, at + 2, flags);
-    be::copy_into(f, at + 3, name);
+    be::put8(f, at + 2, key.flags);
+    be::copy_into(f, at + 3, key.name);
     be::copy_into(f, at + 3 + k, value);
 }
 
 // Removes an entry from a fork that passes its tests.
-fn remove_in<'a, 'b>(f: &'a mut [u8], name: &'b [u8], flags: usize) -> Result<(), Refusal>
+fn remove_in<'a, 'b>(f: &'a mut [u8], key: Key<'b>) -> Result<(), Refusal>
     requires { fork_verdict f.old ≡ 0 }
-    ensures { ForkRemoval f.old name.now flags (code result) f.new }
+    ensures { ForkRemoval f.old key.entry.name.now key.entry.flags (code result) f.new }
 {
     let Plan {
         at,
         size,
         kept,
         end,
-    } = Accepted { fork: &f[..] }.plan(name, flags);
+    } = Accepted { fork: &f[..] }.plan(key);
     if end <= at {
         return Err(Refusal::Absent);
     }
@@ -532,21 +539,16 @@ fn remove_in<'a, 'b>(f: &'a mut [u8], name: &'b [u8], flags: usize) -> Result<()
 }
 
 // Sets an entry in a fork that passes its tests.
-fn set_in<'a, 'b, 'c>(
-    f: &'a mut [u8],
-    name: &'b [u8],
-    flags: usize,
-    value: &'c [u8],
-) -> Result<(), Refusal>
-    requires { ((fork_verdict f.old ≡ 0) × (length f.old < 65536)) × ((length name.now < 256) × (flags < 256)) }
-    ensures { ForkSet f.old name.now flags value.now (code result) f.new }
+fn set_in<'a, 'b, 'c>(f: &'a mut [u8], key: Key<'b>, value: &'c [u8]) -> Result<(), Refusal>
+    requires { ((fork_verdict f.old ≡ 0) × (length f.old < 65536)) × ((length key.name.now < 256) × (key.flags < 256)) }
+    ensures { ForkSet f.old key.entry.name.now key.entry.flags value.now (code result) f.new }
 {
     let Plan {
         at,
         size,
         kept,
         end,
-    } = Accepted { fork: &f[..] }.plan(name, flags);
+    } = Accepted { fork: &f[..] }.plan(key);
     if 255 < value.len() {
         return Err(Refusal::NoRoom);
     }
@@ -554,28 +556,23 @@ fn set_in<'a, 'b, 'c>(
         return Err(Refusal::NoRoom);
     }
     let to = end - size;
-    let total = to + 3 + name.len() + value.len();
+    let total = to + 3 + key.name.len() + value.len();
     if f.len() < total {
         return Err(Refusal::NoRoom);
     }
     close(f, end, at, size);
-    write_entry(f, to, name, flags, value);
+    write_entry(f, to, key, value);
     head(f, total, kept + 1);
     Ok(())
 }
 
-fn take_out<'a, 'b>(
-    e: Edition,
-    b: &'a mut [u8],
-    name: &'b [u8],
-    flags: usize,
-) -> Result<(), Refusal>
+fn take_out<'a, 'b>(e: Edition, b: &'a mut [u8], key: Key<'b>) -> Result<(), Refusal>
     requires { Sane e }
-    ensures { (code result ≡ remove_code e b.old name.now flags)
-        × (b.new ≡ remove_bytes e b.old name.now flags) }
+    ensures { (code result ≡ remove_code e b.old key.entry.name.now key.entry.flags)
+        × (b.new ≡ remove_bytes e b.old key.entry.name.now key.entry.flags) }
 {
-    let fork = asked(e, &b[..], name, flags)?;
-    remove_in(&mut b[fork.start..], name, flags)
+    let fork = asked(e, &b[..], key)?;
+    remove_in(&mut b[fork.start..], key)
 }
 
 // Removes an attribute; a refusal leaves every byte as it was.
@@ -583,22 +580,21 @@ pub fn remove<'a, 'b>(b: &'a mut [u8], name: &'b [u8], flags: usize) -> Result<(
     ensures { (code result ≡ remove_code v4 b.old name.now flags)
         × (b.new ≡ remove_bytes v4 b.old name.now flags) }
 {
-    take_out(V4::edition(), b, name, flags)
+    take_out(V4::edition(), b, Key { name, flags })
 }
 
 fn put_in<'a, 'b, 'c>(
     e: Edition,
     b: &'a mut [u8],
-    name: &'b [u8],
-    flags: usize,
+    key: Key<'b>,
     value: &'c [u8],
 ) -> Result<(), Refusal>
     requires { Sane e }
-    ensures { (code result ≡ set_code e b.old name.now flags value.now)
-        × (b.new ≡ set_bytes e b.old name.now flags value.now) }
+    ensures { (code result ≡ set_code e b.old key.entry.name.now key.entry.flags value.now)
+        × (b.new ≡ set_bytes e b.old key.entry.name.now key.entry.flags value.now) }
 {
-    let fork = asked(e, &b[..], name, flags)?;
-    set_in(&mut b[fork.start..], name, flags, value)
+    let fork = asked(e, &b[..], key)?;
+    set_in(&mut b[fork.start..], key, value)
 }
 
 // Sets an attribute: an equal one goes, and the new one stands at the end. A refusal leaves every byte as it was.
@@ -611,5 +607,5 @@ pub fn set<'a, 'b, 'c>(
     ensures { (code result ≡ set_code v4 b.old name.now flags value.now)
         × (b.new ≡ set_bytes v4 b.old name.now flags value.now) }
 {
-    put_in(V4::edition(), b, name, flags, value)
+    put_in(V4::edition(), b, Key { name, flags }, value)
 }

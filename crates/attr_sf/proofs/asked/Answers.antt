@@ -5,8 +5,8 @@ use Rattle.attr_sf.proofs.asked.Goals as goal
 pub returns-in_err-fork : goal.returns-in_err-fork
 returns-in_err-fork c = if_not _ _ _ _ c.from_residual.ensures.1 (asked_refused _ _ _ _ _ c.in_err-fork.ensures)
 
-pub returns-then-not-key_legal : goal.returns-then-not-key_legal
-returns-then-not-key_legal c = asked_not _ _ _ _ c.in_ok-fork.ensures (sym c.key_legal.ensures ∙ c.if-not-key_legal.true)
+pub returns-then-not-legal : goal.returns-then-not-legal
+returns-then-not-legal c = asked_not _ _ _ _ c.in_ok-fork.ensures (sym c.legal.ensures ∙ c.if-not-legal.true)
 
 pub returns : goal.returns
-returns c = asked_at _ _ _ _ c.in_ok-fork.ensures (sym c.key_legal.ensures ∙ c.if-not-key_legal.false)
+returns c = asked_at _ _ _ _ c.in_ok-fork.ensures (sym c.legal.ensures ∙ c.if-not-legal.false)

@@ -1,7 +1,7 @@
 use mathlib.Core.Path.{ap₂}
 use mathlib.Core.Bool.{Bool, ◌&&◌}
 use Rattle.attr_sf.specs.Entry.{legal_key}
-use Rattle.attr_sf.proofs.key_legal.Goals as goal
+use Rattle.attr_sf.proofs.Key.legal.Goals as goal
 
 pub returns : goal.returns
 unfolding legal_key
