@@ -1,7 +1,7 @@
 pub mod Run
 pub mod Leaves
+pub mod Turn
 pub mod Listed
-pub mod Seeks
 pub mod Tests
 pub mod Verdicts
 pub mod Inodes

@@ -1,18 +1,15 @@
 -- The search for a name in the used bytes, and what a lookup answers.
 -- Assumes nothing.
-use Prim.Native.Nat.{ℕ, zero, suc, ◌+◌, ◌≤◌, ◌<◌}
+use Prim.Native.Nat.{ℕ, zero, suc, ◌+◌, ◌<◌}
 use native.Mathlib.Omega.{arith}
-use mathlib.Core.Bool.{Bool, true, false, not}
+use mathlib.Core.Bool.{Bool, true, false, not, cond}
 use mathlib.Core.Path.{◌≡◌, refl, sym, ◌∙◌, ap, ap₂}
 use mathlib.Core.List.{List, [], ◌∷◌}
-use lib.Arith.{lt_of_le-ne}
 use lib.Dec.{ltb}
-use lib.ListN.{length}
 use Rattle.std.specs.Prelude.{Option, Some, None, Ok, Err, is_some}
-use borrow.Author.Tests.{lt-ltb, le-ltb, ltb-true, not-true, not-false}
+use borrow.Author.Tests.{ltb-true, not-true, not-false}
 use Rattle.refusal.specs.Refusal.{ASKED, FIXED}
 use Rattle.be.specs.Lists.{same}
-use Rattle.be.specs.Bytes.{byte, field}
 use Rattle.be.proofs.Bools.{by_cases}
 use Rattle.records.specs.Records.{start, places}
 use Rattle.edition.specs.declared.Edition.{Edition}
@@ -21,72 +18,38 @@ use Rattle.dir.specs.declared.Looked.TheVariants.{Found, Absent}
 use Rattle.dir_sf.specs.declared.Hit.{Hit}
 use Rattle.dir.specs.declared.Target.{Target}
 use Rattle.dir.specs.Target.{target, kept_of}
-use Rattle.dir_sf.specs.Entry.{SfEntry, width_of, size_at, entry_at, entries_in}
-use Rattle.dir_sf.specs.Fork.{entries, holds, count_of, place_of}
+use Rattle.dir_sf.specs.Entry.{SfEntry, size_at, entry_at, entries_in}
+use Rattle.dir_sf.specs.Fork.{entries, holds, used_width, count_of, place_of}
 use Rattle.dir_sf.specs.Change.{entry_in, target_in, tag_in, entry_for}
-use Rattle.dir_sf.specs.Inner.{enough, Readable, hit_of, hits, seek}
+use Rattle.dir_sf.specs.Inner.{hit_of, hits, seek}
+use Rattle.dir_sf.specs.Left.{placed_in, placed, first_hit}
 use Rattle.dir_sf.specs.Inode.{looked}
 use Rattle.dir_sf.proofs.Tests.{seek_holds}
-use Rattle.dir_sf.proofs.Listed.{list_enough, entries_is, place_is, count_is}
-use Rattle.dir_sf.proofs.Run.{run_at, run_one, length_entries_in, tag_at_is, target_at_is}
+use Rattle.dir_sf.proofs.Listed.{count_is}
 
-seek_le : (e : Edition) (n : List ℕ) (xs : List SfEntry) → seek e n xs ≤ length xs
-unfolding seek
-seek_le e n [] = omega arith
-seek_le e n (x ∷ xs) = by_cases (same_name e n x.name) (λ q. rw q (omega arith)) (λ q. rw q (omega (arith, seek_le e n xs)))
-
--- the entry that the search finds
-entry_seek : (e : Edition) (n : List ℕ) (w : ℕ) (u : List ℕ) (k at : ℕ) → seek e n (entries_in e w u k at) < k
-    → entry_in e n (entries_in e w u k at) ≡ entry_at e w u (start (size_at e w u) (seek e n (entries_in e w u k at)) at)
-unfolding entries_in seek entry_in start places
-entry_seek e n w u zero at h = absurd (omega arith)
-entry_seek e n w u (suc k) at h =
+-- the search, by the definition's own terms
+hit_walk : (e : Edition) (n : List ℕ) (w : ℕ) (u : List ℕ) (k at i : ℕ) → first_hit e n i (placed_in e w u k at)
+    ≡ cond (holds e n (entries_in e w u k at))
+    (Some (record { index = i + seek e n (entries_in e w u k at); at = start (size_at e w u) (seek e n (entries_in e w u k at)) at; target = (entry_in e n (entries_in e w u k at)).target; tag = (entry_in e n (entries_in e w u k at)).tag }))
+    None
+unfolding first_hit placed_in entries_in places holds seek start entry_in
+hit_walk e n w u zero at i = refl
+hit_walk e n w u (suc k) at i =
     by_cases (same_name e n (entry_at e w u at).name)
-    (λ q. rw q refl)
+    (λ q. let z : i + 0 ≡ i = omega arith in rw (q, z) refl)
     (λ q.
-    let l : suc (seek e n (entries_in e w u k (at + size_at e w u at))) < suc k = rw q at h in
-    rw q (entry_seek e n w u k (at + size_at e w u at) (omega arith)))
+    let xs : List SfEntry = entries_in e w u k (at + size_at e w u at) in
+    let z : suc i + seek e n xs ≡ i + suc (seek e n xs) = omega arith in
+    rw q (hit_walk e n w u k (at + size_at e w u at) (suc i)
+    ∙ ap (λ (j : ℕ). cond (holds e n xs) (Some (record { index = j; at = start (size_at e w u) (seek e n xs) (at + size_at e w u at); target = (entry_in e n xs).target; tag = (entry_in e n xs).tag })) None) z))
 
-module _ (e : Edition) (u n : List ℕ) (k wides w i q : ℕ) (a : k ≡ byte 0 u) (b : wides ≡ byte 1 u) (c : w ≡ width_of wides)
-    (s : i ≡ seek e n (entries_in e (width_of wides) u k (2 + w))) (pl : q ≡ start (size_at e (width_of wides) u) i (2 + w)) where
-  es : entries e u ≡ entries_in e (width_of wides) u k (2 + w)
-  es = entries_is e u k wides w a b c
-
-  index : i ≡ seek e n (entries e u)
-  index = s ∙ ap (seek e n) (sym es)
-
-  held : holds e n (entries e u) ≡ ltb i k
-  held =
-      ap (holds e n) es ∙ seek_holds e n (entries_in e (width_of wides) u k (2 + w))
-      ∙ ap₂ (λ (x y : ℕ). ltb x y) (sym s) (length_entries_in e (width_of wides) u k (2 + w))
-
-  pub hit_none : i ≡ k → None ≡ hits e n u
-  unfolding hits
-  hit_none f = sym (rw (held ∙ le-ltb i k (omega arith)) refl)
-
-  module _ (f : i ≡ k → ⊥) where
-    inside : i < k
-    inside = lt_of_le-ne (omega (arith, seek_le e n (entries_in e (width_of wides) u k (2 + w)), length_entries_in e (width_of wides) u k (2 + w))) f
-
-    -- the entry that is found lies in the used bytes
-    pub hit_in : Readable e u → enough e (width_of wides) u 1 q ≡ true
-    hit_in r =
-        run_one e (width_of wides) u (2 + w) k i q
-        (run_at e (width_of wides) u (2 + w) k i q (list_enough e u k wides w a b c r.listed) (omega (arith, inside)) pl) inside
-
-    pub hit_one : (m g : ℕ) (j : Target) → m ≡ byte q u → j ≡ target (field (q + 3 + m + e.ftype) (width_of wides) u) (field (q + 3 + m) e.ftype u)
-        → g ≡ field (q + 1) 2 u → Some (record { index = i; at = q; target = j; tag = g }) ≡ hits e n u
-    unfolding hits
-    hit_one m g j h r o =
-        let W : ℕ = width_of wides in
-        let x : entry_in e n (entries e u) ≡ entry_at e W u q =
-        ap (entry_in e n) es ∙ entry_seek e n W u k (2 + w) (rw (← s) inside)
-        ∙ ap (λ (y : ℕ). entry_at e W u y) (ap (λ (y : ℕ). start (size_at e W u) y (2 + w)) (sym s) ∙ sym pl) in
-        let v : (entry_at e W u q).target ≡ j = target_at_is e W u q m h ∙ sym r in
-        let y : q ≡ place_of e i u = place_is e u wides w i q b c pl in
-        let a : target_in e n (entries e u) ≡ j = ap (λ (z : SfEntry). z.target) x ∙ v in
-        let o' : tag_in e n (entries e u) ≡ g = ap (λ (z : SfEntry). z.tag) x ∙ tag_at_is e W u q ∙ sym o in
-        sym (rw (held ∙ lt-ltb i k inside, a, o', ← index, ← y) refl)
+pub hits_are : (e : Edition) (n u : List ℕ) (f : Edition) (xs : List (ℕ × SfEntry)) (r : Option Hit) → f ≡ e → xs ≡ placed e u → r ≡ first_hit f n 0 xs → r ≡ hits e n u
+unfolding placed hits entries place_of
+hits_are e n u f xs r a b h =
+    let z : 0 + seek e n (entries e u) ≡ seek e n (entries e u) = omega arith in
+    h ∙ ap₂ (λ (y : Edition) (ys : List (ℕ × SfEntry)). first_hit y n 0 ys) a b
+    ∙ hit_walk e n (used_width u) u (count_of u) (2 + used_width u) 0
+    ∙ ap (λ (j : ℕ). cond (holds e n (entries e u)) (Some (record { index = j; at = place_of e (seek e n (entries e u)) u; target = target_in e n (entries e u); tag = tag_in e n (entries e u) })) None) z
 
 -- what an answer of the search tells
 found_or : Hit → Option Hit → Hit

@@ -59,7 +59,7 @@ module _ (e : Edition) (w : ℕ) (u : List ℕ) where
   unfolding enough
   enough_lies k at f = leb-true (start (size_at e w u) k at) (length u) f
 
-  lies_enough : (k at : ℕ) → start (size_at e w u) k at ≤ length u → enough e w u k at ≡ true
+  pub lies_enough : (k at : ℕ) → start (size_at e w u) k at ≤ length u → enough e w u k at ≡ true
   unfolding enough
   lies_enough k at h = le-leb (start (size_at e w u) k at) (length u) h
 

@@ -12,10 +12,12 @@ use borrow.Author.Tests.{le-leb, lt-leb, eq-eqb, ne_eqb, not-true, not-false}
 use Rattle.be.specs.Bytes.{field}
 use Rattle.be.proofs.Bools.{by_cases, and_left}
 use Rattle.edition.specs.declared.Edition.{Edition}
-use Rattle.dir_sf.specs.Entry.{width_of, entries_in, wides_of}
+use Rattle.dir_sf.specs.Entry.{width_of, wides_of}
 use Rattle.dir_sf.specs.Fork.{count_of, stored_wides, used_width, parent, entries, span_ok, tile_ok, names_ok, numbers_ok, once_ok, used_verdict, fork_verdict}
 use Rattle.dir_sf.specs.Inner.{enough, tiles}
+use Rattle.dir_sf.specs.Left.{placed_in, bare}
 use Rattle.dir_sf.proofs.Run.{filled_enough}
+use Rattle.dir_sf.proofs.Turn.{bare_is}
 use Rattle.dir_sf.proofs.Listed.{entries_is, parent_is}
 
 pub tiles_enough : (e : Edition) (w told all low : ℕ) (u : List ℕ) (k at : ℕ) (t : Bool) → t ≡ tiles e w told all low u k at → not t ≡ false → enough e w u k at ≡ true
@@ -28,8 +30,8 @@ module _ (e : Edition) (u : List ℕ) (told k wides w : ℕ) (a : k ≡ get_or u
   unfolding used_width stored_wides
   width_is = ap width_of (sym b)
 
-  all_is : entries e u ≡ entries_in e (width_of wides) u k (2 + w)
-  all_is = entries_is e u k wides w a b c
+  all_is : entries e u ≡ bare (placed_in e (width_of wides) u k (2 + w))
+  all_is = entries_is e u k wides w a b c ∙ sym (bare_is e (width_of wides) u k (2 + w))
 
   tile_is : tile_ok e told u ≡ tiles e (width_of wides) told k e.first u k (2 + w)
   unfolding tile_ok tiles entries count_of
@@ -40,7 +42,7 @@ module _ (e : Edition) (u : List ℕ) (told k wides w : ℕ) (a : k ≡ get_or u
     unfolding used_verdict
     verdict_5 f = sym (rw (tile_is ∙ sym h₅ ∙ not-true t₅ f) refl)
 
-    module _ (g₅ : not t₅ ≡ false) (t₆ : Bool) (h₆ : t₆ ≡ names_ok e (entries_in e (width_of wides) u k (2 + w))) where
+    module _ (g₅ : not t₅ ≡ false) (t₆ : Bool) (h₆ : t₆ ≡ names_ok e (bare (placed_in e (width_of wides) u k (2 + w)))) where
       five : tile_ok e told u ≡ true
       five = tile_is ∙ sym h₅ ∙ not-false t₅ g₅
 
@@ -52,7 +54,7 @@ module _ (e : Edition) (u : List ℕ) (told k wides w : ℕ) (a : k ≡ get_or u
       verdict_6 f = sym (rw (five, six_is ∙ not-true t₆ f) refl)
 
       module _ (g₆ : not t₆ ≡ false) (p : ℕ) (hp : p ≡ field 2 (width_of wides) u) (t₇ : Bool)
-          (h₇ : t₇ ≡ numbers_ok p (entries_in e (width_of wides) u k (2 + w))) where
+          (h₇ : t₇ ≡ numbers_ok p (bare (placed_in e (width_of wides) u k (2 + w)))) where
         seven_is : numbers_ok (parent u) (entries e u) ≡ t₇
         seven_is = ap₂ numbers_ok (sym (parent_is u wides p b hp)) all_is ∙ sym h₇
 
@@ -60,7 +62,7 @@ module _ (e : Edition) (u : List ℕ) (told k wides w : ℕ) (a : k ≡ get_or u
         unfolding used_verdict
         verdict_7 f = sym (rw (five, six_is ∙ not-false t₆ g₆, seven_is ∙ not-true t₇ f) refl)
 
-        module _ (g₇ : not t₇ ≡ false) (n : ℕ) (h₈ : n ≡ wides_of p (entries_in e (width_of wides) u k (2 + w))) where
+        module _ (g₇ : not t₇ ≡ false) (n : ℕ) (h₈ : n ≡ wides_of p (bare (placed_in e (width_of wides) u k (2 + w)))) where
           counted : wides_of (parent u) (entries e u) ≡ n
           counted = ap₂ wides_of (sym (parent_is u wides p b hp)) all_is ∙ sym h₈
 
@@ -68,7 +70,7 @@ module _ (e : Edition) (u : List ℕ) (told k wides w : ℕ) (a : k ≡ get_or u
           unfolding used_verdict stored_wides
           verdict_8 f = sym (rw (five, six_is ∙ not-false t₆ g₆, seven_is ∙ not-false t₇ g₇, counted, ← b, ne_eqb wides n f) refl)
 
-          module _ (g₈ : wides ≡ n) (t₁₀ : Bool) (h₁₀ : t₁₀ ≡ once_ok e (entries_in e (width_of wides) u k (2 + w))) where
+          module _ (g₈ : wides ≡ n) (t₁₀ : Bool) (h₁₀ : t₁₀ ≡ once_ok e (bare (placed_in e (width_of wides) u k (2 + w)))) where
             ten_is : once_ok e (entries e u) ≡ t₁₀
             ten_is = ap (once_ok e) all_is ∙ sym h₁₀
 

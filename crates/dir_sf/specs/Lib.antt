@@ -5,3 +5,4 @@ pub mod Inode
 pub mod Walk
 pub mod Inner
 pub mod Laws
+pub mod Left

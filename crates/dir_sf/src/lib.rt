@@ -65,25 +65,133 @@ pub struct Spot {
     pub at: usize,
 }
 
-// The first entry of a name among the k from `at` on; past them all where there is none.
-fn find<'a, 'b>(e: Edition, u: &'a [u8], at: usize, k: usize, wides: usize, name: &'b [u8]) -> Spot
-    requires { Sane e × (at ≤ length u.now) × (enough e (width_of wides) u.now k at ≡ true) }
-    ensures { (result.index ≡ seek e name.now (entries_in e (width_of wides) u.now k at))
-        × (result.at ≡ start (size_at e (width_of wides) u.now) result.index at) }
-{
-    let mut i = 0;
-    let mut p = at;
-    let w = rest(e, wides);
-    while i < k {
-        let n = namelen(e, u, p, wides);
-        let end = p + 3 + n;
-        if name::matches(e, name, &u[p + 3..end]) {
-            return Spot { index: i, at: p };
+// An entry as it is stored: where it starts, its tag, its name, and what that stands for.
+#[derive(Clone, Copy)]
+pub struct StoredEntry<'a> {
+    pub at: usize,
+    pub tag: usize,
+    pub name: &'a [u8],
+    pub target: Target,
+    pub ghost tagged: { tag < 65536 },
+    pub ghost short: { length name.now < 256 },
+}
+
+// Entries that lie end to end in used bytes: those that are left, the first of them at `at`.
+#[derive(Clone, Copy)]
+pub struct Entries<'a> {
+    pub edition: Edition,
+    pub bytes: &'a [u8],
+    pub wides: usize,
+    pub at: usize,
+    pub left: usize,
+    pub ghost sane: { Sane edition },
+    pub ghost lie: { enough edition (width_of wides) bytes.now left at ≡ true },
+}
+
+impl<'a> Iterator for Entries<'a> {
+    ghost use Rattle.std.specs.Iterator.{item_count};
+    ghost use Rattle.dir_sf.specs.Left.{left, Gives};
+
+    type Item = StoredEntry<'a>;
+
+    ghost next_gives = { Gives };
+
+    ghost remaining = { item_count left };
+
+    fn next(&mut self) -> Option<StoredEntry<'a>> {
+        if self.left == 0 {
+            return None;
         }
-        p = end + w;
-        i += 1;
+        let at = self.at;
+        let n = namelen(self.edition, self.bytes, at, self.wides);
+        let end = at + 3 + n;
+        let tag = be::be16(self.bytes, at + 1);
+        let target = target_at(self.edition, self.bytes, end, self.wides);
+        self.at = end + rest(self.edition, self.wides);
+        self.left -= 1;
+        Some(StoredEntry {
+            at,
+            tag,
+            name: &self.bytes[at + 3..end],
+            target,
+        })
     }
-    Spot { index: i, at: p }
+}
+
+impl<'a> Entries<'a> {
+    ghost use Rattle.dir_sf.specs.Left.{left, placed, bare, first_hit};
+
+    // Those of used bytes that pass the tests.
+    pub fn of(e: Edition, u: &'a [u8]) -> Entries<'a>
+        requires { Sane e × Readable e u.now }
+        ensures { (result.edition ≡ e) × (left result ≡ placed e u.now) }
+    {
+        let wides = be::be8(u, 1);
+        Entries {
+            edition: e,
+            bytes: u,
+            wides,
+            at: 2 + width(wides),
+            left: be::be8(u, 0),
+        }
+    }
+
+    // The first entry of a name.
+    fn find(self, name: &[u8]) -> Option<Hit>
+        ensures { result ≡ first_hit self.entry.edition name.now 0 (left self.entry) }
+    {
+        let e = self.edition;
+        for (index, x) in self.enumerate() {
+            if name::matches(e, name, x.name) {
+                return Some(Hit {
+                    index,
+                    at: x.at,
+                    target: x.target,
+                    tag: x.tag,
+                });
+            }
+        }
+        None
+    }
+
+    // NAME.
+    fn named(mut self) -> bool
+        ensures { result ≡ names_ok self.entry.edition (bare (left self.entry)) }
+    {
+        let e = self.edition;
+        self.all(|x| storable(e, x.name))
+    }
+
+    // NUMBER, of a parent and the entries.
+    fn numbered(mut self, parent: u64) -> bool
+        ensures { result ≡ numbers_ok parent (bare (left self.entry)) }
+    {
+        name::number_legal(parent) && self.all(|x| name::number_legal(x.target.inode))
+    }
+
+    // How many numbers are wide, the parent's among them.
+    fn count_wide(self, parent: u64) -> usize
+        requires { self.left < 256 }
+        ensures { result ≡ wides_of parent (bare (left self.entry)) }
+    {
+        let mut c = one_if_wide(parent);
+        for x in self {
+            c += one_if_wide(x.target.inode);
+        }
+        c
+    }
+
+    // TWICE.
+    fn once(mut self) -> bool
+        ensures { result ≡ once_ok self.entry.edition (bare (left self.entry)) }
+    {
+        while let Some(x) = self.next() {
+            if self.find(x.name).is_some() {
+                return false;
+            }
+        }
+        true
+    }
 }
 
 // What stands behind a name that ends at an offset: file type and number.
@@ -103,11 +211,10 @@ fn tiled(e: Edition, u: &[u8], at: usize, k: usize, wides: usize, told: usize) -
     requires { Sane e × (at ≤ length u.now) × (k < 256) }
     ensures { result ≡ tiles e (width_of wides) told k e.first u.now k at }
 {
-    let mut i = 0;
     let mut p = at;
     let mut low = e.first;
     let w = rest(e, wides);
-    while i < k {
+    for _ in 0..k {
         if u.len() - p < 3 + w {
             return false;
         }
@@ -124,7 +231,6 @@ fn tiled(e: Edition, u: &[u8], at: usize, k: usize, wides: usize, told: usize) -
         }
         low = tag + edition::entry_size(e, n);
         p = p + 3 + n + w;
-        i += 1;
     }
     if p != u.len() {
         return false;
@@ -139,46 +245,6 @@ fn storable(e: Edition, s: &[u8]) -> bool
     name::legal(e, s) & !name::fixed(s)
 }
 
-// NAME.
-fn named(e: Edition, u: &[u8], at: usize, k: usize, wides: usize) -> bool
-    requires { Sane e × (at ≤ length u.now) × (enough e (width_of wides) u.now k at ≡ true) }
-    ensures { result ≡ names_ok e (entries_in e (width_of wides) u.now k at) }
-{
-    let mut i = 0;
-    let mut p = at;
-    let w = rest(e, wides);
-    while i < k {
-        let n = namelen(e, u, p, wides);
-        let end = p + 3 + n;
-        if !storable(e, &u[p + 3..end]) {
-            return false;
-        }
-        p = end + w;
-        i += 1;
-    }
-    true
-}
-
-// NUMBER, of a parent and the entries.
-fn numbered(e: Edition, u: &[u8], parent: u64, at: usize, k: usize, wides: usize) -> bool
-    requires { Sane e × (at ≤ length u.now) × (enough e (width_of wides) u.now k at ≡ true) }
-    ensures { result ≡ numbers_ok parent (entries_in e (width_of wides) u.now k at) }
-{
-    let mut i = 0;
-    let mut p = at;
-    let w = rest(e, wides);
-    while i < k {
-        let n = namelen(e, u, p, wides);
-        let end = p + 3 + n;
-        if !name::number_legal(number(u, end + e.ftype, wides)) {
-            return false;
-        }
-        p = end + w;
-        i += 1;
-    }
-    name::number_legal(parent)
-}
-
 // 1 for a number that takes 8 bytes, else 0.
 pub fn one_if_wide(i: u64) -> usize
     ensures { (result ≡ cond (is_wide i) 1 0) × (result ≤ 1) }
@@ -187,48 +253,6 @@ pub fn one_if_wide(i: u64) -> usize
         return 1;
     }
     0
-}
-
-// How many numbers are wide, the parent's among them.
-fn count_wide(e: Edition, u: &[u8], parent: u64, at: usize, k: usize, wides: usize) -> usize
-    requires { Sane e × (at ≤ length u.now) × (k < 256) × (enough e (width_of wides) u.now k at ≡ true) }
-    ensures { result ≡ wides_of parent (entries_in e (width_of wides) u.now k at) }
-{
-    let mut i = 0;
-    let mut p = at;
-    let mut c = 0;
-    let w = rest(e, wides);
-    while i < k {
-        let n = namelen(e, u, p, wides);
-        let end = p + 3 + n;
-        c = c + one_if_wide(number(u, end + e.ftype, wides));
-        p = end + w;
-        i += 1;
-    }
-    c + one_if_wide(parent)
-}
-
-// TWICE.
-fn once(e: Edition, u: &[u8], at: usize, k: usize, wides: usize) -> bool
-    requires { Sane e × (at ≤ length u.now) × (enough e (width_of wides) u.now k at ≡ true) }
-    ensures { result ≡ once_ok e (entries_in e (width_of wides) u.now k at) }
-{
-    let mut i = 0;
-    let mut p = at;
-    let w = rest(e, wides);
-    while i < k {
-        let n = namelen(e, u, p, wides);
-        let end = p + 3 + n;
-        let next = end + w;
-        let left = k - (i + 1);
-        let s = find(e, u, next, left, wides, &u[p + 3..end]);
-        if s.index < left {
-            return false;
-        }
-        p = next;
-        i += 1;
-    }
-    true
 }
 
 // Tests 5 to 10 of the used bytes.
@@ -242,17 +266,24 @@ fn check_used(e: Edition, u: &[u8], told: usize) -> Result<(), Refusal>
     if !tiled(e, u, at, k, wides, told) {
         return Err(Refusal::Tile);
     }
-    if !named(e, u, at, k, wides) {
+    let entries = Entries {
+        edition: e,
+        bytes: u,
+        wides,
+        at,
+        left: k,
+    };
+    if !entries.named() {
         return Err(Refusal::Name);
     }
     let parent = number(u, 2, wides);
-    if !numbered(e, u, parent, at, k, wides) {
+    if !entries.numbered(parent) {
         return Err(Refusal::Number);
     }
-    if wides != count_wide(e, u, parent, at, k, wides) {
+    if wides != entries.count_wide(parent) {
         return Err(Refusal::Index);
     }
-    if !once(e, u, at, k, wides) {
+    if !entries.once() {
         return Err(Refusal::Twice);
     }
     Ok(())
@@ -335,19 +366,7 @@ pub fn seek_name<'a, 'b>(e: Edition, u: &'a [u8], name: &'b [u8]) -> Option<Hit>
     requires { Sane e × Readable e u.now }
     ensures { result ≡ hits e name.now u.now }
 {
-    let k = be::be8(u, 0);
-    let wides = be::be8(u, 1);
-    let s = find(e, u, 2 + width(wides), k, wides, name);
-    if s.index == k {
-        return None;
-    }
-    let n = namelen(e, u, s.at, wides);
-    Some(Hit {
-        index: s.index,
-        at: s.at,
-        target: target_at(e, u, s.at + 3 + n, wides),
-        tag: be::be16(u, s.at + 1),
-    })
+    Entries::of(e, u).find(name)
 }
 
 // Where the entry after the one at a place starts.
@@ -421,9 +440,8 @@ fn step_over(e: Edition, u: &[u8], place: usize) -> Result<Step, Refusal>
     let k = be::be8(u, 0);
     let wides = be::be8(u, 1);
     let w = rest(e, wides);
-    let mut i = 0;
     let mut p = 2 + width(wides);
-    while i < k {
+    for _ in 0..k {
         let n = namelen(e, u, p, wides);
         let end = p + 3 + n;
         if place == p {
@@ -442,7 +460,6 @@ fn step_over(e: Edition, u: &[u8], place: usize) -> Result<Step, Refusal>
             });
         }
         p = end + w;
-        i += 1;
     }
     if place == p {
         return Ok(Step {

@@ -11,8 +11,9 @@ tiled-requires c = (search rules, search (rules, header_in), search rules)
 pub returns-then-not-tiled : goal.returns-then-not-tiled
 returns-then-not-tiled c = search (rules, verdict_5)
 
-pub named-requires : goal.named-requires
-named-requires c = (search rules, search (rules, header_in), search (rules, tiles_enough))
+pub invariant_of-entries : goal.invariant_of-entries
+invariant_of-entries c =
+    record { sane = c.requires.0; lie = tiles_enough _ _ _ _ _ _ _ _ _ c.tiled.ensures (ap not c.if-not-tiled.false) }
 
 pub returns-then-not-named : goal.returns-then-not-named
 returns-then-not-named c = search (rules, verdict_6)
@@ -20,20 +21,11 @@ returns-then-not-named c = search (rules, verdict_6)
 pub number-parent-requires : goal.number-parent-requires
 number-parent-requires c = search (rules, parent_in)
 
-pub numbered-requires : goal.numbered-requires
-numbered-requires c = (search rules, search (rules, header_in), search (rules, tiles_enough))
-
 pub returns-then-not-numbered : goal.returns-then-not-numbered
 returns-then-not-numbered c = search (rules, verdict_7)
 
-pub count_wide-requires : goal.count_wide-requires
-count_wide-requires c = (search rules, search (rules, header_in), search rules, tiles_enough _ _ _ _ _ _ _ _ _ c.tiled.ensures (ap not c.if-not-tiled.false))
-
 pub returns-then-wides-count_wide : goal.returns-then-wides-count_wide
 returns-then-wides-count_wide c = search (rules, verdict_8)
-
-pub once-requires : goal.once-requires
-once-requires c = (search rules, search (rules, header_in), tiles_enough _ _ _ _ _ _ _ _ _ c.tiled.ensures (ap not c.if-not-tiled.false))
 
 pub returns-then-not-once : goal.returns-then-not-once
 returns-then-not-once c = search (rules, verdict_10)

@@ -1,10 +1,7 @@
-use Prim.Native.Nat.{◌-◌, ◌+◌}
+use Prim.Native.Nat.{◌+◌}
 use Rattle.dir_sf.specs.Entry.{width_of}
 use Rattle.dir_sf.proofs.Walks.{Walk}
 use Rattle.dir_sf.proofs.step_over.Given as goal
 
-abbrev pub invariant-loop-i : goal.invariant-loop-i
-invariant-loop-i l = Walk l.e (width_of l.wides) l.u (2 + width_of l.wides) l.k l.place l.i l.p
-
-abbrev pub decreases-loop-i : goal.decreases-loop-i
-decreases-loop-i l = l.k - l.i
+abbrev pub invariant-loop : goal.invariant-loop
+invariant-loop l = Walk l.e (width_of l.wides) l.u (2 + width_of l.wides) l.k l.place l.counter l.p

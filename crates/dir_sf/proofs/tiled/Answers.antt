@@ -2,8 +2,8 @@ use borrow.Author.Rules.{rules}
 use Rattle.dir_sf.proofs.Tests.{tile_start, tile_none, tile_short, tile_odd, tile_low, tile_on, tile_over, tile_done}
 use Rattle.dir_sf.proofs.tiled.Goals as goal
 
-pub loop-i-init : goal.loop-i-init
-loop-i-init c = search (rules, tile_start)
+pub loop-init : goal.loop-init
+loop-init c = search (rules, tile_start)
 
 pub returns-then-u-p : goal.returns-then-u-p
 returns-then-u-p c = search (rules, tile_none)
@@ -17,8 +17,8 @@ returns-then-tag-ne0 c = search (rules, tile_odd)
 pub returns-then-tag-low : goal.returns-then-tag-low
 returns-then-tag-low c = search (rules, tile_low)
 
-pub loop-i-preserved : goal.loop-i-preserved
-loop-i-preserved c = search (rules, tile_on)
+pub loop-preserved : goal.loop-preserved
+loop-preserved c = search (rules, tile_on)
 
 pub returns-then-p-u : goal.returns-then-p-u
 returns-then-p-u c = search (rules, tile_over)
