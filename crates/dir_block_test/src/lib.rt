@@ -7,12 +7,12 @@ ghost use Rattle.std.specs.Bool.{beq};
 ghost use Rattle.be.specs.Bytes.{byte, field, part};
 ghost use Rattle.be.specs.Words.{le};
 ghost use Rattle.edition.specs.Edition.{v4, Sane};
-ghost use Rattle.refusal.specs.Refusal.{code};
+ghost use Rattle.refusal.specs.Refusal.{number, code};
 ghost use Rattle.name.specs.Name.{legal_name};
 ghost use Rattle.dir_block_rules.specs.Record.{says, gaps, entries};
 ghost use Rattle.dir_block_rules.specs.Verdict.{pair, number_fits, best_pairs, best_ok, index_ok, verdict};
 ghost use Rattle.dir_block_twice.specs.Twice.{slots_from};
-ghost use Rattle.dir_block_test.specs.Passes.{rest, whole_len, ordered_with, level, slot_word, cells_of, hint, name_fits, fault_at, own_at, best_left, which, Surveys, Faulted, after_index, after_tile, after_span, Parts, DataTiled};
+ghost use Rattle.dir_block_test.specs.Passes.{rest, whole_len, ordered_with, level, slot_word, cells_of, hint, name_fits, fault_at, own_at, best_left, which, fault_of, Surveyed, Faulted, after_index, after_tile, after_span, Parts, DataTiled};
 
 use edition::{Edition, V4};
 use refusal::Refusal;
@@ -40,26 +40,26 @@ fn rec_len(e: Edition, b: &[u8], o: usize, t: usize) -> usize
     edition::entry_size(e, be::be8(b, o + 8))
 }
 
-// How long the record at o is, if it is whole; else 0.
-fn whole_len(e: Edition, b: &[u8], o: usize, t: usize) -> usize
+// How long the record at o is, if it is whole.
+fn whole_len(e: Edition, b: &[u8], o: usize, t: usize) -> Option<usize>
     requires sane { Sane e }
     requires o_bound { (o + 8 ≤ t) × (t ≤ length b.now) }
     ensures { result ≡ whole_len e (part o (t - o) b.now) o }
 {
     let n = rec_len(e, b, o, t);
     if n < 8 {
-        return 0;
+        return None;
     }
     if t - o < n {
-        return 0;
+        return None;
     }
     if n % 8 != 0 {
-        return 0;
+        return None;
     }
     if be::be16(b, o + n - 2) != o {
-        return 0;
+        return None;
     }
-    n
+    Some(n)
 }
 
 // Stores the word of a hash and an address in the address's cell, if the table has it.
@@ -95,12 +95,11 @@ fn slots<'a, 'b>(b: &'a [u8], t: usize, n: usize, m: usize, cells: &'b mut [u64]
     ensures { (result.good ≡ ordered_with 0 0 m (slots_from b.now t n 0)) × (result.equal ≡ level 0 (slots_from b.now t n 0))
         × (cells.new ≡ cells_of b.now t cells.old n) }
 {
-    let mut i = 0;
     let mut last = 0;
     let mut stale = 0;
     let mut good = true;
     let mut equal = false;
-    while i < n {
+    for i in 0..n {
         let h = dir_block_twice::slot_hash(b, t, i);
         let a = dir_block_twice::slot_addr(b, t, i);
         keep(cells, a, h);
@@ -108,7 +107,6 @@ fn slots<'a, 'b>(b: &'a [u8], t: usize, n: usize, m: usize, cells: &'b mut [u64]
         equal = equal | (last == h);
         stale += ones(a == 0);
         last = h;
-        i += 1;
     }
     Run {
         good: good & (stale == m),
@@ -165,44 +163,47 @@ fn number_fits(e: Edition, b: &[u8], o: usize, s: &[u8], own: u64) -> bool
     name::fixed(s)
 }
 
-// No test failed: above every refusal, so that the lowest fault counts.
-const NO_FAULT: usize = 16;
-
-const NAME: usize = Refusal::Name as usize;
-
-const NUMBER: usize = Refusal::Number as usize;
-
-const INDEX: usize = Refusal::Index as usize;
-
 // The first test that the entry at o fails: NAME, NUMBER or INDEX. The number of "." is the word `own`.
-fn entry_fault(e: Edition, b: &[u8], o: usize, t: usize, cells: &[u64], own: u64) -> usize
+fn entry_fault(e: Edition, b: &[u8], o: usize, t: usize, cells: &[u64], own: u64) -> Option<Refusal>
     requires sane { Sane e }
     requires header_in_bounds { (e.header + 8 ≤ length b.now) × (own ≡ le (part e.header 8 b.now)) }
     requires t_in_bounds { (t + 8 ≤ length b.now) × (t < 65536) × (t ≤ 8 * length cells.now) × (o + 9 + byte (o + 8) b.now ≤ t) }
-    ensures { result ≡ fault_at e (own_at e b.now) (hint cells.now) b.now o }
+    ensures { fault_of result ≡ fault_at e (own_at e b.now) (hint cells.now) b.now o }
 {
     let from = o + 9;
     let end = from + be::be8(b, o + 8);
     let c = name_words::check_in(e, b, from, end);
     if !name_fits(e, c.legal, &b[from..end], o) {
-        return NAME;
+        return Some(Refusal::Name);
     }
     if !number_fits(e, b, o, &b[from..end], own) {
-        return NUMBER;
+        return Some(Refusal::Number);
     }
     if has_slot(cells, c.hash, o / 8) {
-        return NO_FAULT;
+        return None;
     }
-    INDEX
+    Some(Refusal::Index)
 }
 
-fn lower(x: usize, y: usize) -> usize
-    ensures { result ≡ min x y }
+// The fault of the test that comes first.
+fn first_fault(x: Option<Refusal>, y: Option<Refusal>) -> Option<Refusal>
+    ensures { fault_of result ≡ min (fault_of x) (fault_of y) }
 {
-    if y < x {
-        return y;
+    match (x, y) {
+        (Some(r), Some(s)) => { if s < r { y } else { x } }
+        (Some(_), None) => x,
+        (None, _) => y,
     }
-    x
+}
+
+// Whether a fault is that of the test r, or of one before it.
+fn fails(fault: Option<Refusal>, r: Refusal) -> bool
+    ensures { result ≡ leb (fault_of fault) (number r) }
+{
+    match fault {
+        Some(x) => x <= r,
+        None => false,
+    }
 }
 
 // A pair of the best-gap table.
@@ -238,26 +239,16 @@ fn which(o: usize, n: usize, p: Best, q: Best, s: Best) -> usize
     4
 }
 
-// What the pass over the records shows: n is 0 if the data is not tiled, else one more than it has entries; w is the lowest fault of
-// their names, numbers and slots; best says whether the pairs name the longest gaps.
+// What the pass over tiled records shows: how many entries there are; the first test that one of their names, numbers and slots fails;
+// whether the pairs name the longest gaps.
 #[derive(Clone, Copy)]
 struct Survey {
-    n: usize,
-    w: usize,
+    entries: usize,
+    fault: Option<Refusal>,
     best: bool,
 }
 
-fn untiled() -> Survey
-    ensures { result.n ≡ 0 }
-{
-    Survey {
-        n: 0,
-        w: 0,
-        best: false,
-    }
-}
-
-// Goes over the records up to t, where x0, y0 and z0 say which pairs need not name a gap.
+// Goes over the records up to t, where x0, y0 and z0 say which pairs need not name a gap. Records that are not tiled show nothing.
 fn walk(
     e: Edition,
     b: &[u8],
@@ -269,38 +260,34 @@ fn walk(
     x0: bool,
     y0: bool,
     z0: bool,
-) -> Survey
+) -> Option<Survey>
     requires sane { Sane e }
     requires t_in_bounds { (t + 8 ≤ length b.now) × (t < 65536) × (t % 8 ≡ 0) × (e.header ≤ t) × (t ≤ 8 * length cells.now) }
-    ensures { Surveys e (own_at e b.now) (hint cells.now) (rest e b.now t (length b.now) e.header)
+    ensures { Surveyed e (own_at e b.now) (hint cells.now) (rest e b.now t (length b.now) e.header)
         (best_left x0 y0 z0 (pair p.from p.long) (pair q.from q.long) (pair s.from s.long)
         (gaps (rest e b.now t (length b.now) e.header)))
-        result.n result.w result.best }
+        result }
 {
     let own = be::le64(b, e.header);
     let mut o = e.header;
     let mut after = false;
-    let mut n = 1;
-    let mut w = NO_FAULT;
+    let mut entries = 0;
+    let mut fault = None;
     let mut x = x0;
     let mut y = y0;
     let mut z = z0;
     let mut best = true;
     while o < t {
+        let len = whole_len(e, b, o, t)?;
         if !is_gap(b, o) {
-            let len = whole_len(e, b, o, t);
-            if len == 0 {
-                return untiled();
-            }
-            w = lower(w, entry_fault(e, b, o, t, cells, own));
-            n += 1;
+            fault = first_fault(fault, entry_fault(e, b, o, t, cells, own));
+            entries += 1;
             after = false;
             o += len;
             continue;
         }
-        let len = whole_len(e, b, o, t);
-        if (len == 0) | after {
-            return untiled();
+        if after {
+            return None;
         }
         let k = which(o, len, p, q, s);
         best = best & (k != 0);
@@ -310,11 +297,11 @@ fn walk(
         after = true;
         o += len;
     }
-    Survey {
-        n,
-        w,
+    Some(Survey {
+        entries,
+        fault,
         best: best & (x & (y & z)),
-    }
+    })
 }
 
 // The pair at o.
@@ -386,32 +373,31 @@ fn test_entries(
     t: usize,
     n: usize,
     m: usize,
-    live: usize,
     run: Run,
-    w: usize,
+    survey: Survey,
     best: bool,
 ) -> Result<(), Refusal>
     requires sane { Sane e }
-    requires data_tiled { DataTiled e b.now t n × (m ≤ n) × (live ≡ length (entries (rest e b.now t (length b.now) e.header)))
+    requires data_tiled { DataTiled e b.now t n × (m ≤ n) × (survey.entries ≡ length (entries (rest e b.now t (length b.now) e.header)))
         × (run.good ≡ ordered_with 0 0 m (slots_from b.now t n 0)) × (run.equal ≡ level 0 (slots_from b.now t n 0))
-        × Faulted e b.now t n w
+        × Faulted e b.now t n (fault_of survey.fault)
         × (best ≡ best_ok (best_pairs e b.now) (gaps (rest e b.now t (length b.now) e.header))) }
     ensures { code result ≡ after_tile e b.now (rest e b.now t (length b.now) e.header)
         (slots_from b.now t n 0) m }
 {
-    if w <= NAME {
+    if fails(survey.fault, Refusal::Name) {
         return Err(Refusal::Name);
     }
     if !(entry_at(b, e.header, t) & entry_at(b, e.header + 16, t)) {
         return Err(Refusal::Name);
     }
-    if w <= NUMBER {
+    if fails(survey.fault, Refusal::Number) {
         return Err(Refusal::Number);
     }
-    if !(run.good & (n - m == live)) {
+    if !(run.good & (n - m == survey.entries)) {
         return Err(Refusal::Index);
     }
-    if w <= INDEX {
+    if fails(survey.fault, Refusal::Index) {
         return Err(Refusal::Index);
     }
     test_best(e, b, t, n, m, best, run.equal)
@@ -435,7 +421,7 @@ fn test_data_with<'a, 'b>(
     let p = pair_at(b, e.best);
     let q = pair_at(b, e.best + 4);
     let s = pair_at(b, e.best + 8);
-    let r = walk(
+    let Some(survey) = walk(
         e,
         b,
         t,
@@ -446,11 +432,10 @@ fn test_data_with<'a, 'b>(
         is_zero(p),
         is_zero(q),
         is_zero(s),
-    );
-    if r.n == 0 {
+    ) else {
         return Err(Refusal::Tile);
-    }
-    test_entries(e, b, t, n, m, r.n - 1, run, r.w, best_fits(p, q, s, r.best))
+    };
+    test_entries(e, b, t, n, m, run, survey, best_fits(p, q, s, survey.best))
 }
 
 // The table has a cell for every 8 bytes up to the data's end. Clearing that of the largest block would show in the test of a small one:

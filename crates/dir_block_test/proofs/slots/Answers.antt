@@ -12,9 +12,6 @@ keep-requires c = (c.slot_addr-a.ensures.1, c.slot_hash-h.ensures.1)
 pub overflow_add-stale : goal.overflow_add-stale
 overflow_add-stale c = omega (arith, c.loop-i.invariant.0.few, c.loop-i.invariant.0.within, c.ones-stale.ensures.1)
 
-pub overflow_add-i : goal.overflow_add-i
-overflow_add-i c = omega (arith, c.loop-i.invariant.0.within)
-
 pub loop-i-preserved : goal.loop-i-preserved
 loop-i-preserved c =
     let l = c.loop-i.invariant in (
