@@ -6,7 +6,7 @@ use native.Mathlib.Omega.{arith}
 use mathlib.Core.Bool.{Bool, true, false, not, ◌&&◌, ◌||◌, and_assoc}
 use mathlib.Core.Path.{◌≡◌, refl, sym, ◌∙◌, ap, subst}
 use mathlib.Core.List.{List, [], ◌∷◌}
-use lib.Dec.{eqb}
+use lib.Dec.{eqb, leb}
 use Rattle.std.specs.Prelude.{Option, Some, None}
 use Rattle.refusal.specs.declared.Refusal.{Refusal}
 use lib.ListN.{length, get_or}
@@ -18,7 +18,7 @@ use Rattle.dir_block_rules.specs.Verdict.{Pair}
 use Rattle.dir_block_test.specs.Passes.{no_fault, rest, whole_len, tile_from, worst, fault_at, fault_of, which, best_left, Surveyed}
 use Rattle.dir_block_test.proofs.TileWalk.{Head, head, rest_head, rest_end, head_gap, tile_broken, tile_entry, tile_gap, tile_touch, count_entry, count_gap}
 use Rattle.dir_block_test.proofs.EntryWalk.{worst_start, worst_end, worst_on, fault_entry, fault_gap, entry_fits}
-use Rattle.dir_block_test.proofs.BestPass.{best_met, best_end}
+use Rattle.dir_block_test.proofs.BestPass.{met_named, met_other, best_end}
 
 module _ (e : Edition) (b : List ℕ) (t a own : ℕ) (f : ℕ → ℕ → Bool) (p q s : Pair) (x0 y0 z0 : Bool) where
   abbrev pub all : List Rec
@@ -129,22 +129,30 @@ module _ (e : Edition) (b : List ℕ) (t a own : ℕ) (f : ℕ → ℕ → Bool)
             pub walking_touch : g ≡ true → tile_from e false all ≡ false
             walking_touch v = tiles_now ∙ tile_touch e b t o lo hi g (k.fuel - 1) m hd gg v
 
-            pub walking_gap : g ≡ false → (i : ℕ) → i ≡ which o m p q s
-                → Walking (o + m) true n w (x || eqb i 1) (y || eqb i 2) (z || eqb i 3) (good && not (eqb i 0))
-            walking_gap gf i is =
-                let long : length (part o m b) ≡ m = part_length o m b (omega (arith, hd.fits)) in
-                let kept : w ≡ min w no_fault = omega (arith, k.most) in
-                let met : best_left x y z p q s (R ∷ gaps rs) ≡ (not (eqb i 0) && best_left (x || eqb i 1) (y || eqb i 2) (z || eqb i 3) p q s (gaps rs)) =
-                best_met p q s x y z o m i is R refl long (gaps rs) in
-                record {
-                  within = hd.fits;
-                  eights = omega (arith, k.eights, hd.eights);
-                  few = omega (arith, k.few);
-                  most = k.most;
-                  fuel = k.fuel - 1;
-                  enough = omega (arith, k.enough, hd.least);
-                  tiles = tiles_now ∙ tile_gap e b t o lo hi g (k.fuel - 1) m hd gg gf;
-                  counts = counts_now ∙ ap (λ (j : ℕ). n + j) (count_gap e b t o lo hi g (k.fuel - 1) m hd gg);
-                  faults = worst_on e own f all w w no_fault R (fault_gap e b t o m lo hi hd own f gg) kept rs faults_now;
-                  bests = bests_now ∙ rw (gap_is ∙ gg, met) (sym (and_assoc good (not (eqb i 0)) (best_left (x || eqb i 1) (y || eqb i 2) (z || eqb i 3) p q s (gaps rs))));
-                }
+            module _ (gf : g ≡ false) where
+              long : length (part o m b) ≡ m
+              long = part_length o m b (omega (arith, hd.fits))
+
+              -- what is kept of the pairs, when the gap is met
+              met : (x' y' z' good' : Bool) → bests_all ≡ (good' && best_left x' y' z' p q s (gaps rs)) → Walking (o + m) true n w x' y' z' good'
+              met x' y' z' good' h =
+                  let kept : w ≡ min w no_fault = omega (arith, k.most) in record {
+                    within = hd.fits;
+                    eights = omega (arith, k.eights, hd.eights);
+                    few = omega (arith, k.few);
+                    most = k.most;
+                    fuel = k.fuel - 1;
+                    enough = omega (arith, k.enough, hd.least);
+                    tiles = tiles_now ∙ tile_gap e b t o lo hi g (k.fuel - 1) m hd gg gf;
+                    counts = counts_now ∙ ap (λ (j : ℕ). n + j) (count_gap e b t o lo hi g (k.fuel - 1) m hd gg);
+                    faults = worst_on e own f all w w no_fault R (fault_gap e b t o m lo hi hd own f gg) kept rs faults_now;
+                    bests = h;
+                  }
+
+              pub walking_named : (i : ℕ) → Some i ≡ which o m p q s → Walking (o + m) true n w (x || eqb i 0) (y || eqb i 1) (z || eqb i 2) good
+              walking_named i h = met _ _ _ _ (bests_now ∙ rw (gap_is ∙ gg) (ap (λ (v : Bool). good && v) (met_named p q s x y z o m R refl long (gaps rs) i h)))
+
+              pub walking_other : None ≡ which o m p q s → Walking (o + m) true n w x y z (good && leb m s.long)
+              walking_other h =
+                  met _ _ _ _ (bests_now ∙ rw (gap_is ∙ gg) (ap (λ (v : Bool). good && v) (met_other p q s x y z o m R refl long (gaps rs) h)
+                  ∙ sym (and_assoc good (leb m s.long) (best_left x y z p q s (gaps rs)))))

@@ -27,14 +27,14 @@ pub record Head (e : Edition) (b : List ℕ) (t o n : ℕ) : Type 0 where
   pub fits : o + n ≤ t
 
 -- a length, and none
-some_none : {n : ℕ} → Some n ≡ None → ⊥
+pub some_none : {n : ℕ} → Some n ≡ None → ⊥
 some_none h = true≢false (ap is_some h)
 
 length_or : ℕ → Option ℕ → ℕ
 length_or d (Some n) = n
 length_or d None = d
 
-some_same : {m n : ℕ} → Some m ≡ Some n → m ≡ n
+pub some_same : {m n : ℕ} → Some m ≡ Some n → m ≡ n
 unfolding length_or
 some_same {m} {n} h = ap (length_or 0) h
 

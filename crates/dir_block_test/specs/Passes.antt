@@ -89,13 +89,12 @@ best_left x y z p q r gs =
     && ((z || some_of (is_gap_of r) (unnamed q (unnamed p gs)))
     && every (λ g. leb (size g) r.long) (unnamed r (unnamed q (unnamed p gs)))))
 
--- which pair names the gap of n bytes at o: 1, 2 or 3; 4 if none has to, 0 if one should
-unfoldable pub which : ℕ → ℕ → Pair → Pair → Pair → ℕ
+-- which of the three pairs names the gap of n bytes at o
+unfoldable pub which : ℕ → ℕ → Pair → Pair → Pair → Option ℕ
 which o n p q r =
-    cond (eqb o p.from && eqb n p.long) 1 (
-    cond (eqb o q.from && eqb n q.long) 2 (
-    cond (eqb o r.from && eqb n r.long) 3 (
-    cond (leb n r.long) 4 0)))
+    cond (eqb o p.from && eqb n p.long) (Some 0) (
+    cond (eqb o q.from && eqb n q.long) (Some 1) (
+    cond (eqb o r.from && eqb n r.long) (Some 2) None))
 
 -- the verdict on a block whose records are rs and slots ss, from BEST on, from NAME on, and from TILE on
 unfoldable pub after_index : Edition → List ℕ → List Rec → ℕ

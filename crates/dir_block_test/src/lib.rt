@@ -220,23 +220,20 @@ fn named(p: Best, o: usize, n: usize) -> bool
     (o == p.from) & (n == p.long)
 }
 
-// Which pair names the gap of n bytes at o: 1, 2 or 3; 4 if none has to, 0 if one should.
-fn which(o: usize, n: usize, p: Best, q: Best, s: Best) -> usize
+// Which of the three pairs names the gap of n bytes at o.
+fn which(o: usize, n: usize, p: Best, q: Best, s: Best) -> Option<usize>
     ensures { result ≡ which o n (pair p.from p.long) (pair q.from q.long) (pair s.from s.long) }
 {
     if named(p, o, n) {
-        return 1;
+        return Some(0);
     }
     if named(q, o, n) {
-        return 2;
+        return Some(1);
     }
     if named(s, o, n) {
-        return 3;
+        return Some(2);
     }
-    if s.long < n {
-        return 0;
-    }
-    4
+    None
 }
 
 // What the pass over tiled records shows: how many entries there are; the first test that one of their names, numbers and slots fails;
@@ -289,11 +286,14 @@ fn walk(
         if after {
             return None;
         }
-        let k = which(o, len, p, q, s);
-        best = best & (k != 0);
-        x = x | (k == 1);
-        y = y | (k == 2);
-        z = z | (k == 3);
+        match which(o, len, p, q, s) {
+            Some(i) => {
+                x = x | (i == 0);
+                y = y | (i == 1);
+                z = z | (i == 2);
+            }
+            None => best = best & (len <= s.long),
+        }
         after = true;
         o += len;
     }

@@ -2,8 +2,9 @@ use Prim.Native.Nat.{ℕ, ◌+◌, ◌≤◌}
 use native.Mathlib.Omega.{arith}
 use mathlib.Core.Path.{sym, ◌∙◌, refl, subst}
 use Rattle.dir_block_test.specs.Passes.{Surveyed}
-use Rattle.dir_block_test.proofs.RecordWalk.{walking_start, walking_end, walking_broken, walking_room, walking_fits, walking_entry, walking_touch, walking_gap, hd}
+use Rattle.dir_block_test.proofs.RecordWalk.{walking_start, walking_end, walking_broken, walking_room, walking_fits, walking_entry, walking_touch, walking_named, walking_other, hd}
 use Rattle.dir_block_test.proofs.walk.Goals as goal
+use Rattle.dir_block_test.proofs.walk.Goals.{in-Some, in-None}
 
 hi : {l t : ℕ} → t + 8 ≤ l → t ≤ l
 hi p = omega arith
@@ -62,7 +63,11 @@ loop-o-smaller c = omega (arith, c.loop-o-test.true, (hd _ _ _ _ _ _ _ _ _ _ _ _
 
 pub loop-o-preserved : goal.loop-o-preserved
 loop-o-preserved c =
-    walking_gap _ _ _ _ _ _ _ _ _ _ _ _ (hi c.requires.t_in_bounds.0) c.requires.t_in_bounds.2 _ _ _ _ _ _ _ _ c.loop-o.invariant c.loop-o-test.true _ c.in_ok-len.ensures (sym c.is_gap.ensures ∙ c.if-not-is_gap.false) c.if-after.false _ c.which-k.ensures
+    let g = sym c.is_gap.ensures ∙ c.if-not-is_gap.false in
+    elim c.match-which.branch [
+      | in-Some w ↦ rw (w.x-is, w.y-is, w.z-is, w.best-is) (walking_named _ _ _ _ _ _ _ _ _ _ _ _ (hi c.requires.t_in_bounds.0) c.requires.t_in_bounds.2 _ _ _ _ _ _ _ _ c.loop-o.invariant c.loop-o-test.true _ c.in_ok-len.ensures g c.if-after.false w.in-Some.i (sym w.in-Some.is ∙ c.which.ensures))
+      | in-None w ↦ rw (w.x-is, w.y-is, w.z-is, w.best-is) (walking_other _ _ _ _ _ _ _ _ _ _ _ _ (hi c.requires.t_in_bounds.0) c.requires.t_in_bounds.2 _ _ _ _ _ _ _ _ c.loop-o.invariant c.loop-o-test.true _ c.in_ok-len.ensures g c.if-after.false (sym w.in-None.is ∙ c.which.ensures))
+    ]
 
 pub returns : goal.returns
 returns c = walking_end _ _ _ _ _ _ _ _ _ _ _ _ (hi c.requires.t_in_bounds.0) c.requires.t_in_bounds.2 _ _ _ _ _ _ _ _ c.loop-o.invariant c.loop-o-test.false c.loop-o.fault refl
