@@ -4,7 +4,11 @@ use Prim.Native.Nat.{ℕ, ◌≤◌, ◌<◌}
 use mathlib.Core.Bool.{Bool, true, false, not, cond, ◌&&◌, ◌||◌}
 use mathlib.Core.Path.{◌≡◌, refl, sym, ◌∙◌, ap, ap₂}
 use mathlib.Core.List.{List, [], ◌∷◌}
+use native.Mathlib.Omega.{arith}
 use lib.Dec.{eqb, leb}
+use lib.ListN.{length, get_or, set}
+use lib.Seq.{get_or-set_same, get_or-set_other}
+use borrow.Author.Tests.{eqb-true, eqb-false}
 use Rattle.std.specs.Prelude.{Some, None}
 use Rattle.be.specs.Lists.{some_of}
 use Rattle.dir_block_rules.specs.Record.{Rec, size}
@@ -38,6 +42,25 @@ module _ (o n : ℕ) (p q r : Pair) (a : Bool) (ea : a ≡ (eqb o p.from && eqb 
       pub which_none : c ≡ false → None ≡ which o n p q r
       unfolding which
       which_none z = sym (rw (sym ea ∙ af, sym bs ∙ bf, sym cs ∙ z))
+
+-- the index that is answered is one of three
+pub which_index : (o n : ℕ) (p q r : Pair) (i : ℕ) → Some i ≡ which o n p q r → i < 3
+unfolding which
+which_index o n p q r i h =
+    by_cases (eqb o p.from && eqb n p.long)
+    (λ a. let k : i ≡ 0 = some_same (h ∙ rw a refl) in omega arith)
+    (λ a. by_cases (eqb o q.from && eqb n q.long)
+    (λ b. let k : i ≡ 1 = some_same (h ∙ rw (a, b) refl) in omega arith)
+    (λ b. by_cases (eqb o r.from && eqb n r.long)
+    (λ c. let k : i ≡ 2 = some_same (h ∙ rw (a, b, c) refl) in omega arith)
+    (λ c. absurd (some_none (h ∙ rw (a, b, c) refl)))))
+
+-- a flag that is set beside others
+pub flag : (l : List Bool) (i j : ℕ) → j < length l → get_or (set l i true) j false ≡ (get_or l j false || eqb i j)
+flag l i j h =
+    by_cases (eqb i j)
+    (λ q. let k : i ≡ j = eqb-true i j q in rw (q, or_true (get_or l j false)) (rw k (get_or-set_same l j true false h)))
+    (λ q. rw (q, or_false (get_or l j false)) (get_or-set_other l i j true false (λ (z : j ≡ i). eqb-false i j q (sym z))))
 
 -- a gap at the head: a pair names it, or none does
 module _ (p q r : Pair) (x y z : Bool) (g : Rec) (gs : List Rec) where

@@ -12,10 +12,11 @@ use Rattle.edition.specs.Edition.{largest_block}
 use Rattle.name.specs.Name.{legal_name, hash_of, dot, dotdot}
 use Rattle.dir_block_rules.specs.Record.{Rec, rec, cut, says, whole, is_gap, entries, gaps, name, size}
 use Rattle.dir_block_rules.specs.Block.{Slot, is_stale}
-use Rattle.dir_block_rules.specs.Verdict.{name_ok, number_fits, number_ok, Pair, is_gap_of, best_ok, best_pairs, once_ok, names_ok, numbers_ok, index_ok}
+use Rattle.dir_block_rules.specs.Verdict.{name_ok, number_fits, number_ok, Pair, pair, zero_pair, is_gap_of, best_ok, best_pairs, once_ok, names_ok, numbers_ok, index_ok}
 use Rattle.dir_block_rules.specs.Lookup.{name_at}
 use Rattle.dir_block_twice.specs.Twice.{hash_at, addr_at}
 use Rattle.dir_block_test.specs.declared.Survey.{Survey}
+use Rattle.dir_block_test.specs.declared.Best.{Best}
 
 -- the records from o to the data's end t, with fuel k
 unfoldable pub rest : Edition → List ℕ → ℕ → ℕ → ℕ → List Rec
@@ -77,6 +78,10 @@ fault_at e own f b o =
     NUMBER unless number_fits e own (name_at b o) (field o 8 b) then
     INDEX unless f (o / 8) (hash_of e (name_at b o)) then no_fault
 
+-- pair i of the table as the code keeps it
+abbrev pub pair_of : List Best → ℕ → Pair
+pair_of ps i = let p = get_or ps i (record { from = 0; long = 0 }) in pair p.from p.long
+
 -- the gaps that a pair does not name
 abbrev pub unnamed : Pair → List Rec → List Rec
 unnamed p gs = keep (λ g. not (is_gap_of p g)) gs
@@ -88,6 +93,10 @@ best_left x y z p q r gs =
     && ((y || some_of (is_gap_of q) (unnamed p gs))
     && ((z || some_of (is_gap_of r) (unnamed q (unnamed p gs)))
     && every (λ g. leb (size g) r.long) (unnamed r (unnamed q (unnamed p gs)))))
+
+-- a pair of zeros need not name a gap
+abbrev pub best_of_pairs : Pair → Pair → Pair → List Rec → Bool
+best_of_pairs p q r gs = best_left (zero_pair p) (zero_pair q) (zero_pair r) p q r gs
 
 -- which of the three pairs names the gap of n bytes at o
 unfoldable pub which : ℕ → ℕ → Pair → Pair → Pair → Option ℕ

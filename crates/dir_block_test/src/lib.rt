@@ -10,9 +10,9 @@ ghost use Rattle.edition.specs.Edition.{v4, Sane};
 ghost use Rattle.refusal.specs.Refusal.{number, code};
 ghost use Rattle.name.specs.Name.{legal_name};
 ghost use Rattle.dir_block_rules.specs.Record.{says, gaps, entries};
-ghost use Rattle.dir_block_rules.specs.Verdict.{pair, number_fits, best_pairs, best_ok, index_ok, verdict};
+ghost use Rattle.dir_block_rules.specs.Verdict.{number_fits, best_pairs, best_ok, index_ok, verdict};
 ghost use Rattle.dir_block_twice.specs.Twice.{slots_from};
-ghost use Rattle.dir_block_test.specs.Passes.{rest, whole_len, ordered_with, level, slot_word, cells_of, hint, name_fits, fault_at, own_at, best_left, which, fault_of, Surveyed, Faulted, after_index, after_tile, after_span, Parts, DataTiled};
+ghost use Rattle.dir_block_test.specs.Passes.{rest, whole_len, ordered_with, level, slot_word, cells_of, hint, name_fits, fault_at, own_at, best_of_pairs, pair_of, which, fault_of, Surveyed, Faulted, after_index, after_tile, after_span, Parts, DataTiled};
 
 use edition::{Edition, V4};
 use refusal::Refusal;
@@ -220,17 +220,17 @@ fn named(p: Best, o: usize, n: usize) -> bool
     (o == p.from) & (n == p.long)
 }
 
-// Which of the three pairs names the gap of n bytes at o.
-fn which(o: usize, n: usize, p: Best, q: Best, s: Best) -> Option<usize>
-    ensures { result ≡ which o n (pair p.from p.long) (pair q.from q.long) (pair s.from s.long) }
+// Which of the pairs names the gap of n bytes at o.
+fn which(o: usize, n: usize, pairs: [Best; 3]) -> Option<usize>
+    ensures { result ≡ which o n (pair_of pairs 0) (pair_of pairs 1) (pair_of pairs 2) }
 {
-    if named(p, o, n) {
+    if named(pairs[0], o, n) {
         return Some(0);
     }
-    if named(q, o, n) {
+    if named(pairs[1], o, n) {
         return Some(1);
     }
-    if named(s, o, n) {
+    if named(pairs[2], o, n) {
         return Some(2);
     }
     None
@@ -245,23 +245,12 @@ struct Survey {
     best: bool,
 }
 
-// Goes over the records up to t, where x0, y0 and z0 say which pairs need not name a gap. Records that are not tiled show nothing.
-fn walk(
-    e: Edition,
-    b: &[u8],
-    t: usize,
-    cells: &[u64],
-    p: Best,
-    q: Best,
-    s: Best,
-    x0: bool,
-    y0: bool,
-    z0: bool,
-) -> Option<Survey>
+// Goes over the records up to t. A pair of zeros need not name a gap. Records that are not tiled show nothing.
+fn walk(e: Edition, b: &[u8], t: usize, cells: &[u64], pairs: [Best; 3]) -> Option<Survey>
     requires sane { Sane e }
     requires t_in_bounds { (t + 8 ≤ length b.now) × (t < 65536) × (t % 8 ≡ 0) × (e.header ≤ t) × (t ≤ 8 * length cells.now) }
     ensures { Surveyed e (own_at e b.now) (hint cells.now) (rest e b.now t (length b.now) e.header)
-        (best_left x0 y0 z0 (pair p.from p.long) (pair q.from q.long) (pair s.from s.long)
+        (best_of_pairs (pair_of pairs 0) (pair_of pairs 1) (pair_of pairs 2)
         (gaps (rest e b.now t (length b.now) e.header)))
         result }
 {
@@ -270,9 +259,7 @@ fn walk(
     let mut after = false;
     let mut entries = 0;
     let mut fault = None;
-    let mut x = x0;
-    let mut y = y0;
-    let mut z = z0;
+    let mut named = [is_zero(pairs[0]), is_zero(pairs[1]), is_zero(pairs[2])];
     let mut best = true;
     while o < t {
         let len = whole_len(e, b, o, t)?;
@@ -286,13 +273,9 @@ fn walk(
         if after {
             return None;
         }
-        match which(o, len, p, q, s) {
-            Some(i) => {
-                x = x | (i == 0);
-                y = y | (i == 1);
-                z = z | (i == 2);
-            }
-            None => best = best & (len <= s.long),
+        match which(o, len, pairs) {
+            Some(i) => named[i] = true,
+            None => best = best & (len <= pairs[2].long),
         }
         after = true;
         o += len;
@@ -300,7 +283,7 @@ fn walk(
     Some(Survey {
         entries,
         fault,
-        best: best & (x & (y & z)),
+        best: best & (named[0] & (named[1] & named[2])),
     })
 }
 
@@ -321,10 +304,10 @@ fn is_zero(p: Best) -> bool
 }
 
 // BEST: whether the pairs do not rise, and name the longest gaps.
-fn best_fits(p: Best, q: Best, s: Best, left: bool) -> bool
-    ensures { result ≡ (leb q.long p.long && (leb s.long q.long && left)) }
+fn best_fits(pairs: [Best; 3], left: bool) -> bool
+    ensures { result ≡ (leb (pair_of pairs 1).long (pair_of pairs 0).long && (leb (pair_of pairs 2).long (pair_of pairs 1).long && left)) }
 {
-    (q.long <= p.long) & ((s.long <= q.long) & left)
+    (pairs[1].long <= pairs[0].long) & ((pairs[2].long <= pairs[1].long) & left)
 }
 
 // The tests from BEST on. Names are compared only if neighbours have one hash.
@@ -418,24 +401,15 @@ fn test_data_with<'a, 'b>(
         (slots_from b.now t n 0) m }
 {
     let run = slots(b, t, n, m, cells);
-    let p = pair_at(b, e.best);
-    let q = pair_at(b, e.best + 4);
-    let s = pair_at(b, e.best + 8);
-    let Some(survey) = walk(
-        e,
-        b,
-        t,
-        &cells[..],
-        p,
-        q,
-        s,
-        is_zero(p),
-        is_zero(q),
-        is_zero(s),
-    ) else {
+    let pairs = [
+        pair_at(b, e.best),
+        pair_at(b, e.best + 4),
+        pair_at(b, e.best + 8),
+    ];
+    let Some(survey) = walk(e, b, t, &cells[..], pairs) else {
         return Err(Refusal::Tile);
     };
-    test_entries(e, b, t, n, m, run, survey, best_fits(p, q, s, survey.best))
+    test_entries(e, b, t, n, m, run, survey, best_fits(pairs, survey.best))
 }
 
 // The table has a cell for every 8 bytes up to the data's end. Clearing that of the largest block would show in the test of a small one:

@@ -1,4 +1,5 @@
 use native.Mathlib.Omega.{arith}
+use mathlib.Core.Path.{refl}
 use Rattle.dir_block_test.proofs.EarlyTests.{end_5, tiled_parts, end_tile, faulted}
 use Rattle.dir_block_test.proofs.LaterTests.{best_fits_is}
 use Rattle.dir_block_test.proofs.SlotTable.{cells_long}
@@ -19,9 +20,9 @@ test_entries-requires c =
     let w = c.in-Some.ensures in
     let s = c.slots-run.ensures in
     let T = tiled_parts _ _ _ _ c.args.m w.0 q.parts.0 in
-    let f = c.pair_at-p.ensures in
-    let g = c.pair_at-q.ensures in
-    let h = c.pair_at-s.ensures in record {
+    let f = c.pair_at.ensures in
+    let g = c.pair_at-2.ensures in
+    let h = c.pair_at-3.ensures in record {
       sane = q.sane;
       data_tiled = (
         T,
@@ -30,7 +31,7 @@ test_entries-requires c =
         s.0,
         s.1,
         faulted _ _ _ _ _ _ _ q.parts.2 q.parts.3 s.2 w.2,
-        best_fits_is _ q.sane _ _ _ T _ _ _ _ _ _ f.0 f.1 f.2 g.0 g.1 h.0 h.1 _ _ _ _ _ c.is_zero.ensures c.is_zero-2.ensures c.is_zero-3.ensures w.3 c.best_fits.ensures,
+        best_fits_is _ q.sane _ _ _ T _ _ _ _ _ _ f.0 f.1 f.2 g.0 g.1 h.0 h.1 _ _ _ _ _ refl refl refl w.3 c.best_fits.ensures,
       );
     }
 
