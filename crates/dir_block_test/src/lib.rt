@@ -72,15 +72,6 @@ fn keep(cells: &mut [u64], a: usize, h: usize)
     }
 }
 
-fn ones(x: bool) -> usize
-    ensures { (result ≡ cond x 1 0) × (result ≤ 1) }
-{
-    if x {
-        return 1;
-    }
-    0
-}
-
 // What the pass over the slots shows: whether their hashes never fall and as many are stale as should be; whether neighbours have one hash
 // (or the first slot's is 0, which only costs time).
 #[derive(Clone, Copy)]
@@ -105,7 +96,7 @@ fn slots<'a, 'b>(b: &'a [u8], t: usize, n: usize, m: usize, cells: &'b mut [u64]
         keep(cells, a, h);
         good = good & (last <= h);
         equal = equal | (last == h);
-        stale += ones(a == 0);
+        stale += usize::from(a == 0);
         last = h;
     }
     Run {
@@ -122,15 +113,6 @@ fn has_slot(cells: &[u64], h: usize, a: usize) -> bool
     cells[a] == h as u64 * 4294967296 + a as u64
 }
 
-fn agree(x: bool, y: bool) -> bool
-    ensures { result ≡ beq x y }
-{
-    if x {
-        return y;
-    }
-    !y
-}
-
 // Whether a name may stand at o: it is legal, and "." and ".." stand in their places and nowhere else.
 fn name_fits(e: Edition, legal: bool, s: &[u8], o: usize) -> bool
     requires sane { Sane e }
@@ -143,10 +125,10 @@ fn name_fits(e: Edition, legal: bool, s: &[u8], o: usize) -> bool
     if (2 < s.len()) & (e.header + 16 < o) {
         return true;
     }
-    if !agree(name::equal(s, b"."), o == e.header) {
+    if name::equal(s, b".") != (o == e.header) {
         return false;
     }
-    agree(name::equal(s, b".."), o == e.header + 16)
+    name::equal(s, b"..") == (o == e.header + 16)
 }
 
 // Whether the number at o may stand there, with the name s: it is legal, and only "." and ".." bear that of ".", which is the word `own`.
