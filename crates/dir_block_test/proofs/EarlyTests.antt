@@ -16,31 +16,25 @@ use Rattle.dir_block_rules.specs.Record.{Rec, entries}
 use Rattle.dir_block_rules.specs.Block.{Slot, records, slots, slots_in, count_of, stale_of, data_end}
 use Rattle.dir_block_rules.specs.Verdict.{verdict, size_ok, magic_ok, span_ok}
 use Rattle.dir_block_twice.specs.Twice.{slots_from}
-use Rattle.dir_block_test.specs.Passes.{rest, Parts, DataTiled, after_span, after_tile, after_index, tile_from, tile_count, cells_of, hint, worst, own_at, Faulted}
-use Rattle.dir_block_test.proofs.FaultsAnswer.{tiled_not, tiled_done, tile_is}
+use Rattle.dir_block_test.specs.Passes.{rest, Parts, DataTiled, after_span, after_tile, after_index, tile_from, cells_of, hint, worst, own_at, Faulted}
+use Rattle.dir_block_test.proofs.FaultsAnswer.{tile_is}
 use Rattle.dir_block_rules.proofs.WholeRecords.{tile_law}
 -- TILE
 use Rattle.edition.proofs.Sizes.{block_size_bounds}
 
-module _ (e : Edition) (b : List ℕ) (t n m k : ℕ) (ks : k ≡ tile_count e false 1 (rest e b t (length b) e.header)) where
-  pub end_5 : k ≡ 0 → 5 ≡ after_span e b (rest e b t (length b) e.header) (slots_from b t n 0) m
+module _ (e : Edition) (b : List ℕ) (t n m : ℕ) where
+  pub end_5 : tile_from e false (rest e b t (length b) e.header) ≡ false → 5 ≡ after_span e b (rest e b t (length b) e.header) (slots_from b t n 0) m
   unfolding after_span
-  end_5 z = sym (rw (tiled_not e (rest e b t (length b) e.header) k ks z))
+  end_5 z = sym (rw z)
 
-  module _ (z : k ≡ 0 → ⊥) where
-    done : (tile_from e false (rest e b t (length b) e.header) ≡ true) × (k ≡ 1 + length (entries (rest e b t (length b) e.header)))
-    done = tiled_done e (rest e b t (length b) e.header) k ks z
-
+  module _ (z : tile_from e false (rest e b t (length b) e.header) ≡ true) where
     pub tiled_parts : Parts e b t n → DataTiled e b t n
-    tiled_parts p = record { parts = p; tiles = done.0 }
-
-    pub tiled_count : k - 1 ≡ length (entries (rest e b t (length b) e.header))
-    tiled_count = omega (arith, done.1)
+    tiled_parts p = record { parts = p; tiles = z }
 
     pub end_tile : (r : ℕ) → r ≡ after_tile e b (rest e b t (length b) e.header) (slots_from b t n 0) m
         → r ≡ after_span e b (rest e b t (length b) e.header) (slots_from b t n 0) m
     unfolding after_span
-    end_tile r rs = rs ∙ sym (rw done.0)
+    end_tile r rs = rs ∙ sym (rw z)
 
 -- the lowest fault, by the table P that the slots have made of zeros
 pub faulted : (e : Edition) (b : List ℕ) (t n w : ℕ) (M P : List ℕ) → t ≤ 8 * length M → M ≡ replicate (length M) 0 → P ≡ cells_of b t M n

@@ -15,7 +15,7 @@ use Rattle.dir_block_rules.specs.Record.{Rec, whole, apart, is_gap, entries, nam
 use Rattle.dir_block_rules.specs.Verdict.{name_ok, number_ok}
 use Rattle.be.proofs.Bools.{by_cases}
 use Rattle.dir_block_rules.proofs.PlainTests.{every_besides}
-use Rattle.dir_block_test.specs.Passes.{no_fault, tile_from, tile_count, fault, worst}
+use Rattle.dir_block_test.specs.Passes.{no_fault, tile_from, fault, worst}
 
 -- TILE
 apart_from : Bool → List Rec → Bool
@@ -43,21 +43,6 @@ tile_split e g (r ∷ rs) =
 
 pub tile_is : (e : Edition) (rs : List Rec) → tile_from e false rs ≡ (every (whole e) rs && apart rs)
 tile_is e rs = tile_split e false rs ∙ ap (λ (t : Bool). every (whole e) rs && t) (sym (apart_is rs))
-
-module _ (e : Edition) (rs : List Rec) (t : ℕ) (is : t ≡ tile_count e false 1 rs) where
-  pub tiled_not : t ≡ 0 → tile_from e false rs ≡ false
-  unfolding tile_count
-  tiled_not z =
-      by_cases (tile_from e false rs)
-      (λ q. absurd (let f : t ≡ 1 + length (entries rs) = is ∙ rw q in omega arith))
-      (λ q. q)
-
-  pub tiled_done : (t ≡ 0 → ⊥) → (tile_from e false rs ≡ true) × (t ≡ 1 + length (entries rs))
-  unfolding tile_count
-  tiled_done z =
-      by_cases (tile_from e false rs)
-      (λ q. (q, is ∙ rw q))
-      (λ q. absurd (z (is ∙ rw q)))
 
 -- names, numbers, slots
 min_leb : (m a b : ℕ) → leb m (min a b) ≡ (leb m a && leb m b)

@@ -9,6 +9,7 @@ use lib.Dec.{eqb, leb}
 use lib.ListN.{length, take, drop, get_or, length-take, get_or-eq_default}
 use lib.Seq.{length-take-le, take_all, take-take}
 use borrow.Author.Tests.{eq-eqb, ne_eqb, le-leb, lt-leb}
+use Rattle.std.specs.Prelude.{Some, None}
 use Rattle.be.specs.Bytes.{byte, be, part, field}
 use Rattle.edition.specs.declared.Edition.{Edition}
 use Rattle.edition.specs.Edition.{entry_size}
@@ -37,14 +38,14 @@ module _ (e : Edition) (b : List ℕ) (o m : ℕ) (least : 8 ≤ m) where
 
 -- when the record at the head of d is whole
 module _ (e : Edition) (d : List ℕ) (o : ℕ) where
-  pub whole_short : says e d < 8 → whole_len e d o ≡ 0
+  pub whole_short : says e d < 8 → whole_len e d o ≡ None
   unfolding whole_len whole record_ok
   whole_short h =
       let c : List ℕ = take (says e d) d in
       let s : leb 8 (length c) ≡ false = lt-leb 8 (length c) (simp length-take (omega arith)) in
       by_cases (eqb (length c) (says e c)) (λ q. rw (q, s)) (λ q. rw q)
 
-  pub whole_long : length d < says e d → whole_len e d o ≡ 0
+  pub whole_long : length d < says e d → whole_len e d o ≡ None
   unfolding whole_len whole record_ok
   whole_long h =
       let all : take (says e d) d ≡ d = take_all (says e d) d (omega arith) in
@@ -66,12 +67,12 @@ module _ (e : Edition) (d : List ℕ) (o : ℕ) where
         ∙ ap (λ (k : ℕ). be (drop (n - 2) (take k d))) (sym seam)
         ∙ ap be (drop_take (n - 2) 2 d)
 
-    pub whole_uneven : (says e d % 8 ≡ 0 → ⊥) → whole_len e d o ≡ 0
+    pub whole_uneven : (says e d % 8 ≡ 0 → ⊥) → whole_len e d o ≡ None
     unfolding whole_len whole record_ok
     whole_uneven u =
         rw (alone, spans, le-leb 8 (says e d) l, ne_eqb (says e d % 8) 0 u)
 
-    pub whole_untagged : (field (says e d - 2) 2 d ≡ o → ⊥) → whole_len e d o ≡ 0
+    pub whole_untagged : (field (says e d - 2) 2 d ≡ o → ⊥) → whole_len e d o ≡ None
     unfolding whole_len whole record_ok
     whole_untagged u =
         let f : eqb (tag (rec o (take (says e d) d))) o ≡ false = ne_eqb (tag (rec o (take (says e d) d))) o (λ (z : tag (rec o (take (says e d) d)) ≡ o). u (sym tag_is ∙ z)) in
@@ -79,7 +80,7 @@ module _ (e : Edition) (d : List ℕ) (o : ℕ) where
         (λ q. rw (alone, ap (leb 8) spans, le-leb 8 (says e d) l, q, f))
         (λ q. rw (alone, ap (leb 8) spans, le-leb 8 (says e d) l, q))
 
-    pub whole_good : says e d % 8 ≡ 0 → field (says e d - 2) 2 d ≡ o → whole_len e d o ≡ says e d
+    pub whole_good : says e d % 8 ≡ 0 → field (says e d - 2) 2 d ≡ o → whole_len e d o ≡ Some (says e d)
     unfolding whole_len whole record_ok
     whole_good u t =
         let f : eqb (tag (rec o (take (says e d) d))) o ≡ true = eq-eqb (tag (rec o (take (says e d) d))) o (tag_is ∙ t) in
@@ -108,10 +109,10 @@ module _ (e : Edition) (b : List ℕ) (o t : ℕ) (pre : (o + 8 ≤ t) × (t ≤
     long : length d ≡ t - o
     long = part_length o (t - o) b (omega arith)
 
-    pub len_short : n < 8 → 0 ≡ whole_len e d o
+    pub len_short : n < 8 → None ≡ whole_len e d o
     len_short h = sym (whole_short e d o (omega arith))
 
-    pub len_long : t - o < n → 0 ≡ whole_len e d o
+    pub len_long : t - o < n → None ≡ whole_len e d o
     len_long h = sym (whole_long e d o (omega (arith, long)))
 
     module _ (l : 8 ≤ n) (h : n ≤ t - o) where
@@ -121,7 +122,7 @@ module _ (e : Edition) (b : List ℕ) (o t : ℕ) (pre : (o + 8 ≤ t) × (t ≤
       most : says e d ≤ length d
       most = omega (arith, long)
 
-      pub len_uneven : (n % 8 ≡ 0 → ⊥) → 0 ≡ whole_len e d o
+      pub len_uneven : (n % 8 ≡ 0 → ⊥) → None ≡ whole_len e d o
       len_uneven u = sym (whole_uneven e d o least most (λ z. u (ap (λ (k : ℕ). k % 8) is ∙ z)))
 
       tag_at : field (says e d - 2) 2 d ≡ field (o + n - 2) 2 b
@@ -129,8 +130,8 @@ module _ (e : Edition) (b : List ℕ) (o t : ℕ) (pre : (o + 8 ≤ t) × (t ≤
           let w : o + (says e d - 2) ≡ o + n - 2 = omega arith in
           field_part b o (t - o) (says e d - 2) 2 (omega arith) ∙ ap (λ (k : ℕ). field k 2 b) w
 
-      pub len_untagged : (field (o + n - 2) 2 b ≡ o → ⊥) → 0 ≡ whole_len e d o
+      pub len_untagged : (field (o + n - 2) 2 b ≡ o → ⊥) → None ≡ whole_len e d o
       len_untagged u = sym (whole_untagged e d o least most (λ z. u (sym tag_at ∙ z)))
 
-      pub len_good : n % 8 ≡ 0 → field (o + n - 2) 2 b ≡ o → n ≡ whole_len e d o
-      len_good u z = is ∙ sym (whole_good e d o least most (ap (λ (k : ℕ). k % 8) (sym is) ∙ u) (tag_at ∙ z))
+      pub len_good : n % 8 ≡ 0 → field (o + n - 2) 2 b ≡ o → Some n ≡ whole_len e d o
+      len_good u z = ap Some is ∙ sym (whole_good e d o least most (ap (λ (k : ℕ). k % 8) (sym is) ∙ u) (tag_at ∙ z))

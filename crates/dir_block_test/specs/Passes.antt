@@ -1,8 +1,9 @@
 -- What each pass of the test computes, over records and slots.
 -- Assumes nothing.
-use Rattle.std.specs.Prelude.{ℕ, zero, suc, ◌+◌, ◌-◌, ◌*◌, ◌/◌, ◌%◌, ◌≤◌, ◌<◌, min, Bool, true, false, not, cond, ◌&&◌, ◌||◌, ◌≡◌, List, [], ◌∷◌, eqb, leb, length, take, get_or, set, replicate}
+use Rattle.std.specs.Prelude.{ℕ, zero, suc, ◌+◌, ◌-◌, ◌*◌, ◌/◌, ◌%◌, ◌≤◌, ◌<◌, min, Bool, true, false, not, cond, ◌&&◌, ◌||◌, ◌≡◌, List, [], ◌∷◌, eqb, leb, length, take, get_or, set, replicate, Option, Some, None}
 use Rattle.std.specs.Bool.{beq}
-use Rattle.refusal.specs.Refusal.{TILE, NAME, NUMBER, INDEX, BEST, TWICE, HIGHEST}
+use Rattle.refusal.specs.declared.Refusal.{Refusal}
+use Rattle.refusal.specs.Refusal.{TILE, NAME, NUMBER, INDEX, BEST, TWICE, HIGHEST, number}
 use Rattle.be.specs.Lists.{every, some_of, tally, same, keep}
 use Rattle.be.specs.Bytes.{field, part}
 use Rattle.be.specs.Codes.{◌unless◌then◌}
@@ -11,9 +12,11 @@ use Rattle.edition.specs.Edition.{largest_block}
 use Rattle.name.specs.Name.{legal_name, hash_of, dot, dotdot}
 use Rattle.dir_block_rules.specs.Record.{Rec, rec, cut, says, whole, is_gap, entries, gaps, name, size}
 use Rattle.dir_block_rules.specs.Block.{Slot, is_stale}
-use Rattle.dir_block_rules.specs.Verdict.{name_ok, number_fits, number_ok, Pair, is_gap_of, best_ok, best_pairs, once_ok, names_ok, numbers_ok, index_ok}
+use Rattle.dir_block_rules.specs.Verdict.{name_ok, number_fits, number_ok, Pair, pair, zero_pair, is_gap_of, best_ok, best_pairs, once_ok, names_ok, numbers_ok, index_ok}
 use Rattle.dir_block_rules.specs.Lookup.{name_at}
 use Rattle.dir_block_twice.specs.Twice.{hash_at, addr_at}
+use Rattle.dir_block_test.specs.declared.Survey.{Survey}
+use Rattle.dir_block_test.specs.declared.Best.{Best}
 
 -- the records from o to the data's end t, with fuel k
 unfoldable pub rest : Edition → List ℕ → ℕ → ℕ → ℕ → List Rec
@@ -24,13 +27,9 @@ unfoldable pub tile_from : Edition → Bool → List Rec → Bool
 tile_from e g [] = true
 tile_from e g (r ∷ rs) = whole e r && not (g && is_gap r) && tile_from e (is_gap r) rs
 
--- how long the record at o is, if it is whole; else 0
-unfoldable pub whole_len : Edition → List ℕ → ℕ → ℕ
-whole_len e d o = cond (whole e (rec o (take (says e d) d))) (says e d) 0
-
--- what TILE's pass answers: 0, or n more than there are entries
-unfoldable pub tile_count : Edition → Bool → ℕ → List Rec → ℕ
-tile_count e g n rs = cond (tile_from e g rs) (n + length (entries rs)) 0
+-- how long the record at o is, if it is whole
+unfoldable pub whole_len : Edition → List ℕ → ℕ → Option ℕ
+whole_len e d o = cond (whole e (rec o (take (says e d) d))) (Some (says e d)) None
 
 -- a slot with this hash at this address
 abbrev pub slot_is : ℕ → ℕ → Slot → Bool
@@ -79,6 +78,10 @@ fault_at e own f b o =
     NUMBER unless number_fits e own (name_at b o) (field o 8 b) then
     INDEX unless f (o / 8) (hash_of e (name_at b o)) then no_fault
 
+-- pair i of the table as the code keeps it
+abbrev pub pair_of : List Best → ℕ → Pair
+pair_of ps i = let p = get_or ps i (record { from = 0; long = 0 }) in pair p.from p.long
+
 -- the gaps that a pair does not name
 abbrev pub unnamed : Pair → List Rec → List Rec
 unnamed p gs = keep (λ g. not (is_gap_of p g)) gs
@@ -91,13 +94,16 @@ best_left x y z p q r gs =
     && ((z || some_of (is_gap_of r) (unnamed q (unnamed p gs)))
     && every (λ g. leb (size g) r.long) (unnamed r (unnamed q (unnamed p gs)))))
 
--- which pair names the gap of n bytes at o: 1, 2 or 3; 4 if none has to, 0 if one should
-unfoldable pub which : ℕ → ℕ → Pair → Pair → Pair → ℕ
+-- a pair of zeros need not name a gap
+abbrev pub best_of_pairs : Pair → Pair → Pair → List Rec → Bool
+best_of_pairs p q r gs = best_left (zero_pair p) (zero_pair q) (zero_pair r) p q r gs
+
+-- which of the three pairs names the gap of n bytes at o
+unfoldable pub which : ℕ → ℕ → Pair → Pair → Pair → Option ℕ
 which o n p q r =
-    cond (eqb o p.from && eqb n p.long) 1 (
-    cond (eqb o q.from && eqb n q.long) 2 (
-    cond (eqb o r.from && eqb n r.long) 3 (
-    cond (leb n r.long) 4 0)))
+    cond (eqb o p.from && eqb n p.long) (Some 0) (
+    cond (eqb o q.from && eqb n q.long) (Some 1) (
+    cond (eqb o r.from && eqb n r.long) (Some 2) None))
 
 -- the verdict on a block whose records are rs and slots ss, from BEST on, from NAME on, and from TILE on
 unfoldable pub after_index : Edition → List ℕ → List Rec → ℕ
@@ -143,11 +149,15 @@ unfoldable pub level : ℕ → List Slot → Bool
 level h [] = false
 level h (s ∷ ss) = eqb h s.hash || level s.hash ss
 
--- what the pass over the records rs answers: n as `tile_count` does, and if the data is tiled, w the lowest fault and best the answer B
-pub record Surveys (e : Edition) (own : ℕ) (f : ℕ → ℕ → Bool) (rs : List Rec) (B : Bool) (n w : ℕ) (best : Bool) : Type 0 where
-  pub tiles : n ≡ tile_count e false 1 rs
-  pub faults : (n ≡ 0 → ⊥) → w ≡ worst e own f rs
-  pub bests : (n ≡ 0 → ⊥) → best ≡ B
+-- the number of a fault that an entry may have
+abbrev pub fault_of : Option Refusal → ℕ
+fault_of (Some r) = number r
+fault_of None = no_fault
+
+-- what the pass over the records rs answers: if the data is tiled, how many entries there are, the lowest fault, and the answer B
+abbrev pub Surveyed : Edition → ℕ → (ℕ → ℕ → Bool) → List Rec → Bool → Option Survey → Type 0
+Surveyed e own f rs B (Some s) = (tile_from e false rs ≡ true) × (s.entries ≡ length (entries rs)) × (fault_of s.fault ≡ worst e own f rs) × (s.best ≡ B)
+Surveyed e own f rs B None = tile_from e false rs ≡ false
 
 -- w is the lowest fault, by a table of zeros that the slots have filled
 pub record Faulted (e : Edition) (b : List ℕ) (t n w : ℕ) : Type 0 where

@@ -7,12 +7,12 @@ ghost use Rattle.std.specs.Bool.{beq};
 ghost use Rattle.be.specs.Bytes.{byte, field, part};
 ghost use Rattle.be.specs.Words.{le};
 ghost use Rattle.edition.specs.Edition.{v4, Sane};
-ghost use Rattle.refusal.specs.Refusal.{code};
+ghost use Rattle.refusal.specs.Refusal.{number, code};
 ghost use Rattle.name.specs.Name.{legal_name};
 ghost use Rattle.dir_block_rules.specs.Record.{says, gaps, entries};
-ghost use Rattle.dir_block_rules.specs.Verdict.{pair, number_fits, best_pairs, best_ok, index_ok, verdict};
+ghost use Rattle.dir_block_rules.specs.Verdict.{number_fits, best_pairs, best_ok, index_ok, verdict};
 ghost use Rattle.dir_block_twice.specs.Twice.{slots_from};
-ghost use Rattle.dir_block_test.specs.Passes.{rest, whole_len, ordered_with, level, slot_word, cells_of, hint, name_fits, fault_at, own_at, best_left, which, Surveys, Faulted, after_index, after_tile, after_span, Parts, DataTiled};
+ghost use Rattle.dir_block_test.specs.Passes.{rest, whole_len, ordered_with, level, slot_word, cells_of, hint, name_fits, fault_at, own_at, best_of_pairs, pair_of, which, fault_of, Surveyed, Faulted, after_index, after_tile, after_span, Parts, DataTiled};
 
 use edition::{Edition, V4};
 use refusal::Refusal;
@@ -40,26 +40,26 @@ fn rec_len(e: Edition, b: &[u8], o: usize, t: usize) -> usize
     edition::entry_size(e, be::be8(b, o + 8))
 }
 
-// How long the record at o is, if it is whole; else 0.
-fn whole_len(e: Edition, b: &[u8], o: usize, t: usize) -> usize
+// How long the record at o is, if it is whole.
+fn whole_len(e: Edition, b: &[u8], o: usize, t: usize) -> Option<usize>
     requires sane { Sane e }
     requires o_bound { (o + 8 ≤ t) × (t ≤ length b.now) }
     ensures { result ≡ whole_len e (part o (t - o) b.now) o }
 {
     let n = rec_len(e, b, o, t);
     if n < 8 {
-        return 0;
+        return None;
     }
     if t - o < n {
-        return 0;
+        return None;
     }
     if n % 8 != 0 {
-        return 0;
+        return None;
     }
     if be::be16(b, o + n - 2) != o {
-        return 0;
+        return None;
     }
-    n
+    Some(n)
 }
 
 // Stores the word of a hash and an address in the address's cell, if the table has it.
@@ -70,15 +70,6 @@ fn keep(cells: &mut [u64], a: usize, h: usize)
     if a < cells.len() {
         cells[a] = h as u64 * 4294967296 + a as u64;
     }
-}
-
-fn ones(x: bool) -> usize
-    ensures { (result ≡ cond x 1 0) × (result ≤ 1) }
-{
-    if x {
-        return 1;
-    }
-    0
 }
 
 // What the pass over the slots shows: whether their hashes never fall and as many are stale as should be; whether neighbours have one hash
@@ -95,20 +86,18 @@ fn slots<'a, 'b>(b: &'a [u8], t: usize, n: usize, m: usize, cells: &'b mut [u64]
     ensures { (result.good ≡ ordered_with 0 0 m (slots_from b.now t n 0)) × (result.equal ≡ level 0 (slots_from b.now t n 0))
         × (cells.new ≡ cells_of b.now t cells.old n) }
 {
-    let mut i = 0;
     let mut last = 0;
     let mut stale = 0;
     let mut good = true;
     let mut equal = false;
-    while i < n {
+    for i in 0..n {
         let h = dir_block_twice::slot_hash(b, t, i);
         let a = dir_block_twice::slot_addr(b, t, i);
         keep(cells, a, h);
         good = good & (last <= h);
         equal = equal | (last == h);
-        stale += ones(a == 0);
+        stale += usize::from(a == 0);
         last = h;
-        i += 1;
     }
     Run {
         good: good & (stale == m),
@@ -124,15 +113,6 @@ fn has_slot(cells: &[u64], h: usize, a: usize) -> bool
     cells[a] == h as u64 * 4294967296 + a as u64
 }
 
-fn agree(x: bool, y: bool) -> bool
-    ensures { result ≡ beq x y }
-{
-    if x {
-        return y;
-    }
-    !y
-}
-
 // Whether a name may stand at o: it is legal, and "." and ".." stand in their places and nowhere else.
 fn name_fits(e: Edition, legal: bool, s: &[u8], o: usize) -> bool
     requires sane { Sane e }
@@ -145,10 +125,10 @@ fn name_fits(e: Edition, legal: bool, s: &[u8], o: usize) -> bool
     if (2 < s.len()) & (e.header + 16 < o) {
         return true;
     }
-    if !agree(name::equal(s, b"."), o == e.header) {
+    if name::equal(s, b".") != (o == e.header) {
         return false;
     }
-    agree(name::equal(s, b".."), o == e.header + 16)
+    name::equal(s, b"..") == (o == e.header + 16)
 }
 
 // Whether the number at o may stand there, with the name s: it is legal, and only "." and ".." bear that of ".", which is the word `own`.
@@ -165,44 +145,47 @@ fn number_fits(e: Edition, b: &[u8], o: usize, s: &[u8], own: u64) -> bool
     name::fixed(s)
 }
 
-// No test failed: above every refusal, so that the lowest fault counts.
-const NO_FAULT: usize = 16;
-
-const NAME: usize = Refusal::Name as usize;
-
-const NUMBER: usize = Refusal::Number as usize;
-
-const INDEX: usize = Refusal::Index as usize;
-
 // The first test that the entry at o fails: NAME, NUMBER or INDEX. The number of "." is the word `own`.
-fn entry_fault(e: Edition, b: &[u8], o: usize, t: usize, cells: &[u64], own: u64) -> usize
+fn entry_fault(e: Edition, b: &[u8], o: usize, t: usize, cells: &[u64], own: u64) -> Option<Refusal>
     requires sane { Sane e }
     requires header_in_bounds { (e.header + 8 ≤ length b.now) × (own ≡ le (part e.header 8 b.now)) }
     requires t_in_bounds { (t + 8 ≤ length b.now) × (t < 65536) × (t ≤ 8 * length cells.now) × (o + 9 + byte (o + 8) b.now ≤ t) }
-    ensures { result ≡ fault_at e (own_at e b.now) (hint cells.now) b.now o }
+    ensures { fault_of result ≡ fault_at e (own_at e b.now) (hint cells.now) b.now o }
 {
     let from = o + 9;
     let end = from + be::be8(b, o + 8);
     let c = name_words::check_in(e, b, from, end);
     if !name_fits(e, c.legal, &b[from..end], o) {
-        return NAME;
+        return Some(Refusal::Name);
     }
     if !number_fits(e, b, o, &b[from..end], own) {
-        return NUMBER;
+        return Some(Refusal::Number);
     }
     if has_slot(cells, c.hash, o / 8) {
-        return NO_FAULT;
+        return None;
     }
-    INDEX
+    Some(Refusal::Index)
 }
 
-fn lower(x: usize, y: usize) -> usize
-    ensures { result ≡ min x y }
+// The fault of the test that comes first.
+fn first_fault(x: Option<Refusal>, y: Option<Refusal>) -> Option<Refusal>
+    ensures { fault_of result ≡ min (fault_of x) (fault_of y) }
 {
-    if y < x {
-        return y;
+    match (x, y) {
+        (Some(r), Some(s)) => { if s < r { y } else { x } }
+        (Some(_), None) => x,
+        (None, _) => y,
     }
-    x
+}
+
+// Whether a fault is that of the test r, or of one before it.
+fn fails(fault: Option<Refusal>, r: Refusal) -> bool
+    ensures { result ≡ leb (fault_of fault) (number r) }
+{
+    match fault {
+        Some(x) => x <= r,
+        None => false,
+    }
 }
 
 // A pair of the best-gap table.
@@ -219,102 +202,71 @@ fn named(p: Best, o: usize, n: usize) -> bool
     (o == p.from) & (n == p.long)
 }
 
-// Which pair names the gap of n bytes at o: 1, 2 or 3; 4 if none has to, 0 if one should.
-fn which(o: usize, n: usize, p: Best, q: Best, s: Best) -> usize
-    ensures { result ≡ which o n (pair p.from p.long) (pair q.from q.long) (pair s.from s.long) }
+// Which of the pairs names the gap of n bytes at o.
+fn which(o: usize, n: usize, pairs: [Best; 3]) -> Option<usize>
+    ensures { result ≡ which o n (pair_of pairs 0) (pair_of pairs 1) (pair_of pairs 2) }
 {
-    if named(p, o, n) {
-        return 1;
+    if named(pairs[0], o, n) {
+        return Some(0);
     }
-    if named(q, o, n) {
-        return 2;
+    if named(pairs[1], o, n) {
+        return Some(1);
     }
-    if named(s, o, n) {
-        return 3;
+    if named(pairs[2], o, n) {
+        return Some(2);
     }
-    if s.long < n {
-        return 0;
-    }
-    4
+    None
 }
 
-// What the pass over the records shows: n is 0 if the data is not tiled, else one more than it has entries; w is the lowest fault of
-// their names, numbers and slots; best says whether the pairs name the longest gaps.
+// What the pass over tiled records shows: how many entries there are; the first test that one of their names, numbers and slots fails;
+// whether the pairs name the longest gaps.
 #[derive(Clone, Copy)]
 struct Survey {
-    n: usize,
-    w: usize,
+    entries: usize,
+    fault: Option<Refusal>,
     best: bool,
 }
 
-fn untiled() -> Survey
-    ensures { result.n ≡ 0 }
-{
-    Survey {
-        n: 0,
-        w: 0,
-        best: false,
-    }
-}
-
-// Goes over the records up to t, where x0, y0 and z0 say which pairs need not name a gap.
-fn walk(
-    e: Edition,
-    b: &[u8],
-    t: usize,
-    cells: &[u64],
-    p: Best,
-    q: Best,
-    s: Best,
-    x0: bool,
-    y0: bool,
-    z0: bool,
-) -> Survey
+// Goes over the records up to t. A pair of zeros need not name a gap. Records that are not tiled show nothing.
+fn walk(e: Edition, b: &[u8], t: usize, cells: &[u64], pairs: [Best; 3]) -> Option<Survey>
     requires sane { Sane e }
     requires t_in_bounds { (t + 8 ≤ length b.now) × (t < 65536) × (t % 8 ≡ 0) × (e.header ≤ t) × (t ≤ 8 * length cells.now) }
-    ensures { Surveys e (own_at e b.now) (hint cells.now) (rest e b.now t (length b.now) e.header)
-        (best_left x0 y0 z0 (pair p.from p.long) (pair q.from q.long) (pair s.from s.long)
+    ensures { Surveyed e (own_at e b.now) (hint cells.now) (rest e b.now t (length b.now) e.header)
+        (best_of_pairs (pair_of pairs 0) (pair_of pairs 1) (pair_of pairs 2)
         (gaps (rest e b.now t (length b.now) e.header)))
-        result.n result.w result.best }
+        result }
 {
     let own = be::le64(b, e.header);
     let mut o = e.header;
     let mut after = false;
-    let mut n = 1;
-    let mut w = NO_FAULT;
-    let mut x = x0;
-    let mut y = y0;
-    let mut z = z0;
+    let mut entries = 0;
+    let mut fault = None;
+    let mut named = [is_zero(pairs[0]), is_zero(pairs[1]), is_zero(pairs[2])];
     let mut best = true;
     while o < t {
+        let len = whole_len(e, b, o, t)?;
         if !is_gap(b, o) {
-            let len = whole_len(e, b, o, t);
-            if len == 0 {
-                return untiled();
-            }
-            w = lower(w, entry_fault(e, b, o, t, cells, own));
-            n += 1;
+            fault = first_fault(fault, entry_fault(e, b, o, t, cells, own));
+            entries += 1;
             after = false;
             o += len;
             continue;
         }
-        let len = whole_len(e, b, o, t);
-        if (len == 0) | after {
-            return untiled();
+        if after {
+            return None;
         }
-        let k = which(o, len, p, q, s);
-        best = best & (k != 0);
-        x = x | (k == 1);
-        y = y | (k == 2);
-        z = z | (k == 3);
+        match which(o, len, pairs) {
+            Some(i) => named[i] = true,
+            None => best = best & (len <= pairs[2].long),
+        }
         after = true;
         o += len;
     }
-    Survey {
-        n,
-        w,
-        best: best & (x & (y & z)),
-    }
+    Some(Survey {
+        entries,
+        fault,
+        best: best & (named[0] & (named[1] & named[2])),
+    })
 }
 
 // The pair at o.
@@ -334,10 +286,10 @@ fn is_zero(p: Best) -> bool
 }
 
 // BEST: whether the pairs do not rise, and name the longest gaps.
-fn best_fits(p: Best, q: Best, s: Best, left: bool) -> bool
-    ensures { result ≡ (leb q.long p.long && (leb s.long q.long && left)) }
+fn best_fits(pairs: [Best; 3], left: bool) -> bool
+    ensures { result ≡ (leb (pair_of pairs 1).long (pair_of pairs 0).long && (leb (pair_of pairs 2).long (pair_of pairs 1).long && left)) }
 {
-    (q.long <= p.long) & ((s.long <= q.long) & left)
+    (pairs[1].long <= pairs[0].long) & ((pairs[2].long <= pairs[1].long) & left)
 }
 
 // The tests from BEST on. Names are compared only if neighbours have one hash.
@@ -386,32 +338,31 @@ fn test_entries(
     t: usize,
     n: usize,
     m: usize,
-    live: usize,
     run: Run,
-    w: usize,
+    survey: Survey,
     best: bool,
 ) -> Result<(), Refusal>
     requires sane { Sane e }
-    requires data_tiled { DataTiled e b.now t n × (m ≤ n) × (live ≡ length (entries (rest e b.now t (length b.now) e.header)))
+    requires data_tiled { DataTiled e b.now t n × (m ≤ n) × (survey.entries ≡ length (entries (rest e b.now t (length b.now) e.header)))
         × (run.good ≡ ordered_with 0 0 m (slots_from b.now t n 0)) × (run.equal ≡ level 0 (slots_from b.now t n 0))
-        × Faulted e b.now t n w
+        × Faulted e b.now t n (fault_of survey.fault)
         × (best ≡ best_ok (best_pairs e b.now) (gaps (rest e b.now t (length b.now) e.header))) }
     ensures { code result ≡ after_tile e b.now (rest e b.now t (length b.now) e.header)
         (slots_from b.now t n 0) m }
 {
-    if w <= NAME {
+    if fails(survey.fault, Refusal::Name) {
         return Err(Refusal::Name);
     }
     if !(entry_at(b, e.header, t) & entry_at(b, e.header + 16, t)) {
         return Err(Refusal::Name);
     }
-    if w <= NUMBER {
+    if fails(survey.fault, Refusal::Number) {
         return Err(Refusal::Number);
     }
-    if !(run.good & (n - m == live)) {
+    if !(run.good & (n - m == survey.entries)) {
         return Err(Refusal::Index);
     }
-    if w <= INDEX {
+    if fails(survey.fault, Refusal::Index) {
         return Err(Refusal::Index);
     }
     test_best(e, b, t, n, m, best, run.equal)
@@ -432,25 +383,15 @@ fn test_data_with<'a, 'b>(
         (slots_from b.now t n 0) m }
 {
     let run = slots(b, t, n, m, cells);
-    let p = pair_at(b, e.best);
-    let q = pair_at(b, e.best + 4);
-    let s = pair_at(b, e.best + 8);
-    let r = walk(
-        e,
-        b,
-        t,
-        &cells[..],
-        p,
-        q,
-        s,
-        is_zero(p),
-        is_zero(q),
-        is_zero(s),
-    );
-    if r.n == 0 {
+    let pairs = [
+        pair_at(b, e.best),
+        pair_at(b, e.best + 4),
+        pair_at(b, e.best + 8),
+    ];
+    let Some(survey) = walk(e, b, t, &cells[..], pairs) else {
         return Err(Refusal::Tile);
-    }
-    test_entries(e, b, t, n, m, r.n - 1, run, r.w, best_fits(p, q, s, r.best))
+    };
+    test_entries(e, b, t, n, m, run, survey, best_fits(pairs, survey.best))
 }
 
 // The table has a cell for every 8 bytes up to the data's end. Clearing that of the largest block would show in the test of a small one:

@@ -1,3 +1,5 @@
+use mathlib.Core.Path.{refl}
+use borrow.Author.Tests.{not-true, not-false}
 use Rattle.dir_block_test.proofs.NamePlaces.{fits_illegal, fits_other, fits_dot, fits_dotdot}
 use Rattle.dir_block_test.proofs.name_fits.Goals as goal
 
@@ -8,10 +10,10 @@ pub returns-then-s-e : goal.returns-then-s-e
 returns-then-s-e c =
     fits_other _ _ _ _ c.requires.legal_value c.if-not-legal.false c.if-s-e.true
 
-pub returns-then-not-agree : goal.returns-then-not-agree
-returns-then-not-agree c =
-    fits_dot _ _ _ _ c.requires.legal_value c.if-not-legal.false _ c.equal.ensures _ c.agree.ensures c.if-not-agree.true
+pub returns-then-equal-o : goal.returns-then-equal-o
+returns-then-equal-o c =
+    fits_dot _ _ _ _ c.requires.legal_value c.if-not-legal.false _ c.equal.ensures _ refl (not-true _ c.if-equal-o.true)
 
 pub returns : goal.returns
 returns c =
-    fits_dotdot _ _ _ _ c.requires.legal_value c.if-not-legal.false _ c.equal.ensures _ c.agree.ensures c.if-not-agree.false _ c.equal-2.ensures _ c.agree-2.ensures
+    fits_dotdot _ _ _ _ c.requires.legal_value c.if-not-legal.false _ c.equal.ensures _ refl (not-false _ c.if-equal-o.false) _ c.equal-2.ensures _ refl

@@ -1,38 +1,37 @@
 use native.Mathlib.Omega.{arith}
-use Rattle.dir_block_test.proofs.EarlyTests.{end_5, tiled_parts, tiled_count, end_tile, faulted}
+use mathlib.Core.Path.{refl}
+use Rattle.dir_block_test.proofs.EarlyTests.{end_5, tiled_parts, end_tile, faulted}
 use Rattle.dir_block_test.proofs.LaterTests.{best_fits_is}
 use Rattle.dir_block_test.proofs.SlotTable.{cells_long}
 use Rattle.dir_block_test.proofs.test_data_with.Goals as goal
 
-pub walk-r-requires : goal.walk-r-requires
-walk-r-requires c =
+pub walk-requires : goal.walk-requires
+walk-requires c =
     let q = c.requires in
     let p = q.parts.0 in
     record { sane = q.sane; t_in_bounds = (omega (arith, p.slots_fit), p.short, p.eights, p.least, omega (arith, q.parts.2, cells_long _ _ _ _ _ c.slots-run.ensures.2)) }
 
-pub returns-then-r-eq0 : goal.returns-then-r-eq0
-returns-then-r-eq0 c = end_5 _ _ _ _ _ _ c.walk-r.ensures.tiles c.if-r-eq0.true
+pub returns-in_default : goal.returns-in_default
+returns-in_default c = end_5 _ _ _ _ _ c.in_default.ensures
 
 pub test_entries-requires : goal.test_entries-requires
 test_entries-requires c =
     let q = c.requires in
-    let a = c.args in
-    let w = c.walk-r.ensures in
+    let w = c.in-Some.ensures in
     let s = c.slots-run.ensures in
-    let z = c.if-r-eq0.false in
-    let T = tiled_parts _ _ _ _ a.m _ w.tiles z q.parts.0 in
-    let f = c.pair_at-p.ensures in
-    let g = c.pair_at-q.ensures in
-    let h = c.pair_at-s.ensures in record {
+    let T = tiled_parts _ _ _ _ c.args.m w.0 q.parts.0 in
+    let f = c.pair_at.ensures in
+    let g = c.pair_at-2.ensures in
+    let h = c.pair_at-3.ensures in record {
       sane = q.sane;
       data_tiled = (
         T,
         q.parts.1,
-        tiled_count _ _ _ a.n a.m _ w.tiles z,
+        w.1,
         s.0,
         s.1,
-        faulted _ _ _ _ _ _ _ q.parts.2 q.parts.3 s.2 (w.faults z),
-        best_fits_is _ q.sane _ _ _ T _ _ _ _ _ _ f.0 f.1 f.2 g.0 g.1 h.0 h.1 _ _ _ _ _ c.is_zero.ensures c.is_zero-2.ensures c.is_zero-3.ensures (w.bests z) c.best_fits.ensures,
+        faulted _ _ _ _ _ _ _ q.parts.2 q.parts.3 s.2 w.2,
+        best_fits_is _ q.sane _ _ _ T _ _ _ _ _ _ f.0 f.1 f.2 g.0 g.1 h.0 h.1 _ _ _ _ _ refl refl refl w.3 c.best_fits.ensures,
       );
     }
 
@@ -40,4 +39,4 @@ pub shape_of-cells : goal.shape_of-cells
 shape_of-cells c = cells_long _ _ _ _ _ c.slots-run.ensures.2
 
 pub returns : goal.returns
-returns c = end_tile _ _ _ _ _ _ c.walk-r.ensures.tiles c.if-r-eq0.false _ c.test_entries.ensures
+returns c = end_tile _ _ _ _ _ c.in-Some.ensures.0 _ c.test_entries.ensures

@@ -1,17 +1,25 @@
-use Prim.Native.Nat.{◌-◌}
+use Prim.Native.Nat.{ℕ, suc, ◌-◌, ◌≤◌, ◌<◌}
 use native.Mathlib.Omega.{arith}
-use mathlib.Core.Bool.{Bool, ◌&&◌}
-use mathlib.Core.Path.{refl, ap}
-use lib.Dec.{eqb}
+use mathlib.Core.Bool.{Bool, true, false, ◌&&◌}
+use mathlib.Core.Path.{◌≡◌, refl, sym, ◌∙◌, ap}
+use lib.Dec.{eqb, leb}
+use borrow.Author.Tests.{leb-true, leb-false}
 use Rattle.dir_block_test.proofs.LaterTests.{end_6, end_6', end_7, end_8, end_8', end_index, indexed_ok, room_8, both_there}
 use Rattle.dir_block_test.proofs.test_entries.Goals as goal
 
-pub returns-then-w-le-NAME : goal.returns-then-w-le-NAME
-returns-then-w-le-NAME c =
+-- what is said of the first fault, and of an entry's tests before it
+failed : {x : Bool} {m n : ℕ} → x ≡ leb m n → x ≡ true → m < suc n
+failed {x} {m} {n} h t = let l : m ≤ n = leb-true m n (sym h ∙ t) in omega arith
+
+passes : {x : Bool} {m n : ℕ} → x ≡ leb m n → x ≡ false → suc n ≤ m
+passes {x} {m} {n} h f = leb-false m n (sym h ∙ f)
+
+pub returns-then-fails : goal.returns-then-fails
+returns-then-fails c =
     let a = c.args in
     let q = c.requires in
     let p = q.data_tiled in
-    end_6 _ q.sane _ _ _ p.0 _ _ p.5.cells p.5.long p.1 p.2 (a.run.good && eqb (a.n - a.m) a.live) (ap (λ (g : Bool). g && eqb (a.n - a.m) a.live) p.3) _ p.5.lowest (omega (arith, c.if-w-le-NAME.true))
+    end_6 _ q.sane _ _ _ p.0 _ _ p.5.cells p.5.long p.1 p.2 (a.run.good && eqb (a.n - a.m) a.survey.entries) (ap (λ (g : Bool). g && eqb (a.n - a.m) a.survey.entries) p.3) _ p.5.lowest (failed c.fails.ensures c.if-fails.true)
 
 pub entry_at-requires : goal.entry_at-requires
 entry_at-requires c =
@@ -26,28 +34,28 @@ returns-then-not-entry_at c =
     let a = c.args in
     let q = c.requires in
     let p = q.data_tiled in
-    end_6' _ q.sane _ _ _ p.0 _ _ p.5.cells p.5.long p.1 p.2 (a.run.good && eqb (a.n - a.m) a.live) (ap (λ (g : Bool). g && eqb (a.n - a.m) a.live) p.3) _ p.5.lowest c.if-w-le-NAME.false _ (both_there refl c.entry_at.ensures c.entry_at-2.ensures) c.if-not-entry_at.true
+    end_6' _ q.sane _ _ _ p.0 _ _ p.5.cells p.5.long p.1 p.2 (a.run.good && eqb (a.n - a.m) a.survey.entries) (ap (λ (g : Bool). g && eqb (a.n - a.m) a.survey.entries) p.3) _ p.5.lowest (passes c.fails.ensures c.if-fails.false) _ (both_there refl c.entry_at.ensures c.entry_at-2.ensures) c.if-not-entry_at.true
 
-pub returns-then-w-le-NUMBER : goal.returns-then-w-le-NUMBER
-returns-then-w-le-NUMBER c =
+pub returns-then-fails-2 : goal.returns-then-fails-2
+returns-then-fails-2 c =
     let a = c.args in
     let q = c.requires in
     let p = q.data_tiled in
-    end_7 _ q.sane _ _ _ p.0 _ _ p.5.cells p.5.long p.1 p.2 (a.run.good && eqb (a.n - a.m) a.live) (ap (λ (g : Bool). g && eqb (a.n - a.m) a.live) p.3) _ p.5.lowest c.if-w-le-NAME.false _ (both_there refl c.entry_at.ensures c.entry_at-2.ensures) c.if-not-entry_at.false (omega (arith, c.if-w-le-NUMBER.true))
+    end_7 _ q.sane _ _ _ p.0 _ _ p.5.cells p.5.long p.1 p.2 (a.run.good && eqb (a.n - a.m) a.survey.entries) (ap (λ (g : Bool). g && eqb (a.n - a.m) a.survey.entries) p.3) _ p.5.lowest (passes c.fails.ensures c.if-fails.false) _ (both_there refl c.entry_at.ensures c.entry_at-2.ensures) c.if-not-entry_at.false (failed c.fails-2.ensures c.if-fails-2.true)
 
 pub returns-then-not-run-n : goal.returns-then-not-run-n
 returns-then-not-run-n c =
     let a = c.args in
     let q = c.requires in
     let p = q.data_tiled in
-    end_8 _ q.sane _ _ _ p.0 _ _ p.5.cells p.5.long p.1 p.2 (a.run.good && eqb (a.n - a.m) a.live) (ap (λ (g : Bool). g && eqb (a.n - a.m) a.live) p.3) _ p.5.lowest c.if-w-le-NAME.false _ (both_there refl c.entry_at.ensures c.entry_at-2.ensures) c.if-not-entry_at.false c.if-w-le-NUMBER.false c.if-not-run-n.true
+    end_8 _ q.sane _ _ _ p.0 _ _ p.5.cells p.5.long p.1 p.2 (a.run.good && eqb (a.n - a.m) a.survey.entries) (ap (λ (g : Bool). g && eqb (a.n - a.m) a.survey.entries) p.3) _ p.5.lowest (passes c.fails.ensures c.if-fails.false) _ (both_there refl c.entry_at.ensures c.entry_at-2.ensures) c.if-not-entry_at.false (passes c.fails-2.ensures c.if-fails-2.false) c.if-not-run-n.true
 
-pub returns-then-w-le-INDEX : goal.returns-then-w-le-INDEX
-returns-then-w-le-INDEX c =
+pub returns-then-fails-3 : goal.returns-then-fails-3
+returns-then-fails-3 c =
     let a = c.args in
     let q = c.requires in
     let p = q.data_tiled in
-    end_8' _ q.sane _ _ _ p.0 _ _ p.5.cells p.5.long p.1 p.2 (a.run.good && eqb (a.n - a.m) a.live) (ap (λ (g : Bool). g && eqb (a.n - a.m) a.live) p.3) _ p.5.lowest c.if-w-le-NAME.false _ (both_there refl c.entry_at.ensures c.entry_at-2.ensures) c.if-not-entry_at.false c.if-w-le-NUMBER.false c.if-not-run-n.false (omega (arith, c.if-w-le-INDEX.true))
+    end_8' _ q.sane _ _ _ p.0 _ _ p.5.cells p.5.long p.1 p.2 (a.run.good && eqb (a.n - a.m) a.survey.entries) (ap (λ (g : Bool). g && eqb (a.n - a.m) a.survey.entries) p.3) _ p.5.lowest (passes c.fails.ensures c.if-fails.false) _ (both_there refl c.entry_at.ensures c.entry_at-2.ensures) c.if-not-entry_at.false (passes c.fails-2.ensures c.if-fails-2.false) c.if-not-run-n.false (failed c.fails-3.ensures c.if-fails-3.true)
 
 pub test_best-requires : goal.test_best-requires
 test_best-requires c =
@@ -57,7 +65,7 @@ test_best-requires c =
       sane = q.sane;
       data_tiled = (
         p.0,
-        indexed_ok _ q.sane _ _ _ p.0 _ _ p.5.cells p.5.long p.1 p.2 (a.run.good && eqb (a.n - a.m) a.live) (ap (λ (g : Bool). g && eqb (a.n - a.m) a.live) p.3) _ p.5.lowest c.if-w-le-NAME.false _ (both_there refl c.entry_at.ensures c.entry_at-2.ensures) c.if-not-entry_at.false c.if-w-le-NUMBER.false c.if-not-run-n.false c.if-w-le-INDEX.false,
+        indexed_ok _ q.sane _ _ _ p.0 _ _ p.5.cells p.5.long p.1 p.2 (a.run.good && eqb (a.n - a.m) a.survey.entries) (ap (λ (g : Bool). g && eqb (a.n - a.m) a.survey.entries) p.3) _ p.5.lowest (passes c.fails.ensures c.if-fails.false) _ (both_there refl c.entry_at.ensures c.entry_at-2.ensures) c.if-not-entry_at.false (passes c.fails-2.ensures c.if-fails-2.false) c.if-not-run-n.false (passes c.fails-3.ensures c.if-fails-3.false),
         p.6,
         p.4,
       );
@@ -68,4 +76,4 @@ returns c =
     let a = c.args in
     let q = c.requires in
     let p = q.data_tiled in
-    end_index _ q.sane _ _ _ p.0 _ _ p.5.cells p.5.long p.1 p.2 (a.run.good && eqb (a.n - a.m) a.live) (ap (λ (g : Bool). g && eqb (a.n - a.m) a.live) p.3) _ p.5.lowest c.if-w-le-NAME.false _ (both_there refl c.entry_at.ensures c.entry_at-2.ensures) c.if-not-entry_at.false c.if-w-le-NUMBER.false c.if-not-run-n.false c.if-w-le-INDEX.false _ c.test_best.ensures
+    end_index _ q.sane _ _ _ p.0 _ _ p.5.cells p.5.long p.1 p.2 (a.run.good && eqb (a.n - a.m) a.survey.entries) (ap (λ (g : Bool). g && eqb (a.n - a.m) a.survey.entries) p.3) _ p.5.lowest (passes c.fails.ensures c.if-fails.false) _ (both_there refl c.entry_at.ensures c.entry_at-2.ensures) c.if-not-entry_at.false (passes c.fails-2.ensures c.if-fails-2.false) c.if-not-run-n.false (passes c.fails-3.ensures c.if-fails-3.false) _ c.test_best.ensures

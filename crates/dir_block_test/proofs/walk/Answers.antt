@@ -1,8 +1,14 @@
-use Prim.Native.Nat.{ℕ, ◌+◌, ◌≤◌}
+use Prim.Native.Nat.{ℕ, ◌+◌, ◌≤◌, ◌<◌}
+use mathlib.Core.Bool.{true, false, ◌||◌}
+use lib.Dec.{eqb}
+use lib.ListN.{length, get_or, set, length-set}
 use native.Mathlib.Omega.{arith}
-use mathlib.Core.Path.{sym, ◌∙◌}
-use Rattle.dir_block_test.proofs.RecordWalk.{walking_start, walking_end, walking_not, walking_room, walking_broken, walking_fits, walking_entry, walking_stop, walking_gap_on, hd, hd_gap}
+use mathlib.Core.Path.{◌≡◌, sym, ◌∙◌, refl, ap, subst}
+use Rattle.dir_block_test.specs.Passes.{Surveyed}
+use Rattle.dir_block_test.proofs.RecordWalk.{walking_start, walking_end, walking_broken, walking_room, walking_fits, walking_entry, walking_touch, walking_named, walking_other, hd}
+use Rattle.dir_block_test.proofs.BestPass.{which_index, flag}
 use Rattle.dir_block_test.proofs.walk.Goals as goal
+use Rattle.dir_block_test.proofs.walk.Goals.{in-Some, in-None}
 
 hi : {l t : ℕ} → t + 8 ≤ l → t ≤ l
 hi p = omega arith
@@ -12,20 +18,17 @@ le64-own-requires c = let p = c.requires in omega (arith, p.t_in_bounds.0, p.t_i
 
 pub loop-o-init : goal.loop-o-init
 loop-o-init c =
-    let p = c.requires in
-    walking_start _ _ _ _ _ _ _ _ _ _ _ _ (hi p.t_in_bounds.0) p.t_in_bounds.2 p.t_in_bounds.3 p.sane.header_eights (omega (arith, p.sane.best_inside))
+    let p = c.requires in record {
+      long = refl;
+      walking = rw (c.is_zero.ensures, c.is_zero-2.ensures, c.is_zero-3.ensures) (walking_start _ _ _ _ _ _ _ _ _ _ _ _ (hi p.t_in_bounds.0) p.t_in_bounds.2 p.t_in_bounds.3 p.sane.header_eights);
+    }
 
-pub is_gap-requires : goal.is_gap-requires
-is_gap-requires c = omega (arith, c.requires.t_in_bounds.0, walking_room _ _ _ _ _ _ _ _ _ _ _ _ (hi c.requires.t_in_bounds.0) c.requires.t_in_bounds.2 _ _ _ _ _ _ _ _ c.loop-o.invariant c.loop-o-test.true)
+pub whole_len-requires : goal.whole_len-requires
+whole_len-requires c =
+    record { sane = c.requires.sane; o_bound = (walking_room _ _ _ _ _ _ _ _ _ _ _ _ (hi c.requires.t_in_bounds.0) c.requires.t_in_bounds.2 _ _ _ _ _ _ _ _ c.loop-o.invariant.walking c.loop-o-test.true, hi c.requires.t_in_bounds.0) }
 
-pub whole_len-len-requires : goal.whole_len-len-requires
-whole_len-len-requires c =
-    record { sane = c.requires.sane; o_bound = (walking_room _ _ _ _ _ _ _ _ _ _ _ _ (hi c.requires.t_in_bounds.0) c.requires.t_in_bounds.2 _ _ _ _ _ _ _ _ c.loop-o.invariant c.loop-o-test.true, hi c.requires.t_in_bounds.0) }
-
-pub returns-then-len-eq0 : goal.returns-then-len-eq0
-returns-then-len-eq0 c =
-    walking_not _ _ _ _ _ _ _ _ _ _ _ _ (hi c.requires.t_in_bounds.0) c.requires.t_in_bounds.2 _ _ _ c.untiled.ensures
-    (walking_broken _ _ _ _ _ _ _ _ _ _ _ _ (hi c.requires.t_in_bounds.0) c.requires.t_in_bounds.2 _ _ _ _ _ _ _ _ c.loop-o.invariant c.loop-o-test.true _ c.whole_len-len.ensures c.if-len-eq0.true)
+pub returns-in_err-len : goal.returns-in_err-len
+returns-in_err-len c = subst (Surveyed _ _ _ _ _) (sym c.from_residual.ensures) (walking_broken _ _ _ _ _ _ _ _ _ _ _ _ (hi c.requires.t_in_bounds.0) c.requires.t_in_bounds.2 _ _ _ _ _ _ _ _ c.loop-o.invariant.walking c.loop-o-test.true c.in_err-len.ensures)
 
 pub entry_fault-requires : goal.entry_fault-requires
 entry_fault-requires c =
@@ -36,42 +39,56 @@ entry_fault-requires c =
         p.t_in_bounds.0,
         p.t_in_bounds.1,
         p.t_in_bounds.4,
-        walking_fits _ _ _ _ _ _ _ _ _ _ _ _ (hi c.requires.t_in_bounds.0) c.requires.t_in_bounds.2 _ _ _ _ _ _ _ _ c.loop-o.invariant c.loop-o-test.true _ c.whole_len-len.ensures c.if-len-eq0.false (sym c.is_gap.ensures ∙ c.if-not-is_gap.true),
+        walking_fits _ _ _ _ _ _ _ _ _ _ _ _ (hi c.requires.t_in_bounds.0) c.requires.t_in_bounds.2 _ _ _ _ _ _ _ _ c.loop-o.invariant.walking c.loop-o-test.true _ c.in_ok-len.ensures (sym c.is_gap.ensures ∙ c.if-not-is_gap.true),
       );
     }
 
-pub overflow_add-n : goal.overflow_add-n
-overflow_add-n c = omega (arith, c.loop-o.invariant.few, c.loop-o.invariant.within, c.requires.t_in_bounds.1)
+pub overflow_add-entries : goal.overflow_add-entries
+overflow_add-entries c = omega (arith, c.loop-o.invariant.walking.few, c.loop-o.invariant.walking.within, c.requires.t_in_bounds.1)
 
 pub overflow_add-o : goal.overflow_add-o
-overflow_add-o c = omega (arith, (hd _ _ _ _ _ _ _ _ _ _ _ _ (hi c.requires.t_in_bounds.0) c.requires.t_in_bounds.2 _ _ _ _ _ _ _ _ c.loop-o.invariant c.loop-o-test.true _ c.whole_len-len.ensures c.if-len-eq0.false).fits)
+overflow_add-o c = omega (arith, (hd _ _ _ _ _ _ _ _ _ _ _ _ (hi c.requires.t_in_bounds.0) c.requires.t_in_bounds.2 _ _ _ _ _ _ _ _ c.loop-o.invariant.walking c.loop-o-test.true _ c.in_ok-len.ensures).fits)
 
 pub loop-o-smaller-then-not-is_gap : goal.loop-o-smaller-then-not-is_gap
-loop-o-smaller-then-not-is_gap c = omega (arith, c.loop-o-test.true, (hd _ _ _ _ _ _ _ _ _ _ _ _ (hi c.requires.t_in_bounds.0) c.requires.t_in_bounds.2 _ _ _ _ _ _ _ _ c.loop-o.invariant c.loop-o-test.true _ c.whole_len-len.ensures c.if-len-eq0.false).least)
+loop-o-smaller-then-not-is_gap c = omega (arith, c.loop-o-test.true, (hd _ _ _ _ _ _ _ _ _ _ _ _ (hi c.requires.t_in_bounds.0) c.requires.t_in_bounds.2 _ _ _ _ _ _ _ _ c.loop-o.invariant.walking c.loop-o-test.true _ c.in_ok-len.ensures).least)
 
 pub loop-o-preserved-then-not-is_gap : goal.loop-o-preserved-then-not-is_gap
-loop-o-preserved-then-not-is_gap c =
-    walking_entry _ _ _ _ _ _ _ _ _ _ _ _ (hi c.requires.t_in_bounds.0) c.requires.t_in_bounds.2 _ _ _ _ _ _ _ _ c.loop-o.invariant c.loop-o-test.true _ c.whole_len-len.ensures c.if-len-eq0.false (sym c.is_gap.ensures ∙ c.if-not-is_gap.true)
-    _ _ c.entry_fault.ensures c.lower-w.ensures
+loop-o-preserved-then-not-is_gap c = record {
+  long = c.loop-o.invariant.long;
+  walking = walking_entry _ _ _ _ _ _ _ _ _ _ _ _ (hi c.requires.t_in_bounds.0) c.requires.t_in_bounds.2 _ _ _ _ _ _ _ _ c.loop-o.invariant.walking c.loop-o-test.true _ c.in_ok-len.ensures (sym c.is_gap.ensures ∙ c.if-not-is_gap.true)
+      _ _ c.entry_fault.ensures c.first_fault-fault.ensures;
+}
 
-pub whole_len-len-requires-in-loop-o : goal.whole_len-len-requires-in-loop-o
-whole_len-len-requires-in-loop-o c =
-    record { sane = c.requires.sane; o_bound = (walking_room _ _ _ _ _ _ _ _ _ _ _ _ (hi c.requires.t_in_bounds.0) c.requires.t_in_bounds.2 _ _ _ _ _ _ _ _ c.loop-o.invariant c.loop-o-test.true, hi c.requires.t_in_bounds.0) }
-
-pub returns-then-len-after : goal.returns-then-len-after
-returns-then-len-after c =
-    walking_not _ _ _ _ _ _ _ _ _ _ _ _ (hi c.requires.t_in_bounds.0) c.requires.t_in_bounds.2 _ _ _ c.untiled-then-len-after.ensures
-    (walking_stop _ _ _ _ _ _ _ _ _ _ _ _ (hi c.requires.t_in_bounds.0) c.requires.t_in_bounds.2 _ _ _ _ _ _ _ _ c.loop-o.invariant c.loop-o-test.true _ c.whole_len-len-in-loop-o.ensures (sym c.is_gap.ensures ∙ c.if-not-is_gap.false) c.if-len-after.true)
+pub returns-then-after : goal.returns-then-after
+returns-then-after c =
+    walking_touch _ _ _ _ _ _ _ _ _ _ _ _ (hi c.requires.t_in_bounds.0) c.requires.t_in_bounds.2 _ _ _ _ _ _ _ _ c.loop-o.invariant.walking c.loop-o-test.true _ c.in_ok-len.ensures (sym c.is_gap.ensures ∙ c.if-not-is_gap.false) c.if-after.true
 
 pub overflow_add-o-in-loop-o : goal.overflow_add-o-in-loop-o
-overflow_add-o-in-loop-o c = omega (arith, (hd_gap _ _ _ _ _ _ _ _ _ _ _ _ (hi c.requires.t_in_bounds.0) c.requires.t_in_bounds.2 _ _ _ _ _ _ _ _ c.loop-o.invariant c.loop-o-test.true _ c.whole_len-len-in-loop-o.ensures c.if-len-after.false).fits)
+overflow_add-o-in-loop-o c = omega (arith, (hd _ _ _ _ _ _ _ _ _ _ _ _ (hi c.requires.t_in_bounds.0) c.requires.t_in_bounds.2 _ _ _ _ _ _ _ _ c.loop-o.invariant.walking c.loop-o-test.true _ c.in_ok-len.ensures).fits)
 
 pub loop-o-smaller : goal.loop-o-smaller
-loop-o-smaller c = omega (arith, c.loop-o-test.true, (hd_gap _ _ _ _ _ _ _ _ _ _ _ _ (hi c.requires.t_in_bounds.0) c.requires.t_in_bounds.2 _ _ _ _ _ _ _ _ c.loop-o.invariant c.loop-o-test.true _ c.whole_len-len-in-loop-o.ensures c.if-len-after.false).least)
+loop-o-smaller c = omega (arith, c.loop-o-test.true, (hd _ _ _ _ _ _ _ _ _ _ _ _ (hi c.requires.t_in_bounds.0) c.requires.t_in_bounds.2 _ _ _ _ _ _ _ _ c.loop-o.invariant.walking c.loop-o-test.true _ c.in_ok-len.ensures).least)
+
+pub bounds-named-i : goal.bounds-named-i
+bounds-named-i c = which_index _ _ _ _ _ _ (sym c.in-Some.is ∙ c.which.ensures)
 
 pub loop-o-preserved : goal.loop-o-preserved
 loop-o-preserved c =
-    walking_gap_on _ _ _ _ _ _ _ _ _ _ _ _ (hi c.requires.t_in_bounds.0) c.requires.t_in_bounds.2 _ _ _ _ _ _ _ _ c.loop-o.invariant c.loop-o-test.true _ c.whole_len-len-in-loop-o.ensures (sym c.is_gap.ensures ∙ c.if-not-is_gap.false) c.if-len-after.false _ c.which-k.ensures
+    let g = sym c.is_gap.ensures ∙ c.if-not-is_gap.false in
+    let v = c.loop-o.invariant in
+    let f : (i j : ℕ) → j < 3 → get_or (set c.loop-o.named i true) j false ≡ (get_or c.loop-o.named j false || eqb i j) = λ i j h. flag c.loop-o.named i j (omega (arith, v.long)) in
+    elim c.match-which.branch [
+      | in-Some w ↦
+          let i = w.in-Some.i in record {
+            long = ap length w.named-is ∙ length-set c.loop-o.named i true ∙ v.long;
+            walking = rw (w.named-is, w.best-is, f i 0 (omega arith), f i 1 (omega arith), f i 2 (omega arith))
+                (walking_named _ _ _ _ _ _ _ _ _ _ _ _ (hi c.requires.t_in_bounds.0) c.requires.t_in_bounds.2 _ _ _ _ _ _ _ _ c.loop-o.invariant.walking c.loop-o-test.true _ c.in_ok-len.ensures g c.if-after.false i (sym w.in-Some.is ∙ c.which.ensures));
+          }
+      | in-None w ↦ record {
+        long = ap length w.named-is ∙ v.long;
+        walking = rw (w.named-is, w.best-is) (walking_other _ _ _ _ _ _ _ _ _ _ _ _ (hi c.requires.t_in_bounds.0) c.requires.t_in_bounds.2 _ _ _ _ _ _ _ _ c.loop-o.invariant.walking c.loop-o-test.true _ c.in_ok-len.ensures g c.if-after.false (sym w.in-None.is ∙ c.which.ensures));
+      }
+    ]
 
 pub returns : goal.returns
-returns c = walking_end _ _ _ _ _ _ _ _ _ _ _ _ (hi c.requires.t_in_bounds.0) c.requires.t_in_bounds.2 _ _ _ _ _ _ _ _ c.loop-o.invariant c.loop-o-test.false
+returns c = walking_end _ _ _ _ _ _ _ _ _ _ _ _ (hi c.requires.t_in_bounds.0) c.requires.t_in_bounds.2 _ _ _ _ _ _ _ _ c.loop-o.invariant.walking c.loop-o-test.false c.loop-o.fault refl
