@@ -5,6 +5,7 @@
 ghost use Rattle.std.specs.Prelude.{◌≡◌, ◌+◌, ◌<◌, ◌≤◌, length};
 
 use dir::Looked;
+use refusal::Refusal;
 
 // The process's own streams, by the numbers that the system gives them.
 const STDOUT_FILENO: i32 = 1;
@@ -16,6 +17,11 @@ fn text(s: &[u8]) {
 fn number(n: u64) {
     text(b" ");
     io::print_decimal(STDOUT_FILENO, n);
+}
+
+// A call's number: 0 when nothing is refused.
+fn answer(done: Result<(), Refusal>) {
+    number(u64::from(Refusal::code(done)));
 }
 
 // ---- a block with only "." and "..", both of inode 128
@@ -87,7 +93,7 @@ fn insert(b: &mut [u8], name: &[u8], inode: u64)
     text(b"insert");
     number(name.len() as u64);
     text(b":");
-    number(dir_block_edit::insert(b, name, inode) as u64);
+    answer(dir_block_edit::insert(b, name, inode));
     show(&b[..]);
 }
 
@@ -97,7 +103,7 @@ fn remove(b: &mut [u8], name: &[u8])
     text(b"remove");
     number(name.len() as u64);
     text(b":");
-    number(dir_block_edit::remove(b, name) as u64);
+    answer(dir_block_edit::remove(b, name));
     show(&b[..]);
 }
 
@@ -106,7 +112,7 @@ fn start(b: &mut [u8], label: &[u8])
 {
     fresh(b);
     text(label);
-    number(dir_block_test::test(&b[..]) as u64);
+    answer(dir_block_test::test(&b[..]));
     show(&b[..]);
 }
 
@@ -159,15 +165,13 @@ fn case_5(b: &mut [u8], x: &[u8])
 fn fill(b: &mut [u8]) -> u64
     ensures { result ≤ 400 }
 {
-    let mut i: usize = 0;
-    while i < 400 {
+    for i in 0..400 {
         let name = [(97 + i / 20) as u8, (97 + i % 20) as u8];
-        if dir_block_edit::insert(b, &name, 7) != 0 {
-            return i as u64;
+        if dir_block_edit::insert(b, &name, 7).is_err() {
+            return i;
         }
-        i += 1;
     }
-    i as u64
+    400
 }
 
 fn most(b: &mut [u8])
@@ -237,67 +241,71 @@ fn gaps(b: &[u8], end: usize) -> Lengths
     g
 }
 
-// The case that holds: 1 to 4 for (a) to (d), 0 if there is no room.
-fn case_of(g: Lengths, s: usize, need: usize) -> usize
-    requires { (s < 65536) × (need < 65536) }
-    ensures { result < 5 }
-{
-    if 0 < s {
-        if need <= g.last {
-            return 1;
-        }
-        if need <= g.other {
-            return 1;
-        }
-        if need <= 8 * (s - 1) {
-            return 2;
-        }
-        if need - 8 * (s - 1) <= g.last {
-            return 2;
-        }
-        return 0;
-    }
-    if g.last < 8 {
-        return 0;
-    }
-    if need <= g.other {
-        return 3;
-    }
-    if need <= g.last - 8 {
-        return 4;
-    }
-    0
+// The cases of the room rule.
+#[derive(Clone, Copy)]
+enum Case {
+    A,
+    B,
+    C,
+    D,
 }
 
-fn room(b: &[u8], name: usize) -> usize
+// The case that holds, if there is room.
+fn case_of(g: Lengths, s: usize, need: usize) -> Option<Case>
+    requires { (s < 65536) × (need < 65536) }
+{
+    if 0 < s {
+        if need <= g.last.max(g.other) {
+            return Some(Case::A);
+        }
+        if need <= 8 * (s - 1) {
+            return Some(Case::B);
+        }
+        if need - 8 * (s - 1) <= g.last {
+            return Some(Case::B);
+        }
+        return None;
+    }
+    if g.last < 8 {
+        return None;
+    }
+    if need <= g.other {
+        return Some(Case::C);
+    }
+    if need <= g.last - 8 {
+        return Some(Case::D);
+    }
+    None
+}
+
+fn room(b: &[u8], name: usize) -> Option<Case>
     requires { name < 65 }
-    ensures { result < 5 }
 {
     let n = b.len();
     if n < 512 {
-        return 0;
+        return None;
     }
     let c = be::be32(b, n - 8);
     let s = be::be32(b, n - 4);
     if c == 0 {
-        return 0;
+        return None;
     }
     if n / 8 < c + 3 {
-        return 0;
+        return None;
     }
     if c < s {
-        return 0;
+        return None;
     }
     if 65535 < s {
-        return 0;
+        return None;
     }
     case_of(gaps(b, n - 8 - 8 * c), s, (name + 18) / 8 * 8)
 }
 
-// ---- the book: a number for each name, 0 if it is not held
+// ---- the book: for each name the number that it is held with
 
 // What the calls came to.
-#[derive(Clone, Copy)]
+#[derive(Clone, Copy, Default)]
 struct Tally {
     // Inserts by each case of the room rule.
     a: u64,
@@ -314,40 +322,39 @@ fn more(n: u64) -> u64 {
     std::num::wrapping_add_u64(n, 1)
 }
 
-fn wrong(t: Tally) -> Tally {
-    let mut r = t;
-    r.wrong = more(t.wrong);
-    r
+// A change that is made, as it must be.
+#[derive(Clone, Copy)]
+enum Done {
+    Inserted(Case),
+    Removed,
 }
 
-fn refused(t: Tally) -> Tally {
-    let mut r = t;
-    r.refused = more(t.refused);
-    r
-}
+impl Tally {
+    // One call more.
+    fn count(&mut self, done: Done) {
+        let n = match done {
+            Done::Inserted(Case::A) => &mut self.a,
+            Done::Inserted(Case::B) => &mut self.b,
+            Done::Inserted(Case::C) => &mut self.c,
+            Done::Inserted(Case::D) => &mut self.d,
+            Done::Removed => &mut self.removed,
+        };
+        *n = more(*n);
+    }
 
-fn removed(t: Tally) -> Tally {
-    let mut r = t;
-    r.removed = more(t.removed);
-    r
-}
+    // An answer more that is wrong.
+    fn wrong(&mut self) {
+        self.wrong = more(self.wrong);
+    }
 
-fn inserted(t: Tally, case: usize) -> Tally {
-    let mut r = t;
-    if case == 1 {
-        r.a = more(t.a);
-        return r;
+    // A refusal more, where one is wanted.
+    fn refused(&mut self, got: Refusal, want: Refusal) {
+        if got == want {
+            self.refused = more(self.refused);
+        } else {
+            self.wrong();
+        }
     }
-    if case == 2 {
-        r.b = more(t.b);
-        return r;
-    }
-    if case == 3 {
-        r.c = more(t.c);
-        return r;
-    }
-    r.d = more(t.d);
-    r
 }
 
 // The name with a number: its first two bytes tell it from the others.
@@ -369,88 +376,76 @@ fn name_len(id: usize) -> usize
 }
 
 // Whether a lookup of the name gives what the book holds.
-fn agrees(b: &[u8], book: &[u64], id: usize) -> bool
+fn agrees(b: &[u8], book: &[Option<u64>], id: usize) -> bool
     requires { (id < 256) × (256 ≤ length book.now) }
 {
     let n = name_of(id);
     let k = name_len(id);
     let held = book[id];
     match dir_block_lookup::lookup(b, &n[..k]) {
-        Looked::Found {
-            target,
-            tag,
-            compared,
-        } => (held != 0) & (target.inode == held),
-        Looked::Absent { compared } => held == 0,
-        Looked::Refused(r) => false,
+        Ok(Looked::Found { target, .. }) => held == Some(target.inode),
+        Ok(Looked::Absent { .. }) => held.is_none(),
+        Err(_) => false,
     }
 }
 
 // What an insert must answer.
-fn insert_answer(held: u64, case: usize) -> usize {
-    if held != 0 {
-        return refusal::EXISTS;
+fn insert_answer(held: Option<u64>, case: Option<Case>) -> Result<Case, Refusal> {
+    if held.is_some() {
+        return Err(Refusal::Exists);
     }
-    if case == 0 {
-        return refusal::NOROOM;
-    }
-    0
+    case.ok_or(Refusal::NoRoom)
 }
 
-fn try_insert(b: &mut [u8], book: &mut [u64], id: usize, inode: u64, t: Tally) -> Tally
+fn try_insert(b: &mut [u8], book: &mut [Option<u64>], id: usize, inode: u64, t: &mut Tally)
     requires { (id < 256) × (256 ≤ length book.old) }
+    ensures { length book.new ≡ length book.old }
 {
     let n = name_of(id);
     let k = name_len(id);
-    let case = room(&b[..], k);
-    let want = insert_answer(book[id], case);
-    let got = dir_block_edit::insert(b, &n[..k], inode);
-    if got != want {
-        return wrong(t);
+    let want = insert_answer(book[id], room(&b[..], k));
+    match (dir_block_edit::insert(b, &n[..k], inode), want) {
+        (Ok(()), Ok(case)) => {
+            book[id] = Some(inode);
+            t.count(Done::Inserted(case));
+        }
+        (Err(got), Err(want)) => t.refused(got, want),
+        _ => t.wrong(),
     }
-    if got != 0 {
-        return refused(t);
-    }
-    book[id] = inode;
-    inserted(t, case)
 }
 
 // What a removal must answer.
-fn remove_answer(held: u64) -> usize {
-    if held == 0 {
-        return refusal::ABSENT;
+fn remove_answer(held: Option<u64>) -> Result<(), Refusal> {
+    if held.is_none() {
+        return Err(Refusal::Absent);
     }
-    0
+    Ok(())
 }
 
-fn try_remove(b: &mut [u8], book: &mut [u64], id: usize, t: Tally) -> Tally
+fn try_remove(b: &mut [u8], book: &mut [Option<u64>], id: usize, t: &mut Tally)
     requires { (id < 256) × (256 ≤ length book.old) }
+    ensures { length book.new ≡ length book.old }
 {
     let n = name_of(id);
     let k = name_len(id);
     let want = remove_answer(book[id]);
-    let got = dir_block_edit::remove(b, &n[..k]);
-    if got != want {
-        return wrong(t);
+    match (dir_block_edit::remove(b, &n[..k]), want) {
+        (Ok(()), Ok(())) => {
+            book[id] = None;
+            t.count(Done::Removed);
+        }
+        (Err(got), Err(want)) => t.refused(got, want),
+        _ => t.wrong(),
     }
-    if got != 0 {
-        return refused(t);
-    }
-    book[id] = 0;
-    removed(t)
 }
 
 // The block is accepted, and the name's lookup is as the book says.
-fn checked(b: &[u8], book: &[u64], id: usize, t: Tally) -> Tally
+fn check(b: &[u8], book: &[Option<u64>], id: usize, t: &mut Tally)
     requires { (id < 256) × (256 ≤ length book.now) }
 {
-    if dir_block_test::test(b) != 0 {
-        return wrong(t);
+    if dir_block_test::test(b).is_err() | !agrees(b, book, id) {
+        t.wrong();
     }
-    if agrees(b, book, id) {
-        return t;
-    }
-    wrong(t)
 }
 
 // ---- the sequence
@@ -470,45 +465,39 @@ fn pick(x: u64, n: u64) -> usize
 }
 
 // One call: five inserts to four removals.
-fn turn(b: &mut [u8], book: &mut [u64], ids: u64, x: u64, t: Tally) -> Tally
+fn turn(b: &mut [u8], book: &mut [Option<u64>], ids: u64, x: u64, t: &mut Tally)
     requires { (256 ≤ length book.old) × ((0 < ids) × (ids ≤ 256)) }
+    ensures { length book.new ≡ length book.old }
 {
     let id = pick(x, ids);
     let inode = x / 256 % 1000000 + 1;
     if x % 9 < 5 {
-        let r = try_insert(b, book, id, inode, t);
-        return checked(&b[..], &book[..], id, r);
+        try_insert(b, book, id, inode, t);
+    } else {
+        try_remove(b, book, id, t);
     }
-    let r = try_remove(b, book, id, t);
-    checked(&b[..], &book[..], id, r)
+    check(&b[..], &book[..], id, t);
 }
 
 // So many calls, over so many names.
-fn turns(b: &mut [u8], book: &mut [u64], ids: u64, calls: usize, t: Tally) -> Tally
+fn turns(b: &mut [u8], book: &mut [Option<u64>], ids: u64, calls: usize, t: &mut Tally)
     requires { (256 ≤ length book.old) × ((0 < ids) × (ids ≤ 256)) }
+    ensures { length book.new ≡ length book.old }
 {
-    let mut r = t;
     let mut x = 88172645463325252u64;
-    let mut i = 0;
-    while i < calls {
+    for _ in 0..calls {
         x = next(x);
-        r = turn(b, book, ids, x, r);
-        i += 1;
+        turn(b, book, ids, x, t);
     }
-    r
 }
 
 // Every name's lookup, at the end.
-fn all(b: &[u8], book: &[u64], t: Tally) -> Tally
+fn check_all(b: &[u8], book: &[Option<u64>], t: &mut Tally)
     requires { 256 ≤ length book.now }
 {
-    let mut r = t;
-    let mut i = 0;
-    while i < 256 {
-        r = checked(b, book, i, r);
-        i += 1;
+    for id in 0..256 {
+        check(b, book, id, t);
     }
-    r
 }
 
 fn report(n: usize, calls: usize, t: Tally) {
@@ -536,19 +525,11 @@ fn report(n: usize, calls: usize, t: Tally) {
 fn sequence(b: &mut [u8], ids: u64, calls: usize)
     requires { (512 ≤ length b.old) × ((0 < ids) × (ids ≤ 256)) }
 {
-    let mut book = [0u64; 256];
-    let none = Tally {
-        a: 0,
-        b: 0,
-        c: 0,
-        d: 0,
-        removed: 0,
-        refused: 0,
-        wrong: 0,
-    };
+    let mut book = [None; 256];
+    let mut t = Tally::default();
     fresh(b);
-    let r = turns(b, &mut book, ids, calls, none);
-    let t = all(&b[..], &book, r);
+    turns(b, &mut book, ids, calls, &mut t);
+    check_all(&b[..], &book, &mut t);
     report(b.len(), calls, t);
 }
 

@@ -1,8 +1,6 @@
-use Rattle.std.proofs.Common.{◌≡◌, ◌-◌, ◌≤◌, length}
+use Rattle.std.proofs.Common.{◌≡◌, ◌≤◌, length}
 use Rattle.edit_run.proofs.fill.Given as goal
 
 abbrev pub invariant-loop-i : goal.invariant-loop-i
 invariant-loop-i l = (l.i ≤ 400) × (length l.b ≡ length l.initial.b)
 
-abbrev pub decreases-loop-i : goal.decreases-loop-i
-decreases-loop-i l = 400 - l.i
