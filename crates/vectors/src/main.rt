@@ -1,7 +1,6 @@
 // Runs the papers' unstarred numbers: hashes that documents 000 and 004 print, and the inode cores of their dumps.
 #![tactic(auto)]
 
-use dinode::Tested;
 use edition::V4;
 
 // The process's own streams, by the numbers that the system gives them.
@@ -27,7 +26,7 @@ fn hash(name: &[u8]) {
 // A line with the fields of an inode, or the refusal's number.
 fn inode(b: &[u8]) {
     match dinode::test(b) {
-        Tested::Sound(c) => {
+        Ok(c) => {
             text(b"inode");
             number(c.magic as u64);
             number(c.mode as u64);
@@ -37,9 +36,9 @@ fn inode(b: &[u8]) {
             number(c.forkoff as u64);
             number(c.aformat as u64);
         }
-        Tested::Refused(n) => {
+        Err(refusal) => {
             text(b"refused");
-            number(n as u64);
+            number(u64::from(refusal.number()));
         }
     }
     text(b"\n");
