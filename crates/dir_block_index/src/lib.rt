@@ -38,15 +38,13 @@ fn first_stale(e: Edition, b: &[u8], end: usize, count: usize) -> usize
     requires b_nonzero { 0 < stale_of b.now }
     ensures { FirstStale b.now result }
 {
-    let mut j = 0;
-    while j < count {
+    for j in 0..count {
         let a = be::be32(b, end + 8 * j + 4);
         if a == 0 {
             return j;
         }
-        j += 1;
     }
-    j
+    count
 }
 
 // One slot more at index i: those before it move down by 8. Room rule (c), (d).
@@ -126,10 +124,8 @@ fn pack(b: &mut [u8], o: usize, k: usize, dst: usize) -> usize
     ensures { (b.new ≡ put b.old result (slot_bytes (keep is_live (slots_in k (drop o b.old)))))
         × (result + 8 * length (keep is_live (slots_in k (drop o b.old))) ≡ dst) }
 {
-    let mut i = k;
     let mut w = dst;
-    while 0 < i {
-        i -= 1;
+    for i in (0..k).rev() {
         w = pack_one(b, o + 8 * i, w);
     }
     w

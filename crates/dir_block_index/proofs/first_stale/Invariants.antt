@@ -7,7 +7,4 @@ use Rattle.dir_block_rules.specs.Block.{slots, is_live}
 use Rattle.dir_block_index.proofs.first_stale.Given as goal
 
 abbrev pub invariant-loop-j : goal.invariant-loop-j
-invariant-loop-j l = (l.j ≤ l.count) × (every is_live (take l.j (slots l.b)) ≡ true)
-
-abbrev pub decreases-loop-j : goal.decreases-loop-j
-decreases-loop-j l = l.count - l.j
+invariant-loop-j l = every is_live (take l.j (slots l.b)) ≡ true

@@ -8,6 +8,3 @@ use Rattle.dir_block_index.proofs.pack.Given as goal
 
 abbrev pub invariant-loop-i : goal.invariant-loop-i
 invariant-loop-i l = (l.i ≤ l.k) × ((length l.b ≡ length l.initial.b) × ((l.b ≡ put l.initial.b l.w (slot_bytes (live_from l.initial.b l.o l.k l.i))) × (l.w + 8 * length (live_from l.initial.b l.o l.k l.i) ≡ l.dst)))
-
-abbrev pub decreases-loop-i : goal.decreases-loop-i
-decreases-loop-i l = l.i
