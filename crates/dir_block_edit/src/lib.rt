@@ -293,14 +293,14 @@ fn choose_cd(
     requires sane { Sane e × Ready e b.old }
     requires end_value { (end ≡ data_end b.old) × ((count ≡ count_of b.old) × (0 ≡ stale_of b.old)) }
     requires spot { Spot b.old h p }
-    requires scanned { Scanned e b.old (first g) g.tat g.tlen }
+    requires scanned { Scanned e b.old (first g) g.last.at g.last.len }
     requires name_value { ((longest (other_gaps (room_of e b.old name.now))).off ≡ o)
         × (size (longest (other_gaps (room_of e b.old name.now))) ≡ l) }
     requires h_value { (h ≡ hash_of e name.now) × ((need ≡ entry_size e (length name.now)) × (length name.now < 256)) }
     ensures { (result ≡ has_room e b.old name.now) × (b.new ≡ chosen e result b.old name.now to) }
 {
-    let u = g.tat;
-    let k = g.tlen;
+    let u = g.last.at;
+    let k = g.last.len;
     if k < 8 {
         return false;
     }
@@ -332,14 +332,14 @@ fn choose_ab(
     requires sane { Sane e × Ready e b.old }
     requires end_value { (end ≡ data_end b.old) × ((count ≡ count_of b.old) × ((stale ≡ stale_of b.old) × (0 < stale))) }
     requires spot { Spot b.old h p }
-    requires scanned { Scanned e b.old (first g) g.tat g.tlen }
+    requires scanned { Scanned e b.old (first g) g.last.at g.last.len }
     requires h_value { (h ≡ hash_of e name.now) × ((need ≡ entry_size e (length name.now)) × (length name.now < 256)) }
     ensures { (result ≡ has_room e b.old name.now) × (b.new ≡ chosen e result b.old name.now to) }
 {
-    let o = g.o1;
-    let l = g.l1;
-    let u = g.tat;
-    let k = g.tlen;
+    let o = g.first.at;
+    let l = g.first.len;
+    let u = g.last.at;
+    let k = g.last.len;
     if need <= l {
         insert_a(e, b, end, count, stale, p, o, l, h, to, name);
         return true;
@@ -365,7 +365,7 @@ fn choose(
 ) -> bool
     requires sane { Sane e × Ready e b.old }
     requires end_value { (end ≡ data_end b.old) × ((count ≡ count_of b.old) × (stale ≡ stale_of b.old)) }
-    requires surveyed { Surveyed e b.old (table g) g.tat g.tlen }
+    requires surveyed { Surveyed e b.old (table g) g.last.at g.last.len }
     requires h_value { (h ≡ hash_of e name.now) × (length name.now < 256) }
     ensures { (result ≡ has_room e b.old name.now) × (b.new ≡ chosen e result b.old name.now to) }
 {
@@ -375,7 +375,20 @@ fn choose(
     if 0 < stale {
         return choose_ab(e, b, end, count, stale, p, m, h, need, to, name);
     }
-    choose_cd(e, b, end, count, p, m, g.o1, g.l1, h, need, to, name)
+    choose_cd(
+        e,
+        b,
+        end,
+        count,
+        p,
+        m,
+        g.first.at,
+        g.first.len,
+        h,
+        need,
+        to,
+        name,
+    )
 }
 
 // The insert of a legal name other than "." and "..", whose hash is h, with what may be asked for.

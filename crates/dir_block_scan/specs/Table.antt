@@ -1,20 +1,24 @@
 -- The pairs that a scan holds. Assumes nothing.
 use Rattle.std.specs.Prelude.{List, [], ◌∷◌}
 use Rattle.dir_block_rules.specs.Verdict.{Pair, pair}
+use Rattle.dir_block_scan.specs.declared.Gap.{Gap}
 use Rattle.dir_block_scan.specs.declared.Scan.{Scan}
+
+abbrev pub pair_of : Gap → Pair
+pair_of g = pair g.at g.len
 
 -- all four
 abbrev pub table : Scan → List Pair
-table s = pair s.o1 s.l1 ∷ pair s.o2 s.l2 ∷ pair s.o3 s.l3 ∷ pair s.o4 s.l4 ∷ []
+table s = pair_of s.first ∷ pair_of s.second ∷ pair_of s.third ∷ pair_of s.fourth ∷ []
 
 -- the first three, as many as a block stores
 abbrev pub three : Scan → List Pair
-three s = pair s.o1 s.l1 ∷ pair s.o2 s.l2 ∷ pair s.o3 s.l3 ∷ []
+three s = pair_of s.first ∷ pair_of s.second ∷ pair_of s.third ∷ []
 
 -- the first two
 abbrev pub top : Scan → List Pair
-top s = pair s.o1 s.l1 ∷ pair s.o2 s.l2 ∷ []
+top s = pair_of s.first ∷ pair_of s.second ∷ []
 
 -- the first
 abbrev pub first : Scan → List Pair
-first s = pair s.o1 s.l1 ∷ []
+first s = pair_of s.first ∷ []

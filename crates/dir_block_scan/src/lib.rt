@@ -3,7 +3,7 @@
 #![tactic(auto)]
 
 ghost use Rattle.std.specs.Prelude.{◌≡◌, ◌+◌, ◌-◌, ◌≤◌, ◌<◌, cond, [], ◌∷◌, length};
-ghost use Rattle.be.specs.Bytes.{put};
+ghost use Rattle.be.specs.Bytes.{put, field};
 ghost use Rattle.edition.specs.Edition.{entry_size, Sane};
 ghost use Rattle.dir_block_rules.specs.Record.{gaps, besides};
 ghost use Rattle.dir_block_rules.specs.Block.{records, data_end};
@@ -14,110 +14,106 @@ ghost use Rattle.dir_block_laws.specs.BestSoFar.{ins, ins_all, ins_at, ahead};
 ghost use Rattle.dir_block_laws.specs.JoinedTable.{empty_table, joined_table, in_order, ins_besides};
 ghost use Rattle.dir_block_laws.specs.UsedTable.{less, used_table};
 ghost use Rattle.dir_block_laws.specs.Pass.{Place, GapsBefore, GapsUpTo, NextPlace, Scanned, Surveyed};
-ghost use Rattle.dir_block_scan.specs.Table.{table, three, top, first};
+ghost use Rattle.dir_block_scan.specs.Table.{pair_of, table, three, top, first};
 
 use edition::Edition;
 
-// Where a walk stands; four gaps as offset and length: after a pass the longest, else what the function says; and where that is asked for
-// the gap at the slots (none: the data's end, and 0).
+// A gap, or none: where it starts, and how long it is.
+#[derive(Clone, Copy)]
+pub struct Gap {
+    pub at: usize,
+    pub len: usize,
+}
+
+// No gap.
+const NONE: Gap = Gap { at: 0, len: 0 };
+
+// Where a walk stands; four gaps: after a pass the longest, else what the function says; and where that is asked for the gap at the slots
+// (none: the data's end, and 0).
 #[derive(Clone, Copy)]
 pub struct Scan {
     pub at: usize,
-    pub o1: usize,
-    pub l1: usize,
-    pub o2: usize,
-    pub l2: usize,
-    pub o3: usize,
-    pub l3: usize,
-    pub o4: usize,
-    pub l4: usize,
-    pub tat: usize,
-    pub tlen: usize,
+    pub first: Gap,
+    pub second: Gap,
+    pub third: Gap,
+    pub fourth: Gap,
+    pub last: Gap,
 }
 
-// A gap of l bytes at o stands first, and the others move down by one.
-fn before_all(s: Scan, o: usize, l: usize) -> Scan
-    ensures { (table result ≡ pair o l ∷ three s) × (three result ≡ pair o l ∷ top s) }
+// A gap stands first, and the others move down by one.
+fn before_all(s: Scan, g: Gap) -> Scan
+    ensures { (table result ≡ pair_of g ∷ three s) × (three result ≡ pair_of g ∷ top s) }
 {
-    let mut r = s;
-    r.o1 = o;
-    r.l1 = l;
-    r.o2 = s.o1;
-    r.l2 = s.l1;
-    r.o3 = s.o2;
-    r.l3 = s.l2;
-    r.o4 = s.o3;
-    r.l4 = s.l3;
-    r
+    Scan {
+        first: g,
+        second: s.first,
+        third: s.second,
+        fourth: s.third,
+        ..s
+    }
 }
 
-// A gap of l bytes at o goes into the table, behind those that are as long.
-fn with_pair(s: Scan, o: usize, l: usize) -> Scan
-    ensures { (table result ≡ ins (pair o l) (table s)) × (three result ≡ ins (pair o l) (three s)) }
+// A gap goes into the table, behind those that are as long.
+fn with_gap(s: Scan, g: Gap) -> Scan
+    ensures { (table result ≡ ins (pair_of g) (table s)) × (three result ≡ ins (pair_of g) (three s)) }
 {
-    if s.l1 < l {
-        return before_all(s, o, l);
+    if s.first.len < g.len {
+        return before_all(s, g);
     }
-    let mut r = s;
-    if s.l2 < l {
-        r.o2 = o;
-        r.l2 = l;
-        r.o3 = s.o2;
-        r.l3 = s.l2;
-        r.o4 = s.o3;
-        r.l4 = s.l3;
-        return r;
+    if s.second.len < g.len {
+        return Scan {
+            second: g,
+            third: s.second,
+            fourth: s.third,
+            ..s
+        };
     }
-    if s.l3 < l {
-        r.o3 = o;
-        r.l3 = l;
-        r.o4 = s.o3;
-        r.l4 = s.l3;
-        return r;
+    if s.third.len < g.len {
+        return Scan {
+            third: g,
+            fourth: s.third,
+            ..s
+        };
     }
-    if s.l4 < l {
-        r.o4 = o;
-        r.l4 = l;
+    if s.fourth.len < g.len {
+        return Scan { fourth: g, ..s };
     }
-    r
+    s
 }
 
-// Whether a gap of l bytes at o comes before one of k bytes at u: it is longer, or as long with a lower offset.
-fn ahead(o: usize, l: usize, u: usize, k: usize) -> bool
-    ensures { result ≡ ahead (pair o l) (pair u k) }
+// Whether gap g comes before gap h: it is longer, or as long with a lower offset.
+fn ahead(g: Gap, h: Gap) -> bool
+    ensures { result ≡ ahead (pair_of g) (pair_of h) }
 {
-    (k < l) | ((k == l) & (o < u))
+    (h.len < g.len) | ((h.len == g.len) & (g.at < h.at))
 }
 
-// A gap of l bytes at o goes into the table where it belongs, also among those that are as long.
-fn with_pair_at(s: Scan, o: usize, l: usize) -> Scan
-    ensures { (table result ≡ ins_at (pair o l) (table s)) × (three result ≡ ins_at (pair o l) (three s)) }
+// A gap goes into the table where it belongs, also among those that are as long.
+fn with_gap_at(s: Scan, g: Gap) -> Scan
+    ensures { (table result ≡ ins_at (pair_of g) (table s)) × (three result ≡ ins_at (pair_of g) (three s)) }
 {
-    if ahead(o, l, s.o1, s.l1) {
-        return before_all(s, o, l);
+    if ahead(g, s.first) {
+        return before_all(s, g);
     }
-    let mut r = s;
-    if ahead(o, l, s.o2, s.l2) {
-        r.o2 = o;
-        r.l2 = l;
-        r.o3 = s.o2;
-        r.l3 = s.l2;
-        r.o4 = s.o3;
-        r.l4 = s.l3;
-        return r;
+    if ahead(g, s.second) {
+        return Scan {
+            second: g,
+            third: s.second,
+            fourth: s.third,
+            ..s
+        };
     }
-    if ahead(o, l, s.o3, s.l3) {
-        r.o3 = o;
-        r.l3 = l;
-        r.o4 = s.o3;
-        r.l4 = s.l3;
-        return r;
+    if ahead(g, s.third) {
+        return Scan {
+            third: g,
+            fourth: s.third,
+            ..s
+        };
     }
-    if ahead(o, l, s.o4, s.l4) {
-        r.o4 = o;
-        r.l4 = l;
+    if ahead(g, s.fourth) {
+        return Scan { fourth: g, ..s };
     }
-    r
+    s
 }
 
 // No gap; a walk stands at o.
@@ -126,16 +122,11 @@ fn start(o: usize) -> Scan
 {
     Scan {
         at: o,
-        o1: 0,
-        l1: 0,
-        o2: 0,
-        l2: 0,
-        o3: 0,
-        l3: 0,
-        o4: 0,
-        l4: 0,
-        tat: 0,
-        tlen: 0,
+        first: NONE,
+        second: NONE,
+        third: NONE,
+        fourth: NONE,
+        last: NONE,
     }
 }
 
@@ -143,10 +134,10 @@ fn start(o: usize) -> Scan
 fn merged(f: Scan, g: Scan) -> Scan
     ensures { table result ≡ ins_all (table g) (table f) }
 {
-    let r1 = with_pair(f, g.o1, g.l1);
-    let r2 = with_pair(r1, g.o2, g.l2);
-    let r3 = with_pair(r2, g.o3, g.l3);
-    with_pair(r3, g.o4, g.l4)
+    let r1 = with_gap(f, g.first);
+    let r2 = with_gap(r1, g.second);
+    let r3 = with_gap(r2, g.third);
+    with_gap(r3, g.fourth)
 }
 
 // The walk from the front, over one record.
@@ -159,7 +150,7 @@ fn forward(e: Edition, b: &[u8], f: Scan) -> Scan
     let k = be::be16(b, o);
     if k == 65535 {
         let l = be::be16(b, o + 2);
-        let mut r = with_pair(f, o, l);
+        let mut r = with_gap(f, Gap { at: o, len: l });
         r.at = o + l;
         return r;
     }
@@ -182,20 +173,19 @@ fn backward(e: Edition, b: &[u8], v: usize, g: Scan, o: usize) -> Scan
     let p = be::be16(b, g.at - 2);
     let k = be::be16(b, p);
     if k == 65535 {
-        let mut r = with_pair_at(g, p, g.at - p);
+        let mut r = with_gap_at(
+            g,
+            Gap {
+                at: p,
+                len: g.at - p,
+            },
+        );
         r.at = p;
         return r;
     }
     let mut r = g;
     r.at = p;
     r
-}
-
-// A gap, or none: where it starts, and how long it is.
-#[derive(Clone, Copy)]
-pub struct Gap {
-    pub at: usize,
-    pub len: usize,
 }
 
 // The gap at the slots: the last record starts where its tag says.
@@ -232,63 +222,63 @@ fn pass(e: Edition, b: &[u8], v: usize) -> Scan
     merged(f, g)
 }
 
+// The pair of the best-gap table at o.
+fn pair_at(b: &[u8], o: usize) -> Gap
+    requires { o + 4 ≤ length b.now }
+    ensures { (result.at ≡ field o 2 b.now) × (result.len ≡ field (o + 2) 2 b.now) }
+{
+    Gap {
+        at: be::be16(b, o),
+        len: be::be16(b, o + 2),
+    }
+}
+
 // The pairs that the block stores.
 pub fn stored(e: Edition, b: &[u8]) -> Scan
     requires { Sane e × (e.header ≤ length b.now) }
     ensures { three result ≡ best_pairs e b.now }
 {
-    let o1 = be::be16(b, e.best);
-    let l1 = be::be16(b, e.best + 2);
-    let o2 = be::be16(b, e.best + 4);
-    let l2 = be::be16(b, e.best + 6);
-    let o3 = be::be16(b, e.best + 8);
-    let l3 = be::be16(b, e.best + 10);
     Scan {
         at: 0,
-        o1,
-        l1,
-        o2,
-        l2,
-        o3,
-        l3,
-        o4: 0,
-        l4: 0,
-        tat: 0,
-        tlen: 0,
+        first: pair_at(b, e.best),
+        second: pair_at(b, e.best + 4),
+        third: pair_at(b, e.best + 8),
+        fourth: NONE,
+        last: NONE,
     }
 }
 
 // The first two pairs in offset order.
 fn ordered(s: Scan) -> Scan
-    ensures { top result ≡ in_order (pair s.o1 s.l1) (pair s.o2 s.l2) }
+    ensures { top result ≡ in_order (pair_of s.first) (pair_of s.second) }
 {
-    let mut r = s;
-    if s.o2 < s.o1 {
-        r.o1 = s.o2;
-        r.l1 = s.l2;
-        r.o2 = s.o1;
-        r.l2 = s.l1;
+    if s.second.at < s.first.at {
+        return Scan {
+            first: s.second,
+            second: s.first,
+            ..s
+        };
     }
-    r
+    s
 }
 
-// A gap of l bytes at o goes into the table, if it is to.
-fn with_some(s: Scan, put: bool, o: usize, l: usize) -> Scan
-    ensures { (table result ≡ cond put (ins (pair o l) (table s)) (table s)) × (three result ≡ cond put (ins (pair o l) (three s)) (three s)) }
+// A gap goes into the table, if it is to.
+fn with_some(s: Scan, put: bool, g: Gap) -> Scan
+    ensures { (table result ≡ cond put (ins (pair_of g) (table s)) (table s)) × (three result ≡ cond put (ins (pair_of g) (three s)) (three s)) }
 {
     if put {
-        return with_pair(s, o, l);
+        return with_gap(s, g);
     }
     s
 }
 
 // The table of the first two pairs of s, but for one that starts at u.
 fn others(s: Scan, u: usize) -> Scan
-    ensures { table result ≡ ins_besides u (in_order (pair s.o1 s.l1) (pair s.o2 s.l2)) (best_of 4 []) }
+    ensures { table result ≡ ins_besides u (in_order (pair_of s.first) (pair_of s.second)) (best_of 4 []) }
 {
     let d = ordered(s);
-    let t = with_some(start(0), d.o1 != u, d.o1, d.l1);
-    with_some(t, d.o2 != u, d.o2, d.l2)
+    let t = with_some(start(0), d.first.at != u, d.first);
+    with_some(t, d.second.at != u, d.second)
 }
 
 // The longest gaps other than T, which is t. Without a third pair the first two name all gaps, and no pass is made.
@@ -298,7 +288,7 @@ fn others_of(e: Edition, b: &[u8], t: Gap) -> Scan
     ensures { best_of 4 (besides t.at (gaps (records e b.now))) ≡ table result }
 {
     let s = stored(e, b);
-    if s.l3 == 0 {
+    if s.third.len == 0 {
         return others(s, t.at);
     }
     pass(e, b, t.at)
@@ -308,27 +298,23 @@ fn others_of(e: Edition, b: &[u8], t: Gap) -> Scan
 pub fn survey(e: Edition, b: &[u8], end: usize) -> Scan
     requires sane { Sane e × Ready e b.now }
     requires end_value { end ≡ data_end b.now }
-    ensures { Surveyed e b.now (table result) result.tat result.tlen }
+    ensures { Surveyed e b.now (table result) result.last.at result.last.len }
 {
-    let t = last_gap(e, b, end);
-    let mut r = others_of(e, b, t);
-    r.tat = t.at;
-    r.tlen = t.len;
-    r
+    let last = last_gap(e, b, end);
+    let others = others_of(e, b, last);
+    Scan { last, ..others }
 }
 
 // The longest gap, as the first pair: T only if it is longer than the others, which lie before it.
 pub fn longest(e: Edition, b: &[u8], g: Scan) -> Scan
     requires sane { Sane e × Ready e b.now }
-    requires surveyed { Surveyed e b.now (table g) g.tat g.tlen }
-    ensures { Scanned e b.now (first result) result.tat result.tlen × ((result.tat ≡ g.tat) × (result.tlen ≡ g.tlen)) }
+    requires surveyed { Surveyed e b.now (table g) g.last.at g.last.len }
+    ensures { Scanned e b.now (first result) result.last.at result.last.len × ((result.last.at ≡ g.last.at) × (result.last.len ≡ g.last.len)) }
 {
-    let mut r = g;
-    if g.l1 < g.tlen {
-        r.o1 = g.tat;
-        r.l1 = g.tlen;
+    if g.first.len < g.last.len {
+        return Scan { first: g.last, ..g };
     }
-    r
+    g
 }
 
 // Writes the first three pairs at o.
@@ -336,12 +322,12 @@ fn put_table(b: &mut [u8], o: usize, s: Scan)
     requires { o + 12 ≤ length b.old }
     ensures { b.new ≡ put b.old o (pair_bytes (three s)) }
 {
-    be::put16(b, o, s.o1);
-    be::put16(b, o + 2, s.l1);
-    be::put16(b, o + 4, s.o2);
-    be::put16(b, o + 6, s.l2);
-    be::put16(b, o + 8, s.o3);
-    be::put16(b, o + 10, s.l3);
+    be::put16(b, o, s.first.at);
+    be::put16(b, o + 2, s.first.len);
+    be::put16(b, o + 4, s.second.at);
+    be::put16(b, o + 6, s.second.len);
+    be::put16(b, o + 8, s.third.at);
+    be::put16(b, o + 10, s.third.len);
 }
 
 // The best-gap table anew.
@@ -358,14 +344,14 @@ pub fn best_table(e: Edition, b: &mut [u8])
 // The table of the first two pairs of s, with one gap from o up to u in place of those that start there.
 fn joined(s: Scan, o: usize, u: usize) -> Scan
     requires { o ≤ u }
-    ensures { three result ≡ joined_table o u (in_order (pair s.o1 s.l1) (pair s.o2 s.l2)) }
+    ensures { three result ≡ joined_table o u (in_order (pair_of s.first) (pair_of s.second)) }
 {
     let d = ordered(s);
-    let t1 = with_some(start(0), d.o1 < o, d.o1, d.l1);
-    let t2 = with_some(t1, d.o2 < o, d.o2, d.l2);
-    let t3 = with_pair(t2, o, u - o);
-    let t4 = with_some(t3, u <= d.o1, d.o1, d.l1);
-    with_some(t4, u <= d.o2, d.o2, d.l2)
+    let t1 = with_some(start(0), d.first.at < o, d.first);
+    let t2 = with_some(t1, d.second.at < o, d.second);
+    let t3 = with_gap(t2, Gap { at: o, len: u - o });
+    let t4 = with_some(t3, u <= d.first.at, d.first);
+    with_some(t4, u <= d.second.at, d.second)
 }
 
 // The best-gap table anew, where s are the pairs stored before a gap from o up to u took the place of what was there. Without a third
@@ -373,10 +359,10 @@ fn joined(s: Scan, o: usize, u: usize) -> Scan
 pub fn joined_table(e: Edition, b: &mut [u8], s: Scan, o: usize, u: usize)
     requires sane { Sane e × Tiled e b.old }
     requires o_le_u { o ≤ u }
-    requires b_value { s.l3 ≡ 0 → best_of 3 (gaps (records e b.old)) ≡ joined_table o u (in_order (pair s.o1 s.l1) (pair s.o2 s.l2)) }
+    requires b_value { s.third.len ≡ 0 → best_of 3 (gaps (records e b.old)) ≡ joined_table o u (in_order (pair_of s.first) (pair_of s.second)) }
     ensures { b.new ≡ with_best e b.old }
 {
-    if s.l3 == 0 {
+    if s.third.len == 0 {
         let t = joined(s, o, u);
         put_table(b, e.best, t);
         return;
@@ -384,61 +370,67 @@ pub fn joined_table(e: Edition, b: &mut [u8], s: Scan, o: usize, u: usize)
     best_table(e, b);
 }
 
-// x - y, 0 if y is more.
-fn minus(x: usize, y: usize) -> usize
-    ensures { result ≡ x - y }
-{
-    if x < y {
-        return 0;
-    }
-    x - y
-}
-
 // The three longest of the other gaps, where n bytes off the start of the longest are used.
 fn used_other(g: Scan, n: usize) -> Scan
-    requires { (n ≤ g.l1) × (g.o1 + g.l1 ≤ 65536) }
-    ensures { three result ≡ ins_at (less n (pair g.o1 g.l1)) (pair g.o2 g.l2 ∷ pair g.o3 g.l3 ∷ pair g.o4 g.l4 ∷ []) }
+    requires { (n ≤ g.first.len) × (g.first.at + g.first.len ≤ 65536) }
+    ensures { three result ≡ ins_at (less n (pair_of g.first)) (pair_of g.second ∷ pair_of g.third ∷ pair_of g.fourth ∷ []) }
 {
-    let mut s = g;
-    s.o1 = g.o2;
-    s.l1 = g.l2;
-    s.o2 = g.o3;
-    s.l2 = g.l3;
-    s.o3 = g.o4;
-    s.l3 = g.l4;
-    with_pair_at(s, g.o1 + n, g.l1 - n)
+    let rest = Scan {
+        first: g.second,
+        second: g.third,
+        third: g.fourth,
+        ..g
+    };
+    let left = Gap {
+        at: g.first.at + n,
+        len: g.first.len - n,
+    };
+    with_gap_at(rest, left)
+}
+
+// What is left of a gap where n bytes off its start are used; nothing where it has no more.
+fn past(g: Gap, n: usize) -> Gap
+    requires { (g.at ≤ 65536) × (n < 280) }
+    ensures { pair_of result ≡ pair (g.at + n) (g.len - n) }
+{
+    Gap {
+        at: g.at + n,
+        len: g.len.saturating_sub(n),
+    }
 }
 
 // The longest gaps that an insert leaves, which needs n bytes, by the room rule's cases, where there is room.
 fn used(g: Scan, n: usize, stale: usize) -> Scan
     requires n_nonzero { (0 < n) × ((n < 280) × (stale < 8192)) }
-    requires l1_bound { (0 < g.l1 → g.o1 + g.l1 ≤ 65536) × (g.tat + g.tlen ≤ 65536) }
-    ensures { three result ≡ used_table n stale (pair g.tat g.tlen) (table g) }
+    requires l1_bound { (0 < g.first.len → g.first.at + g.first.len ≤ 65536) × (g.last.at + g.last.len ≤ 65536) }
+    ensures { three result ≡ used_table n stale (pair_of g.last) (table g) }
 {
     if stale == 0 {
         // A slot takes 8 bytes off T's end.
-        let k = minus(g.tlen, 8);
-        if n <= g.l1 {
-            return with_pair(used_other(g, n), g.tat, k);
+        let k = g.last.len.saturating_sub(8);
+        let shorter = Gap { len: k, ..g.last };
+        if n <= g.first.len {
+            return with_gap(used_other(g, n), shorter);
         }
-        return with_pair(g, g.tat + n, minus(k, n));
+        return with_gap(g, past(shorter, n));
     }
-    if (g.tlen <= g.l1) & (n <= g.l1) {
-        return with_pair(used_other(g, n), g.tat, g.tlen);
+    if (g.last.len <= g.first.len) & (n <= g.first.len) {
+        return with_gap(used_other(g, n), g.last);
     }
-    if n <= g.tlen {
-        return with_pair(g, g.tat + n, g.tlen - n);
+    if n <= g.last.len {
+        return with_gap(g, past(g.last, n));
     }
     // T grows over the stale slots but one.
-    with_pair(g, g.tat + n, minus(g.tlen + 8 * (stale - 1), n))
+    let len = g.last.len + 8 * (stale - 1);
+    with_gap(g, past(Gap { len, ..g.last }, n))
 }
 
 // The best-gap table anew, after an entry with a name of n bytes went in: before that so many slots were stale, and g was the survey.
 pub fn used_table(e: Edition, b: &mut [u8], g: Scan, stale: usize, n: usize)
     requires sane { Sane e × Tiled e b.old }
     requires n_bound { (n < 256) × (stale < 8192) }
-    requires l1_bound { (0 < g.l1 → g.o1 + g.l1 ≤ 65536) × (g.tat + g.tlen ≤ 65536) }
-    requires b_value { best_of 3 (gaps (records e b.old)) ≡ used_table (entry_size e n) stale (pair g.tat g.tlen) (table g) }
+    requires l1_bound { (0 < g.first.len → g.first.at + g.first.len ≤ 65536) × (g.last.at + g.last.len ≤ 65536) }
+    requires b_value { best_of 3 (gaps (records e b.old)) ≡ used_table (entry_size e n) stale (pair_of g.last) (table g) }
     ensures { b.new ≡ with_best e b.old }
 {
     let need = edition::entry_size(e, n);

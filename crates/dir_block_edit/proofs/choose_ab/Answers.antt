@@ -10,11 +10,11 @@ use Rattle.dir_block_edit.proofs.choose_ab.Goals as goal
 
 pub insert_a-requires : goal.insert_a-requires
 insert_a-requires c =
-    record { sane = c.requires.sane; end_value = c.requires.end_value; spot = c.requires.spot; inside = (first_inside _ c.args.b.now c.args.name.now c.args.to c.args.g.o1 c.args.g.l1 [] c.args.g.tat c.args.g.tlen c.args.stale c.args.need c.args.h c.requires.scanned c.requires.end_value.1.1.0 c.requires.h_value.1.0 c.requires.h_value.0 (tiled _ c.args.b.now c.requires.sane.1) (omega (arith, c.requires.h_value, entry_size_least c.args.e (length c.args.name.now), c.if-need-l.true)), (c.requires.h_value.1.1, omega (arith, c.requires.h_value, c.if-need-l.true))) }
+    record { sane = c.requires.sane; end_value = c.requires.end_value; spot = c.requires.spot; inside = (first_inside _ c.args.b.now c.args.name.now c.args.to c.args.g.first.at c.args.g.first.len [] c.args.g.last.at c.args.g.last.len c.args.stale c.args.need c.args.h c.requires.scanned c.requires.end_value.1.1.0 c.requires.h_value.1.0 c.requires.h_value.0 (tiled _ c.args.b.now c.requires.sane.1) (omega (arith, c.requires.h_value, entry_size_least c.args.e (length c.args.name.now), c.if-need-l.true)), (c.requires.h_value.1.1, omega (arith, c.requires.h_value, c.if-need-l.true))) }
 
 pub returns-then-need-l : goal.returns-then-need-l
 returns-then-need-l c =
-    room_a _ c.args.b.now c.args.name.now c.args.to c.args.g.o1 c.args.g.l1 [] c.args.g.tat c.args.g.tlen c.args.stale c.args.need c.args.h c.requires.scanned c.requires.end_value.1.1.0 c.requires.h_value.1.0 c.requires.h_value.0 _ (omega (arith, c.requires.end_value)) c.if-need-l.true c.insert_a.ensures
+    room_a _ c.args.b.now c.args.name.now c.args.to c.args.g.first.at c.args.g.first.len [] c.args.g.last.at c.args.g.last.len c.args.stale c.args.need c.args.h c.requires.scanned c.requires.end_value.1.1.0 c.requires.h_value.1.0 c.requires.h_value.0 _ (omega (arith, c.requires.end_value)) c.if-need-l.true c.insert_a.ensures
 
 pub overflow_mul-stale : goal.overflow_mul-stale
 overflow_mul-stale c =
@@ -30,8 +30,8 @@ insert_b-requires c =
 
 pub returns-then-need-k : goal.returns-then-need-k
 returns-then-need-k c =
-    room_b _ c.args.b.now c.args.name.now c.args.to c.args.g.o1 c.args.g.l1 [] c.args.g.tat c.args.g.tlen c.args.stale c.args.need c.args.h c.requires.scanned c.requires.end_value.1.1.0 c.requires.h_value.1.0 c.requires.h_value.0 _ (omega (arith, c.requires.end_value)) (omega (arith, c.if-need-l.false)) c.if-need-k.true c.insert_b.ensures
+    room_b _ c.args.b.now c.args.name.now c.args.to c.args.g.first.at c.args.g.first.len [] c.args.g.last.at c.args.g.last.len c.args.stale c.args.need c.args.h c.requires.scanned c.requires.end_value.1.1.0 c.requires.h_value.1.0 c.requires.h_value.0 _ (omega (arith, c.requires.end_value)) (omega (arith, c.if-need-l.false)) c.if-need-k.true c.insert_b.ensures
 
 pub returns : goal.returns
 returns c =
-    room_none _ c.args.b.now c.args.name.now c.args.to c.args.g.o1 c.args.g.l1 [] c.args.g.tat c.args.g.tlen c.args.stale c.args.need c.args.h c.requires.scanned c.requires.end_value.1.1.0 c.requires.h_value.1.0 c.requires.h_value.0 (omega (arith, c.requires.end_value)) (omega (arith, c.if-need-l.false)) (omega (arith, c.if-need-k.false))
+    room_none _ c.args.b.now c.args.name.now c.args.to c.args.g.first.at c.args.g.first.len [] c.args.g.last.at c.args.g.last.len c.args.stale c.args.need c.args.h c.requires.scanned c.requires.end_value.1.1.0 c.requires.h_value.1.0 c.requires.h_value.0 (omega (arith, c.requires.end_value)) (omega (arith, c.if-need-l.false)) (omega (arith, c.if-need-k.false))

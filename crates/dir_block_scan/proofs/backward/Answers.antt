@@ -35,7 +35,7 @@ returns-then-k-eq65535 c =
     let f = back_fits _ b c.requires.sane.1 c.args.o c.args.v c.args.g.at c.be16-p.result (table c.args.g) c.requires.gaps_up_to.0 c.requires.gaps_up_to.1.0 c.if-g-o.false q in
     let s = back_gap _ b c.requires.sane.1 c.args.o c.args.v c.args.g.at c.be16-p.result (table c.args.g) c.requires.gaps_up_to.0 c.requires.gaps_up_to.1.0 c.if-g-o.false q
     (sym c.be16-k.ensures.0 ∙ c.if-k-eq65535.true) in
-    (rw c.with_pair_at-r.ensures.0 s, (f.0, omega (arith, f.1)))
+    (rw c.with_gap_at-r.ensures.0 s, (f.0, omega (arith, f.1)))
 
 pub returns : goal.returns
 returns c =

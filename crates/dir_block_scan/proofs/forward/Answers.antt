@@ -39,7 +39,7 @@ overflow_add-r c =
 pub returns-then-k-eq65535 : goal.returns-then-k-eq65535
 returns-then-k-eq65535 c =
     let s = front_gap _ c.args.b.now c.requires.sane.1 c.args.f.at c.be16-l.result (table c.args.f) c.requires.gaps_before.0 c.requires.gaps_before.1 (sym c.be16-k.ensures.0 ∙ c.if-k-eq65535.true) (sym c.be16-l.ensures.0) in
-    (rw c.with_pair-r.ensures.0 s.0, s.1)
+    (rw c.with_gap-r.ensures.0 s.0, s.1)
 
 pub overflow_add-o-2 : goal.overflow_add-o-2
 overflow_add-o-2 c =

@@ -7,6 +7,6 @@ pub returns-then-g : goal.returns-then-g
 returns-then-g c =
     (survey_t _ c.args.b.now (tiled _ c.args.b.now c.requires.sane.1) _ _ _ _ _ c.requires.surveyed c.if-g.true, (refl, refl))
 
-pub returns-else-g : goal.returns-else-g
-returns-else-g c =
+pub returns : goal.returns
+returns c =
     (survey_other _ c.args.b.now (tiled _ c.args.b.now c.requires.sane.1) _ _ _ _ _ c.requires.surveyed c.if-g.false, (refl, refl))

@@ -6,6 +6,6 @@ pub returns-then-s : goal.returns-then-s
 unfolding in_order
 returns-then-s c = rw (lt-ltb _ _ c.if-s.true)
 
-pub returns-else-s : goal.returns-else-s
+pub returns : goal.returns
 unfolding in_order
-returns-else-s c = rw (le-ltb _ _ c.if-s.false)
+returns c = rw (le-ltb _ _ c.if-s.false)

@@ -21,5 +21,5 @@ put_table-requires c =
 pub returns : goal.returns
 returns c =
     best_joined _ c.args.b.now _ _
-    (c.requires.b_value ∙ ap (λ (k : ℕ). used_table k c.args.stale (pair c.args.g.tat c.args.g.tlen) (table c.args.g)) (sym c.entry_size-need.ensures.0) ∙ sym c.used.ensures)
+    (c.requires.b_value ∙ ap (λ (k : ℕ). used_table k c.args.stale (pair c.args.g.last.at c.args.g.last.len) (table c.args.g)) (sym c.entry_size-need.ensures.0) ∙ sym c.used.ensures)
     c.put_table.ensures

@@ -1,6 +1,6 @@
 use mathlib.Core.Path.{sym, ◌∙◌}
 use Rattle.dir_block_laws.specs.BestSoFar.{ins_at}
-use Rattle.dir_block_scan.proofs.with_pair_at.Goals as goal
+use Rattle.dir_block_scan.proofs.with_gap_at.Goals as goal
 
 pub returns-then-ahead : goal.returns-then-ahead
 unfolding ins_at
@@ -31,9 +31,9 @@ returns-then-ahead-4 c =
     let q₃ = sym c.ahead-3.ensures ∙ c.if-ahead-3.false in
     (rw (q₁, q₂, q₃, sym c.ahead-4.ensures ∙ c.if-ahead-4.true), rw (q₁, q₂, q₃))
 
-pub returns-else-ahead-4 : goal.returns-else-ahead-4
+pub returns : goal.returns
 unfolding ins_at
-returns-else-ahead-4 c =
+returns c =
     let q₁ = sym c.ahead.ensures ∙ c.if-ahead.false in
     let q₂ = sym c.ahead-2.ensures ∙ c.if-ahead-2.false in
     let q₃ = sym c.ahead-3.ensures ∙ c.if-ahead-3.false in
