@@ -78,9 +78,6 @@ module _ {A : Type 0} {g : ℕ → ℕ → A} (f : List ℕ) (end : ℕ) {n from
     pub next_fits : end ≤ length f → at + size_at f at ≤ length f
     next_fits l = omega (arith, rest_fits v.rest (omega arith), eqb-true (start (size_at f) n from) end t)
 
-    pub next_long : end ≤ length f → at + 3 ≤ length f
-    next_long l = omega (arith, next_fits l, three f at)
-
     pub next_tiled : tiled (size_at f) end (n - i - 1) (at + size_at f at) ≡ true
     next_tiled = rw (← start_on (size_at f) (n - i) at (omega arith), ← v.rest.ends) t
 

@@ -13,9 +13,6 @@ returns-then-end-f c = span_out _ c.be16-end.ensures.0 (search rules) c.if-end-f
 pub returns-then-not-tiles : goal.returns-then-not-tiles
 returns-then-not-tiles c = not_tiled _ c.be16-end.ensures.0 (search rules) (search rules) c.be8-count.ensures.0 (search rules) (sym c.tiles.ensures ∙ c.if-not-tiles.true)
 
-pub invariant_of-entries : goal.invariant_of-entries
-invariant_of-entries c = record { inside = search rules; tiling = sym c.tiles.ensures ∙ c.if-not-tiles.false }
-
 pub returns-in_err-check : goal.returns-in_err-check
 returns-in_err-check c =
     code_is _ _ c.from_residual.ensures.1

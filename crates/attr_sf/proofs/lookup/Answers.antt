@@ -15,8 +15,5 @@ use Rattle.attr_sf.proofs.lookup.Goals as goal
 made : {e : Edition} (r : Result Place Refusal) (b name : List ℕ) (flags : ℕ) → numbered r ≡ lookup e b name flags → e ≡ v4 → LookupPromise v4 b name flags r
 made r b name flags h q = promised v4 b name flags r (rw q at h)
 
-pub look-requires : goal.look-requires
-look-requires c = c.edition.ensures.1
-
 pub returns : goal.returns
 returns c = made _ _ _ _ c.look.ensures c.edition.ensures.0

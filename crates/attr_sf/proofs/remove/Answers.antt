@@ -11,8 +11,5 @@ made : {e : Edition} {r : ℕ} {after : List ℕ} (b name : List ℕ) (flags : �
     → (r ≡ lookup_code v4 b name flags) × (after ≡ remove_bytes v4 b name flags)
 made b name flags h q = rw (← q) h
 
-pub take_out-requires : goal.take_out-requires
-take_out-requires c = c.edition.ensures.1
-
 pub returns : goal.returns
 returns c = made _ _ _ c.take_out.ensures c.edition.ensures.0

@@ -12,8 +12,5 @@ made : {e : Edition} {r : ℕ} {after : List ℕ} (b name : List ℕ) (flags : �
     → (r ≡ set_code v4 b name flags value) × (after ≡ set_bytes v4 b name flags value)
 made b name flags value h q = rw (← q) h
 
-pub put_in-requires : goal.put_in-requires
-put_in-requires c = c.edition.ensures.1
-
 pub returns : goal.returns
 returns c = made _ _ _ _ c.put_in.ensures c.edition.ensures.0

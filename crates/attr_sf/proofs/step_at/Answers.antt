@@ -15,8 +15,5 @@ use Rattle.attr_sf.proofs.step_at.Goals as goal
 made : {e : Edition} (r : Result Step Refusal) (b : List ℕ) (place : ℕ) → numbered r ≡ walk_step e b place → e ≡ v4 → StepPromise v4 b place r
 made r b place h q = promised v4 b place r (rw q at h)
 
-pub walk_on-requires : goal.walk_on-requires
-walk_on-requires c = c.edition.ensures.1
-
 pub returns : goal.returns
 returns c = made _ _ _ c.walk_on.ensures c.edition.ensures.0

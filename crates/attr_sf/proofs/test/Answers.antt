@@ -15,9 +15,6 @@ use Rattle.attr_sf.proofs.test.Goals as goal
 made : {e : Edition} {r : Result Fork ℕ} (b : List ℕ) → r ≡ fork_if (verdict e b) e b → e ≡ v4 → r ≡ fork_if (verdict v4 b) v4 b
 made b h q = rw (← q) h
 
-pub tested-requires : goal.tested-requires
-tested-requires c = c.edition.ensures.1
-
 pub returns-in_err-tested : goal.returns-in_err-tested
 returns-in_err-tested c = code_is _ _ c.from_residual.ensures.1 (if_refused v4 _ _ (made _ c.in_err-tested.ensures c.edition.ensures.0))
 

@@ -31,5 +31,3 @@ returns-in-Ok c = let b = c.args.b.now in
     let h = ap numbered (sym c.in-Ok.is) ∙ c.lookup.ensures.0 in
     rw (← h) (record { contents = found_part a n b; place = (refl, search rules); long = found_long a n b (looked_inside _ _ _ _ h) })
 
-pub returns-in-Err : goal.returns-in-Err
-returns-in-Err c = rw (← (ap numbered (sym c.in-Err.is) ∙ c.lookup.ensures.0)) (record { contents = refl; place = (refl, search rules); long = refl })
