@@ -58,13 +58,6 @@ pub fn namelen(e: Edition, u: &[u8], p: usize, wides: usize) -> usize
     be::be8(u, p)
 }
 
-// Where an entry stands: how many are before it, and where it starts.
-#[derive(Clone, Copy)]
-pub struct Spot {
-    pub index: usize,
-    pub at: usize,
-}
-
 // An entry as it is stored: where it starts, its tag, its name, and what that stands for.
 #[derive(Clone, Copy)]
 pub struct StoredEntry<'a> {
@@ -195,7 +188,7 @@ impl<'a> Entries<'a> {
 }
 
 // What stands behind a name that ends at an offset: file type and number.
-pub fn target_at(e: Edition, u: &[u8], o: usize, wides: usize) -> Target
+fn target_at(e: Edition, u: &[u8], o: usize, wides: usize) -> Target
     requires { Sane e × (o + (e.ftype + width_of wides) ≤ length u.now) }
     ensures { result ≡ target (field (o + e.ftype) (width_of wides) u.now) (field o e.ftype u.now) }
 {
