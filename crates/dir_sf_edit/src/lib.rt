@@ -241,9 +241,7 @@ fn check_remove<'a, 'b>(e: Edition, b: &'a [u8], told: usize, name: &'b [u8]) ->
     ensures { code result ≡ remove_code e told b.now name.now }
 {
     dir_sf::check(e, b, told)?;
-    let start = e.literal;
-    let end = start + dir_sf::used_long(e, b, told);
-    check_removal(e, &b[start..end], name)
+    check_removal(e, dir_sf::used(e, b, told), name)
 }
 
 // Takes the entry of a name out.
@@ -252,10 +250,8 @@ fn take_out<'a, 'b>(e: Edition, b: &'a mut [u8], told: usize, name: &'b [u8])
     ensures { b.new ≡ with_entries e b.old (removed e name.now (entries e (used e b.old))) }
 {
     let n = dir_sf::fork_long(e, &b[..]);
-    let start = e.literal;
-    let end = start + dir_sf::used_long(e, &b[..], told);
     let mut t = [0u8; 2048];
-    let size = shrink(e, &mut t, &b[start..end], name);
+    let size = shrink(e, &mut t, dir_sf::used(e, &b[..], told), name);
     write_back(e, b, &t[..], n, size);
 }
 
@@ -458,9 +454,7 @@ fn check_insert<'a, 'b>(
 {
     dir_sf::check(e, b, told)?;
     let fork = dir_sf::fork_long(e, b);
-    let start = e.literal;
-    let end = start + dir_sf::used_long(e, b, told);
-    check_insertion(e, &b[start..end], told, fork, name, to)
+    check_insertion(e, dir_sf::used(e, b, told), told, fork, name, to)
 }
 
 // Lays out the directory in u with a new entry, for which there is a tag. Gives its size.
@@ -492,10 +486,8 @@ fn put_in<'a, 'b>(e: Edition, b: &'a mut [u8], told: usize, name: &'b [u8], to: 
         ≡ with_entries e b.old (inserted e told name.now to (entries e (used e b.old))) }
 {
     let n = dir_sf::fork_long(e, &b[..]);
-    let start = e.literal;
-    let end = start + dir_sf::used_long(e, &b[..], told);
     let mut t = [0u8; 2048];
-    let size = grow(e, &mut t, &b[start..end], told, name, to);
+    let size = grow(e, &mut t, dir_sf::used(e, &b[..], told), told, name, to);
     write_back(e, b, &t[..], n, size);
 }
 
