@@ -242,10 +242,7 @@ fn storable(e: Edition, s: &[u8]) -> bool
 pub fn one_if_wide(i: u64) -> usize
     ensures { (result ≡ cond (is_wide i) 1 0) × (result ≤ 1) }
 {
-    if 4294967295 < i {
-        return 1;
-    }
-    0
+    usize::from(4294967295 < i)
 }
 
 // Tests 5 to 10 of the used bytes.
