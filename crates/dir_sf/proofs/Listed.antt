@@ -13,6 +13,8 @@ use Rattle.edition.specs.declared.Edition.{Edition}
 use Rattle.dir_sf.specs.Entry.{SfEntry, width_of, entries_in, size_at, entries_bytes}
 use Rattle.dir_sf.specs.Fork.{count_of, stored_wides, used_width, parent, entries, place_of}
 use Rattle.dir_sf.specs.Inner.{enough, Readable}
+use Rattle.dir_sf.specs.Left.{placed_in, bare}
+use Rattle.dir_sf.proofs.Turn.{bare_is}
 use Rattle.dir_sf.proofs.Run.{Run, run_at, run_left, run_on, run_one, enough_fewer, entries_take, entries_drop, length_entries_in}
 
 -- the header, as it is read
@@ -80,22 +82,22 @@ module _ (e : Edition) (u : List ℕ) (wides index at : ℕ) (b : wides ≡ byte
     unfolding count_of
     others_enough = rw a (run_left e (width_of wides) u (2 + width_of wides) (count_of u) index at there)
 
-    pub others_is : entries_in e (width_of wides) u (k - index) at ≡ drop index (entries e u)
+    pub others_is : bare (placed_in e (width_of wides) u (k - index) at) ≡ drop index (entries e u)
     unfolding count_of
     others_is =
         let W : ℕ = width_of wides in
         let m : index ≤ k = omega arith in
-        ap (entries_in e W u (k - index)) there.place ∙ sym (entries_drop e W u index k (2 + W) m) ∙ ap (drop index) (sym (entries_is e u k wides W a b refl))
+        bare_is e W u (k - index) at ∙ ap (entries_in e W u (k - index)) there.place ∙ sym (entries_drop e W u index k (2 + W) m) ∙ ap (drop index) (sym (entries_is e u k wides W a b refl))
 
     pub others_room : (after o T : ℕ) → o + length (entries_bytes e (width_of after) (drop index (entries e u))) ≤ T
-        → o + length (entries_bytes e (width_of after) (entries_in e (width_of wides) u (k - index) at)) ≤ T
+        → o + length (entries_bytes e (width_of after) (bare (placed_in e (width_of wides) u (k - index) at))) ≤ T
     others_room after o T h = rw others_is h
 
-    pub others_bytes : (after o : ℕ) (t t₁ : List ℕ) → t₁ ≡ put t o (entries_bytes e (width_of after) (entries_in e (width_of wides) u (k - index) at))
+    pub others_bytes : (after o : ℕ) (t t₁ : List ℕ) → t₁ ≡ put t o (entries_bytes e (width_of after) (bare (placed_in e (width_of wides) u (k - index) at)))
         → t₁ ≡ put t o (entries_bytes e (width_of after) (drop index (entries e u)))
     others_bytes after o t t₁ h = h ∙ ap (λ (xs : List SfEntry). put t o (entries_bytes e (width_of after) xs)) others_is
 
-    pub others_end : (after o z : ℕ) → z ≡ o + length (entries_bytes e (width_of after) (entries_in e (width_of wides) u (k - index) at))
+    pub others_end : (after o z : ℕ) → z ≡ o + length (entries_bytes e (width_of after) (bare (placed_in e (width_of wides) u (k - index) at)))
         → z ≡ o + length (entries_bytes e (width_of after) (drop index (entries e u)))
     others_end after o z h = h ∙ ap (λ (xs : List SfEntry). o + length (entries_bytes e (width_of after) xs)) others_is
 
@@ -113,22 +115,22 @@ module _ (e : Edition) (u : List ℕ) (wides index at : ℕ) (b : wides ≡ byte
 
 -- the first entries
 module _ (e : Edition) (u : List ℕ) (wides w index : ℕ) (b : wides ≡ byte 1 u) (c : w ≡ width_of wides) (l : index ≤ count_of u) where
-  first_is : entries_in e (width_of wides) u index (2 + w) ≡ take index (entries e u)
+  first_is : bare (placed_in e (width_of wides) u index (2 + w)) ≡ take index (entries e u)
   unfolding count_of
-  first_is = sym (ap (take index) (entries_is e u (byte 0 u) wides w refl b c) ∙ entries_take e (width_of wides) u index (byte 0 u) (2 + w) l)
+  first_is = bare_is e (width_of wides) u index (2 + w) ∙ sym (ap (take index) (entries_is e u (byte 0 u) wides w refl b c) ∙ entries_take e (width_of wides) u index (byte 0 u) (2 + w) l)
 
   pub first_enough : Readable e u → enough e (width_of wides) u index (2 + w) ≡ true
   unfolding count_of
   first_enough r = enough_fewer e (width_of wides) u index (byte 0 u) (2 + w) l (list_enough e u (byte 0 u) wides w refl b c r.listed)
 
   pub first_room : (after o T : ℕ) → o + length (entries_bytes e (width_of after) (take index (entries e u))) ≤ T
-      → o + length (entries_bytes e (width_of after) (entries_in e (width_of wides) u index (2 + w))) ≤ T
+      → o + length (entries_bytes e (width_of after) (bare (placed_in e (width_of wides) u index (2 + w)))) ≤ T
   first_room after o T h = rw first_is h
 
-  pub first_bytes : (after o : ℕ) (t t₁ : List ℕ) → t₁ ≡ put t o (entries_bytes e (width_of after) (entries_in e (width_of wides) u index (2 + w)))
+  pub first_bytes : (after o : ℕ) (t t₁ : List ℕ) → t₁ ≡ put t o (entries_bytes e (width_of after) (bare (placed_in e (width_of wides) u index (2 + w))))
       → t₁ ≡ put t o (entries_bytes e (width_of after) (take index (entries e u)))
   first_bytes after o t t₁ h = h ∙ ap (λ (xs : List SfEntry). put t o (entries_bytes e (width_of after) xs)) first_is
 
-  pub first_end : (after o z : ℕ) → z ≡ o + length (entries_bytes e (width_of after) (entries_in e (width_of wides) u index (2 + w)))
+  pub first_end : (after o z : ℕ) → z ≡ o + length (entries_bytes e (width_of after) (bare (placed_in e (width_of wides) u index (2 + w))))
       → z ≡ o + length (entries_bytes e (width_of after) (take index (entries e u)))
   first_end after o z h = h ∙ ap (λ (xs : List SfEntry). o + length (entries_bytes e (width_of after) xs)) first_is

@@ -35,10 +35,6 @@ module _ (e : Edition) (w : ℕ) (u : List ℕ) (p : ℕ) where
   unfolding entry_at
   name_at_is = refl
 
-  pub inode_at_is : (entry_at e w u p).target.inode ≡ field (p + 3 + get_or u p 0 + e.ftype) w u
-  unfolding entry_at
-  inode_at_is = refl
-
   pub target_at_is : (n : ℕ) → n ≡ get_or u p 0 → (entry_at e w u p).target ≡ target (field (p + 3 + n + e.ftype) w u) (field (p + 3 + n) e.ftype u)
   unfolding entry_at
   target_at_is n h = rw h refl

@@ -115,6 +115,9 @@ module _ (e : Edition) (sane : Sane e) (told : ℕ) (b : List ℕ) (h : verdict 
   unfolding used
   used_long = simp length-take (omega (arith, fork_is_long, span))
 
+  pub used_short : length (used e b) ≤ 1948
+  used_short = omega (arith, used_long, span, bounds e sane b is_directory)
+
   wide_enough : 4 ≤ used_width (data_fork e b)
   unfolding used_width
   wide_enough = width_least (stored_wides (data_fork e b))
@@ -151,17 +154,16 @@ pub lookup_refused : (e : Edition) (told : ℕ) (b n : List ℕ) (x : Refusal) �
 unfolding lookup
 lookup_refused e told b n x h = sym (rw (verdict_not e told b x h, ← h) refl)
 
-pub lookup_looked : (e : Edition) (sane : Sane e) (told z : ℕ) (b n : List ℕ) (r : Result Looked ℕ) → 0 ≡ verdict e told b → z ≡ size_of b
-    → r ≡ looked e n (parent (take (e.literal + z - e.literal) (drop e.literal b))) (entries e (take (e.literal + z - e.literal) (drop e.literal b))) → r ≡ lookup e told b n
+pub lookup_looked : (e : Edition) (sane : Sane e) (told : ℕ) (b n u : List ℕ) (r : Result Looked ℕ) → 0 ≡ verdict e told b → u ≡ used e b
+    → r ≡ looked e n (parent u) (entries e u) → r ≡ lookup e told b n
 unfolding lookup
-lookup_looked e sane told z b n r h q k =
+lookup_looked e sane told b n u r h q k =
     let v : verdict e told b ≡ 0 = sym h in
-    k ∙ ap (λ (u : List ℕ). looked e n (parent u) (entries e u)) (used_is e sane told b v z q) ∙ sym (rw (eq-eqb _ _ v) refl)
+    k ∙ ap (λ (u : List ℕ). looked e n (parent u) (entries e u)) q ∙ sym (rw (eq-eqb _ _ v) refl)
 
 -- the used bytes, as they are lent
-pub lent_readable : (e : Edition) (sane : Sane e) (told z : ℕ) (b : List ℕ) → 0 ≡ verdict e told b → z ≡ size_of b
-    → Readable e (take (e.literal + z - e.literal) (drop e.literal b))
-lent_readable e sane told z b h q = rw (used_is e sane told b (sym h) z q) (used_readable e sane told b (sym h))
+pub lent_readable : (e : Edition) (sane : Sane e) (told : ℕ) (b u : List ℕ) → 0 ≡ verdict e told b → u ≡ used e b → Readable e u
+lent_readable e sane told b u h q = rw q (used_readable e sane told b (sym h))
 
 -- a lookup's number and values
 answer_is : (l d p : Bool) (x : SfEntry) (r : Result Looked ℕ)

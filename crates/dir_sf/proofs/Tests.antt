@@ -8,6 +8,7 @@ use mathlib.Core.List.{List, [], ◌∷◌}
 use lib.Dec.{eqb, leb, ltb}
 use lib.ListN.{length, get_or, length-take, length-drop}
 use borrow.Author.Tests.{le-leb, lt-leb, lt-ltb, le-ltb, ltb-true, ltb-false, eq-eqb, ne_eqb}
+use Rattle.std.specs.Int.{from_bool}
 use Rattle.be.specs.Bytes.{field}
 use Rattle.be.proofs.Bools.{by_cases, and_false}
 use Rattle.records.specs.Records.{start, places}
@@ -125,13 +126,12 @@ number_ok x = legal_number x.target.inode
 
 -- ---- wide numbers counted
 
-pub wide_one : (i : ℕ) → 4294967295 < i → ◌≡◌ {A = ℕ} 1 (cond (is_wide i) 1 0)
+pub wide_bit : (i r : ℕ) → r ≡ from_bool (ltb 4294967295 i) → (r ≡ cond (is_wide i) 1 0) × (r ≤ 1)
 unfolding is_wide
-wide_one i h = rw (lt-ltb _ _ h) refl
-
-pub wide_none : (i : ℕ) → i ≤ 4294967295 → ◌≡◌ {A = ℕ} 0 (cond (is_wide i) 1 0)
-unfolding is_wide
-wide_none i h = rw (le-ltb _ _ h) refl
+wide_bit i r h =
+    by_cases (ltb 4294967295 i)
+    (λ q. let g : r ≡ 1 = rw q at h in rw q (g, omega arith))
+    (λ q. let g : r ≡ 0 = rw q at h in rw q (g, omega arith))
 
 -- ---- TWICE
 

@@ -6,7 +6,7 @@ use mathlib.Core.Bool.{true, cond}
 use mathlib.Core.Path.{◌≡◌, refl, sym, ◌∙◌, ap, ap₂}
 use mathlib.Core.List.{List}
 use lib.Dec.{eqb}
-use lib.ListN.{length, take, drop, get_or, length-take, length-drop}
+use lib.ListN.{length, get_or, length-take, length-drop}
 use Rattle.std.specs.Prelude.{Result, Ok, Err}
 use borrow.Author.Tests.{eq-eqb, ne_eqb}
 use Rattle.refusal.specs.declared.Refusal.{Refusal}
@@ -27,9 +27,8 @@ use Rattle.dir_sf.specs.Inner.{enough, at_end, at_entry, walked_over, walked_in}
 use Rattle.dir.specs.declared.Target.{Target}
 use Rattle.dir.specs.Target.{target}
 use Rattle.dir.specs.Answers.{walked_code, walked_next, walked_seen}
-use Rattle.dinode.specs.Core.{data_length}
-use Rattle.dir_sf.specs.Inode.{size_of, verdict, used}
-use Rattle.dir_sf.proofs.Tested.{used_is, verdict_not}
+use Rattle.dir_sf.specs.Inode.{verdict, used}
+use Rattle.dir_sf.proofs.Tested.{verdict_not}
 use Rattle.dir_sf.proofs.Leaves.{one_in}
 use Rattle.dir_sf.proofs.Listed.{list_enough}
 use Rattle.dir_sf.proofs.Run.{Run, run_start, run_on, run_one, long_at_is, tag_at_is, name_at_is, target_at_is}
@@ -130,14 +129,11 @@ step_walked e told b place v =
     by_cases (stands size (count_of u) (2 + used_width u) place)
     (λ q. by_cases (eqb place (start size (count_of u) (2 + used_width u))) (λ r. rw (v, q, r) refl) (λ r. rw (v, q, r) refl)) (λ q. rw (v, q) refl)
 
-pub step_stepped : (e : Edition) (sane : Sane e) (told z : ℕ) (b : List ℕ) (place : ℕ) (r : Result Step ℕ) → 0 ≡ verdict e told b → z ≡ size_of b
-    → r ≡ walked_in e (take (e.literal + z - e.literal) (drop e.literal b)) place → r ≡ walk_step e told b place
-step_stepped e sane told z b place r h q k =
+pub step_stepped : (e : Edition) (sane : Sane e) (told : ℕ) (b u : List ℕ) (place : ℕ) (r : Result Step ℕ) → 0 ≡ verdict e told b → u ≡ used e b
+    → r ≡ walked_in e u place → r ≡ walk_step e told b place
+step_stepped e sane told b u place r h q k =
     let v : verdict e told b ≡ 0 = sym h in
-    k ∙ ap (λ (u : List ℕ). walked_in e u place) (used_is e sane told b v z q) ∙ sym (step_walked e told b place v)
-
-pub lent_short : (e : Edition) (z : ℕ) (b : List ℕ) → z ≤ data_length e b → data_length e b ≤ 1948 → length (take (e.literal + z - e.literal) (drop e.literal b)) ≤ 1948
-lent_short e z b h k = simp (length-take, length-drop) (omega arith)
+    k ∙ ap (λ (u : List ℕ). walked_in e u place) q ∙ sym (step_walked e told b place v)
 
 -- a step's number and values
 module _ (e : Edition) (told : ℕ) (b : List ℕ) (place : ℕ) where

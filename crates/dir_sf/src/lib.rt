@@ -9,7 +9,7 @@ ghost use Rattle.name.specs.Name.{legal_name, fixed_name};
 ghost use Rattle.dinode.specs.Core.{directory_code, data_length};
 ghost use Rattle.dir_sf.specs.Entry.{width_of, entries_in, size_at, is_wide, wides_of};
 ghost use Rattle.dir_sf.specs.Fork.{place_of, count_of, parent, entries, names_ok, numbers_ok, once_ok, used_width, used_verdict, fork_verdict};
-ghost use Rattle.dir_sf.specs.Inode.{size_of, verdict, looked, lookup, LookupPromise};
+ghost use Rattle.dir_sf.specs.Inode.{used, verdict, looked, lookup, LookupPromise};
 ghost use Rattle.dir_sf.specs.Walk.{walk_step, StepPromise};
 ghost use Rattle.refusal.specs.Refusal.{code, numbered};
 ghost use Rattle.dir_sf.specs.Inner.{enough, Readable, tiles, hits, seek, walked_in};
@@ -56,13 +56,6 @@ pub fn namelen(e: Edition, u: &[u8], p: usize, wides: usize) -> usize
     ensures { (result ≡ byte p u.now) × (result < 256) × (p + 3 + result + (e.ftype + width_of wides) ≤ length u.now) }
 {
     be::be8(u, p)
-}
-
-// Where an entry stands: how many are before it, and where it starts.
-#[derive(Clone, Copy)]
-pub struct Spot {
-    pub index: usize,
-    pub at: usize,
 }
 
 // An entry as it is stored: where it starts, its tag, its name, and what that stands for.
@@ -195,7 +188,7 @@ impl<'a> Entries<'a> {
 }
 
 // What stands behind a name that ends at an offset: file type and number.
-pub fn target_at(e: Edition, u: &[u8], o: usize, wides: usize) -> Target
+fn target_at(e: Edition, u: &[u8], o: usize, wides: usize) -> Target
     requires { Sane e × (o + (e.ftype + width_of wides) ≤ length u.now) }
     ensures { result ≡ target (field (o + e.ftype) (width_of wides) u.now) (field o e.ftype u.now) }
 {
@@ -249,10 +242,7 @@ fn storable(e: Edition, s: &[u8]) -> bool
 pub fn one_if_wide(i: u64) -> usize
     ensures { (result ≡ cond (is_wide i) 1 0) × (result ≤ 1) }
 {
-    if 4294967295 < i {
-        return 1;
-    }
-    0
+    usize::from(4294967295 < i)
 }
 
 // Tests 5 to 10 of the used bytes.
@@ -333,13 +323,14 @@ pub fn test(b: &[u8], told: usize) -> Result<(), Refusal>
     check(V4::edition(), b, told)
 }
 
-// How many bytes of the fork are used, in an inode that passes the tests.
-pub fn used_long(e: Edition, b: &[u8], told: usize) -> usize
+// The used bytes of the fork, in an inode that passes the tests.
+pub fn used<'a>(e: Edition, b: &'a [u8], told: usize) -> &'a [u8]
     requires { Sane e × (verdict e told b.now ≡ 0) }
-    ensures { (result ≡ size_of b.now) × (result ≤ data_length e b.now) × (data_length e b.now ≤ 1948)
-        × (e.literal + data_length e b.now ≤ length b.now) }
+    ensures { (result.now ≡ used e b.now) × (length result.now ≤ 1948) }
 {
-    be::be64(b, dinode::SIZE_PLACE) as usize
+    let start = e.literal;
+    let end = start + be::be64(b, dinode::SIZE_PLACE) as usize;
+    &b[start..end]
 }
 
 // ---- what is read of used bytes that pass the tests
@@ -418,9 +409,7 @@ fn look_up<'a, 'b>(e: Edition, b: &'a [u8], told: usize, name: &'b [u8]) -> Resu
     ensures { numbered result ≡ lookup e told b.now name.now }
 {
     check(e, b, told)?;
-    let start = e.literal;
-    let end = start + used_long(e, b, told);
-    look(e, &b[start..end], name)
+    look(e, used(e, b, told), name)
 }
 
 // What a name stands for, and its entry's tag; ".." gives the parent, and tag 0.
@@ -475,9 +464,7 @@ fn walk_from(e: Edition, b: &[u8], told: usize, place: usize) -> Result<Step, Re
     ensures { numbered result ≡ walk_step e told b.now place }
 {
     check(e, b, told)?;
-    let start = e.literal;
-    let end = start + used_long(e, b, told);
-    step_over(e, &b[start..end], place)
+    step_over(e, used(e, b, told), place)
 }
 
 // One step of the walk, from a place counted from the fork's start. The first place is behind the header: 6, or 10 where i8count is not 0.

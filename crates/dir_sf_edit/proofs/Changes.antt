@@ -5,7 +5,7 @@ use native.Mathlib.Omega.{arith}
 use mathlib.Core.Bool.{true, false}
 use mathlib.Core.Path.{◌≡◌, refl, sym, ◌∙◌, ap, ap₂}
 use mathlib.Core.List.{List, [], ◌∷◌, ◌++◌}
-use lib.ListN.{length, take, drop, replicate, length-take, length-drop}
+use lib.ListN.{length, take, replicate, length-take, length-drop}
 use borrow.Author.Tests.{eqb-true, eq-eqb, ne_eqb}
 use Rattle.refusal.specs.declared.Refusal.{Refusal}
 use Rattle.refusal.specs.Refusal.{number}
@@ -35,7 +35,7 @@ use Rattle.dir_sf_edit.proofs.Keeps.{removed_fits, inserts}
 use Rattle.dir_sf_edit.proofs.Inserts.{number_of, inserted_is, every_placed, length_placed}
 use Rattle.dir_sf_edit.proofs.Insertions.{lay_few}
 use Rattle.dir_sf.proofs.Listed.{count_is}
-use Rattle.dir_sf.proofs.Tested.{wides_known, names_known, is_directory, used_passes, used_is, used_long, used_header, used_bounds, used_readable, verdict_not}
+use Rattle.dir_sf.proofs.Tested.{wides_known, names_known, is_directory, used_passes, used_long, used_header, used_bounds, used_readable, verdict_not}
 
 -- ---- the answer
 
@@ -43,12 +43,12 @@ pub remove_refused : (e : Edition) (told : ℕ) (b n : List ℕ) (x : Refusal) �
 unfolding remove_code
 remove_refused e told b n x h = h ∙ sym (rw (verdict_not e told b x h) refl)
 
-pub remove_passed : (e : Edition) (sane : Sane e) (told z r : ℕ) (b n : List ℕ) → 0 ≡ verdict e told b → z ≡ size_of b
-    → r ≡ remove_request e n (entries e (take (e.literal + z - e.literal) (drop e.literal b))) → r ≡ remove_code e told b n
+pub remove_passed : (e : Edition) (sane : Sane e) (told r : ℕ) (b n u : List ℕ) → 0 ≡ verdict e told b → u ≡ used e b
+    → r ≡ remove_request e n (entries e u) → r ≡ remove_code e told b n
 unfolding remove_code
-remove_passed e sane told z r b n h q k =
+remove_passed e sane told r b n u h q k =
     let v : verdict e told b ≡ 0 = sym h in
-    k ∙ ap (λ (u : List ℕ). remove_request e n (entries e u)) (used_is e sane told b v z q) ∙ sym (rw (eq-eqb _ _ v) refl)
+    k ∙ ap (λ (u : List ℕ). remove_request e n (entries e u)) q ∙ sym (rw (eq-eqb _ _ v) refl)
 
 -- ---- what is laid out anew is as long as what was there
 
@@ -139,26 +139,23 @@ module _ (e : Edition) (sane : Sane e) (told : ℕ) (b n : List ℕ) (h : remove
   pub remove_fits : length (lay e (parent (used e b)) (removed e n (entries e (used e b)))) ≤ data_length e b
   remove_fits = omega (arith, removed_fits e n (parent (used e b)) (entries e (used e b)), lay_fits e sane told b remove_passes)
 
-  module _ (z : ℕ) (q : z ≡ size_of b) where
-    same : take (e.literal + z - e.literal) (drop e.literal b) ≡ used e b
-    same = used_is e sane told b remove_passes z q
+  module _ (u : List ℕ) (q : u ≡ used e b) where
+    pub remove_readable : Readable e u
+    remove_readable = rw q (used_readable e sane told b remove_passes)
 
-    pub remove_readable : Readable e (take (e.literal + z - e.literal) (drop e.literal b))
-    remove_readable = rw same (used_readable e sane told b remove_passes)
-
-    pub remove_there : holds e n (entries e (take (e.literal + z - e.literal) (drop e.literal b))) ≡ true
-    remove_there = rw same there
+    pub remove_there : holds e n (entries e u) ≡ true
+    remove_there = rw q there
 
     pub remove_room : (T : ℕ) → T ≡ 2048
-        → length (lay e (parent (take (e.literal + z - e.literal) (drop e.literal b))) (removed e n (entries e (take (e.literal + z - e.literal) (drop e.literal b))))) ≤ T
-    remove_room T e₀ = rw same (room e sane told b remove_passes (removed e n (entries e (used e b))) remove_fits T e₀)
+        → length (lay e (parent u) (removed e n (entries e u))) ≤ T
+    remove_room T e₀ = rw q (room e sane told b remove_passes (removed e n (entries e (used e b))) remove_fits T e₀)
 
     pub taken_out : (m s : ℕ) (t b₁ : List ℕ) → m ≡ data_length e b
-        → t ≡ put (replicate 2048 0) 0 (lay e (parent (take (e.literal + z - e.literal) (drop e.literal b))) (removed e n (entries e (take (e.literal + z - e.literal) (drop e.literal b)))))
-        → s ≡ length (lay e (parent (take (e.literal + z - e.literal) (drop e.literal b))) (removed e n (entries e (take (e.literal + z - e.literal) (drop e.literal b)))))
+        → t ≡ put (replicate 2048 0) 0 (lay e (parent u) (removed e n (entries e u)))
+        → s ≡ length (lay e (parent u) (removed e n (entries e u)))
         → b₁ ≡ put (put b size_place (to_be 8 s)) e.literal (take m t) → b₁ ≡ with_entries e b (removed e n (entries e (used e b)))
     taken_out m s t b₁ e₀ f g k =
-        written_back e sane told b remove_passes (removed e n (entries e (used e b))) remove_fits m s t b₁ e₀ (rw same at f) (rw same at g) k
+        written_back e sane told b remove_passes (removed e n (entries e (used e b))) remove_fits m s t b₁ e₀ (rw q at f) (rw q at g) k
 
 pub remove_alone : (e : Edition) (told : ℕ) (b n : List ℕ) (x : Refusal) → number x ≡ remove_code e told b n → b ≡ remove_bytes e told b n
 unfolding remove_bytes
@@ -175,23 +172,23 @@ pub insert_refused : (e : Edition) (told : ℕ) (b n : List ℕ) (to : Target) (
 unfolding insert_code
 insert_refused e told b n to x h = h ∙ sym (rw (verdict_not e told b x h) refl)
 
-pub insert_passed : (e : Edition) (sane : Sane e) (told z fork r : ℕ) (b n : List ℕ) (to : Target) → 0 ≡ verdict e told b → z ≡ size_of b → fork ≡ data_length e b
-    → r ≡ insert_request e told fork n to (parent (take (e.literal + z - e.literal) (drop e.literal b))) (entries e (take (e.literal + z - e.literal) (drop e.literal b)))
+pub insert_passed : (e : Edition) (sane : Sane e) (told fork r : ℕ) (b n u : List ℕ) (to : Target) → 0 ≡ verdict e told b → u ≡ used e b → fork ≡ data_length e b
+    → r ≡ insert_request e told fork n to (parent u) (entries e u)
     → r ≡ insert_code e told b n to
 unfolding insert_code
-insert_passed e sane told z fork r b n to h q g k =
+insert_passed e sane told fork r b n u to h q g k =
     let v : verdict e told b ≡ 0 = sym h in
-    k ∙ ap₂ (λ (j : ℕ) (u : List ℕ). insert_request e told j n to (parent u) (entries e u)) g (used_is e sane told b v z q) ∙ sym (rw (eq-eqb _ _ v) refl)
+    k ∙ ap₂ (λ (j : ℕ) (u : List ℕ). insert_request e told j n to (parent u) (entries e u)) g q ∙ sym (rw (eq-eqb _ _ v) refl)
 
 pub tested_dir : (e : Edition) (sane : Sane e) (told : ℕ) (b : List ℕ) → 0 ≡ verdict e told b → directory_code e b ≡ 0
 tested_dir e sane told b h = is_directory e sane told b (sym h)
 
-pub lent_whole : (e : Edition) (sane : Sane e) (told z : ℕ) (b : List ℕ) → 0 ≡ verdict e told b → z ≡ size_of b
-    → length (lay e (parent (take (e.literal + z - e.literal) (drop e.literal b))) (entries e (take (e.literal + z - e.literal) (drop e.literal b))))
-    ≡ length (take (e.literal + z - e.literal) (drop e.literal b))
-lent_whole e sane told z b h q =
+pub lent_whole : (e : Edition) (sane : Sane e) (told : ℕ) (b u : List ℕ) → 0 ≡ verdict e told b → u ≡ used e b
+    → length (lay e (parent u) (entries e u))
+    ≡ length u
+lent_whole e sane told b u h q =
     let v : verdict e told b ≡ 0 = sym h in
-    rw (used_is e sane told b v z q) (same_long e told (used e b) (used_passes e sane told b v) (used_header e sane told b v))
+    rw q (same_long e told (used e b) (used_passes e sane told b v) (used_header e sane told b v))
 
 module _ (e : Edition) (sane : Sane e) (told : ℕ) (b n : List ℕ) (to : Target) (h : insert_code e told b n to ≡ 0) where
   insert_parts : (verdict e told b ≡ 0) × (insert_request e told (data_length e b) n to (parent (used e b)) (entries e (used e b)) ≡ 0)
@@ -227,29 +224,26 @@ module _ (e : Edition) (sane : Sane e) (told : ℕ) (b n : List ℕ) (to : Targe
       every_placed (name_ok e) y (entries e (used e b)) (and_both _ _ insert_tests.0 (rw insert_tests.2 refl)) (names_known e told (used e b) (used_passes e sane told b insert_passes)) in
       omega (arith, lay_few e (parent (used e b)) (placed y (entries e (used e b))) k, length_placed y (entries e (used e b)), count_is e (used e b))
 
-  module _ (z : ℕ) (q : z ≡ size_of b) where
-    lent : take (e.literal + z - e.literal) (drop e.literal b) ≡ used e b
-    lent = used_is e sane told b insert_passes z q
+  module _ (u : List ℕ) (q : u ≡ used e b) where
+    pub insert_readable : Readable e u
+    insert_readable = rw q (used_readable e sane told b insert_passes)
 
-    pub insert_readable : Readable e (take (e.literal + z - e.literal) (drop e.literal b))
-    insert_readable = rw lent (used_readable e sane told b insert_passes)
+    pub insert_free : is_free (tag_for e told (length n) (entries e u)) ≡ true
+    insert_free = rw q insert_tests.4
 
-    pub insert_free : is_free (tag_for e told (length n) (entries e (take (e.literal + z - e.literal) (drop e.literal b)))) ≡ true
-    insert_free = rw lent insert_tests.4
-
-    pub insert_few : count_of (take (e.literal + z - e.literal) (drop e.literal b)) < 254
-    insert_few = rw lent few_entries
+    pub insert_few : count_of u < 254
+    insert_few = rw q few_entries
 
     pub insert_room : (T : ℕ) → T ≡ 2048
-        → length (lay e (parent (take (e.literal + z - e.literal) (drop e.literal b))) (inserted e told n to (entries e (take (e.literal + z - e.literal) (drop e.literal b))))) ≤ T
-    insert_room T e₀ = rw lent (room e sane told b insert_passes (inserted e told n to (entries e (used e b))) insert_fits T e₀)
+        → length (lay e (parent u) (inserted e told n to (entries e u))) ≤ T
+    insert_room T e₀ = rw q (room e sane told b insert_passes (inserted e told n to (entries e (used e b))) insert_fits T e₀)
 
     pub put_in_is : (m s : ℕ) (t b₁ : List ℕ) → m ≡ data_length e b
-        → t ≡ put (replicate 2048 0) 0 (lay e (parent (take (e.literal + z - e.literal) (drop e.literal b))) (inserted e told n to (entries e (take (e.literal + z - e.literal) (drop e.literal b)))))
-        → s ≡ length (lay e (parent (take (e.literal + z - e.literal) (drop e.literal b))) (inserted e told n to (entries e (take (e.literal + z - e.literal) (drop e.literal b)))))
+        → t ≡ put (replicate 2048 0) 0 (lay e (parent u) (inserted e told n to (entries e u)))
+        → s ≡ length (lay e (parent u) (inserted e told n to (entries e u)))
         → b₁ ≡ put (put b size_place (to_be 8 s)) e.literal (take m t) → b₁ ≡ with_entries e b (inserted e told n to (entries e (used e b)))
     put_in_is m s t b₁ e₀ f g k =
-        written_back e sane told b insert_passes (inserted e told n to (entries e (used e b))) insert_fits m s t b₁ e₀ (rw lent at f) (rw lent at g) k
+        written_back e sane told b insert_passes (inserted e told n to (entries e (used e b))) insert_fits m s t b₁ e₀ (rw q at f) (rw q at g) k
 
 pub insert_alone : (e : Edition) (told : ℕ) (b n : List ℕ) (to : Target) (x : Refusal) → number x ≡ insert_code e told b n to → b ≡ insert_bytes e told b n to
 unfolding insert_bytes

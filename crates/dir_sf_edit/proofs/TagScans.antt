@@ -7,29 +7,23 @@ use mathlib.Core.Bool.{true}
 use mathlib.Core.Path.{◌≡◌, refl, sym, ◌∙◌, ap, ap₂}
 use mathlib.Core.List.{List, [], ◌∷◌}
 use lib.Dec.{leb}
-use lib.ListN.{length, get_or, length-take, length-drop}
+use lib.ListN.{length, get_or}
 use borrow.Author.Tests.{lt-ltb, le-ltb, le-leb, lt-leb}
 use Rattle.be.specs.Bytes.{byte, field}
 use Rattle.records.specs.Records.{start}
 use Rattle.edition.specs.declared.Edition.{Edition}
-use Rattle.edition.specs.Edition.{entry_size, Sane}
+use Rattle.edition.specs.Edition.{entry_size}
 use Rattle.std.specs.Prelude.{Option, Some, None}
-use Rattle.dir_sf.specs.Entry.{SfEntry, width_of, size_at, entry_at, entries_in, next_tag, end_tag, in_block}
+use Rattle.dir.specs.declared.Target.{Target}
+use Rattle.dir_sf.specs.Entry.{SfEntry, entry, width_of, size_at, entry_at, entries_in, next_tag, end_tag, in_block}
 use Rattle.dir_sf.specs.Change.{gap_tag, tag_for}
 use Rattle.dir_sf.specs.Fork.{count_of, entries, place_of}
 use Rattle.dir_sf.specs.Inner.{enough}
+use Rattle.dir_sf.specs.Left.{placed, bare}
+use Rattle.dir_sf.proofs.Turn.{placed_bare}
 use Rattle.dir_sf_edit.specs.Inner.{rank}
 use Rattle.dir_sf.proofs.Listed.{entries_is, place_is, count_is}
-use Rattle.dir_sf.proofs.Leaves.{one_in}
-use Rattle.dir_sf.proofs.Run.{Run, run_start, run_on, run_one, run_rest, run_over, run_whole, tag_at_is, name_at_is}
-
-next_is : (e : Edition) (w : ℕ) (u : List ℕ) (p n tag e₀ : ℕ) → p + 3 + get_or u p 0 + (e.ftype + w) ≤ length u → n ≡ get_or u p 0 → tag ≡ field (p + 1) 2 u → e₀ ≡ entry_size e n
-    → next_tag e (entry_at e w u p) ≡ tag + e₀
-unfolding next_tag
-next_is e w u p n tag e₀ l q f g =
-    let a : (entry_at e w u p).tag ≡ tag = tag_at_is e w u p ∙ sym f in
-    let b : length (entry_at e w u p).name ≡ n = rw (name_at_is e w u p) (simp (length-take, length-drop) (omega arith)) in
-    ap₂ (λ (x y : ℕ). x + entry_size e y) a b ∙ ap (λ (y : ℕ). tag + y) (sym g)
+use Rattle.dir_sf.proofs.Run.{Run, run_start, run_on, run_rest, run_over, run_whole, tag_at_is}
 
 -- ---- their end
 
@@ -41,26 +35,11 @@ pub end_none : (e : Edition) (low : ℕ) → end_tag e low [] ≡ low
 unfolding end_tag
 end_none e low = refl
 
-pub record Ends (e : Edition) (w : ℕ) (u : List ℕ) (at k i p low : ℕ) : Type 0 where
-  pub run : Run e w u at k i p
-  pub small : low ≤ 65815
-  pub rest : end_tag e e.first (entries_in e w u k at) ≡ end_tag e low (entries_in e w u (k - i) p)
-
-pub ends_start : (e : Edition) (w : ℕ) (u : List ℕ) (at k : ℕ) → Sane e → enough e w u k at ≡ true → Ends e w u at k 0 at e.first
-ends_start e w u at k sane f = record { run = run_start e w u at k f; small = omega (arith, sane.first_after, sane.header_most); rest = ap (end_tag e e.first) (run_whole e w u at k) }
-
-pub ends_on : (e : Edition) (w : ℕ) (u : List ℕ) (at k i p low n v tag e₀ : ℕ) → Ends e w u at k i p low → i < k → n ≡ get_or u p 0 → v ≡ e.ftype + w → tag ≡ field (p + 1) 2 u → tag < 65536
-    → e₀ ≡ entry_size e n → e₀ < 280 → Ends e w u at k (i + 1) (p + 3 + n + v) (tag + e₀)
-ends_on e w u at k i p low n v tag e₀ s h a b c l f m =
-    record {
-      run = run_on e w u at k i p n v s.run h a b;
-      small = omega arith;
-      rest = s.rest ∙ ap (end_tag e low) (run_rest e w u at k i p n v s.run h a b) ∙ end_cons e low _ _
-          ∙ ap (λ (y : ℕ). end_tag e y (entries_in e w u (k - (i + 1)) (p + 3 + n + v))) (next_is e w u p n tag e₀ (one_in e w p u (run_one e w u at k i p s.run h)) a c f);
-    }
-
-pub ends_done : (e : Edition) (w : ℕ) (u : List ℕ) (at k i p low : ℕ) → Ends e w u at k i p low → k ≤ i → low ≡ end_tag e e.first (entries_in e w u k at)
-ends_done e w u at k i p low s h = sym (s.rest ∙ ap (end_tag e low) (run_over e w u k i p h) ∙ end_none e low)
+-- one entry more
+pub end_on : (e : Edition) (low tag : ℕ) (n : List ℕ) (t : Target) (xs : List SfEntry) (s : ℕ) → s ≡ entry_size e (length n)
+    → end_tag e low (entry tag n t ∷ xs) ≡ end_tag e (tag + s) xs
+unfolding end_tag next_tag
+end_on e low tag n t xs s h = rw (← h) refl
 
 -- ---- the lowest gap
 
@@ -72,37 +51,14 @@ gap_later : (e : Edition) (long low : ℕ) (x : SfEntry) (xs : List SfEntry) →
 unfolding gap_tag
 gap_later e long low x xs h = rw (lt-leb _ _ h) refl
 
-gap_none : (e : Edition) (long low : ℕ) → gap_tag e long low [] ≡ None
+pub gap_none : (e : Edition) (long low : ℕ) (xs : List SfEntry) → xs ≡ [] → None ≡ gap_tag e long low xs
 unfolding gap_tag
-gap_none e long low = refl
+gap_none e long low xs h = sym (ap (gap_tag e long low) h)
 
-pub record Gaps (e : Edition) (w long : ℕ) (u : List ℕ) (at k i p low : ℕ) : Type 0 where
-  pub run : Run e w u at k i p
-  pub small : low ≤ 65815
-  pub rest : gap_tag e long e.first (entries_in e w u k at) ≡ gap_tag e long low (entries_in e w u (k - i) p)
-
-pub gaps_start : (e : Edition) (w long : ℕ) (u : List ℕ) (at k : ℕ) → Sane e → enough e w u k at ≡ true → Gaps e w long u at k 0 at e.first
-gaps_start e w long u at k sane f = record { run = run_start e w u at k f; small = omega (arith, sane.first_after, sane.header_most); rest = ap (gap_tag e long e.first) (run_whole e w u at k) }
-
-pub gaps_found : (e : Edition) (w long : ℕ) (u : List ℕ) (at k i p low n tag : ℕ) → Gaps e w long u at k i p low → i < k → n ≡ get_or u p 0 → tag ≡ field (p + 1) 2 u → low + long ≤ tag
-    → Some low ≡ gap_tag e long e.first (entries_in e w u k at)
-gaps_found e w long u at k i p low n tag s h a c l =
-    let t : (entry_at e w u p).tag ≡ tag = tag_at_is e w u p ∙ sym c in
-    sym (s.rest ∙ ap (gap_tag e long low) (run_rest e w u at k i p n (e.ftype + w) s.run h a refl) ∙ gap_here e long low _ _ (omega arith))
-
-pub gaps_on : (e : Edition) (w long : ℕ) (u : List ℕ) (at k i p low n v tag e₀ : ℕ) → Gaps e w long u at k i p low → i < k → n ≡ get_or u p 0 → v ≡ e.ftype + w → tag ≡ field (p + 1) 2 u → tag < 65536
-    → tag < low + long → e₀ ≡ entry_size e n → e₀ < 280 → Gaps e w long u at k (i + 1) (p + 3 + n + v) (tag + e₀)
-gaps_on e w long u at k i p low n v tag e₀ s h a b c l g f m =
-    let t : (entry_at e w u p).tag ≡ tag = tag_at_is e w u p ∙ sym c in
-    record {
-      run = run_on e w u at k i p n v s.run h a b;
-      small = omega arith;
-      rest = s.rest ∙ ap (gap_tag e long low) (run_rest e w u at k i p n v s.run h a b) ∙ gap_later e long low _ _ (omega arith)
-          ∙ ap (λ (y : ℕ). gap_tag e long y (entries_in e w u (k - (i + 1)) (p + 3 + n + v))) (next_is e w u p n tag e₀ (one_in e w p u (run_one e w u at k i p s.run h)) a c f);
-    }
-
-pub gaps_done : (e : Edition) (w long : ℕ) (u : List ℕ) (at k i p low : ℕ) → Gaps e w long u at k i p low → k ≤ i → None ≡ gap_tag e long e.first (entries_in e w u k at)
-gaps_done e w long u at k i p low s h = sym (s.rest ∙ ap (gap_tag e long low) (run_over e w u k i p h) ∙ gap_none e long low)
+pub gap_on : (e : Edition) (long low tag : ℕ) (n : List ℕ) (t : Target) (xs : List SfEntry) (s : ℕ) → tag < low + long → s ≡ entry_size e (length n)
+    → gap_tag e long low (entry tag n t ∷ xs) ≡ gap_tag e long (tag + s) xs
+unfolding next_tag
+gap_on e long low tag n t xs s h k = gap_later e long low (entry tag n t) xs h ∙ rw (← k) refl
 
 -- ---- where a tag stands
 
@@ -141,10 +97,11 @@ ranks_on e w t u at k i p n v tag s h a b c l =
     record { run = run_on e w u at k i p n v s.run h a b; rest = s.rest ∙ omega arith }
 
 pub ranks_done : (e : Edition) (w t : ℕ) (u : List ℕ) (at k i p : ℕ) → Ranks e w t u at k i p → k ≤ i
-    → (i ≡ rank t (entries_in e w u k at)) × (p ≡ start (size_at e w u) i at)
+    → (k ≡ rank t (entries_in e w u k at)) × (p ≡ start (size_at e w u) k at)
 ranks_done e w t u at k i p s h =
     let z : rank t (entries_in e w u (k - i) p) ≡ 0 = ap (rank t) (run_over e w u k i p h) ∙ rank_none t in
-    (omega (arith, s.rest), s.run.place)
+    let q : i ≡ k = omega (arith, s.run.upto) in
+    (omega (arith, s.rest), s.run.place ∙ ap (λ (j : ℕ). start (size_at e w u) j at) q)
 
 -- ---- in the used bytes
 
@@ -155,11 +112,16 @@ module _ (e : Edition) (u : List ℕ) (k wides w t i p : ℕ) (a : k ≡ byte 0 
   pub spot_place : p ≡ start (size_at e (width_of wides) u) i (2 + w) → p ≡ place_of e i u
   spot_place h = place_is e u wides w i p b c h
 
-module _ (e : Edition) (u : List ℕ) (told n k wides w long end : ℕ) (a : k ≡ byte 0 u) (b : wides ≡ byte 1 u) (c : w ≡ width_of wides)
-    (l : long ≡ entry_size e n) (f : end ≡ end_tag e e.first (entries_in e (width_of wides) u k (2 + w))) where
-  ends : end_tag e e.first (entries e u) ≡ end
-  ends = ap (end_tag e e.first) (entries_is e u k wides w a b c) ∙ sym f
+pub ends_used : (e f : Edition) (u : List ℕ) (xs : List (ℕ × SfEntry)) (r : ℕ) → f ≡ e → xs ≡ placed e u → r ≡ end_tag f f.first (bare xs) → r ≡ end_tag e e.first (entries e u)
+ends_used e f u xs r a b h =
+    h ∙ ap₂ (λ (y : Edition) (ys : List (ℕ × SfEntry)). end_tag y y.first (bare ys)) a b ∙ ap (end_tag e e.first) (placed_bare e u)
 
+pub gaps_used : (e f : Edition) (u : List ℕ) (xs : List (ℕ × SfEntry)) (long : ℕ) (r : Option ℕ) → f ≡ e → xs ≡ placed e u → r ≡ gap_tag f long f.first (bare xs)
+    → r ≡ gap_tag e long e.first (entries e u)
+gaps_used e f u xs long r a b h =
+    h ∙ ap₂ (λ (y : Edition) (ys : List (ℕ × SfEntry)). gap_tag y long y.first (bare ys)) a b ∙ ap (gap_tag e long e.first) (placed_bare e u)
+
+module _ (e : Edition) (u : List ℕ) (told n k long end : ℕ) (a : k ≡ byte 0 u) (l : long ≡ entry_size e n) (f : end ≡ end_tag e e.first (entries e u)) where
   limit : (z : ℕ) → in_block told z (suc (length (entries e u))) ≡ leb (z + 8 * (k + 1 + 2) + 8) told
   unfolding in_block count_of
   limit z =
@@ -168,16 +130,16 @@ module _ (e : Edition) (u : List ℕ) (told n k wides w long end : ℕ) (a : k �
 
   pub tag_last : end + long + 8 * (k + 1 + 2) + 8 ≤ told → Some end ≡ tag_for e told n (entries e u)
   unfolding tag_for
-  tag_last h = rw (← l, ends, limit (end + long), le-leb _ _ h) refl
+  tag_last h = rw (← l, ← f, limit (end + long), le-leb _ _ h) refl
 
   pub tag_gap : (r : Option ℕ) → told < end + long + 8 * (k + 1 + 2) + 8 → end + 8 * (k + 1 + 2) + 8 ≤ told
-      → r ≡ gap_tag e long e.first (entries_in e (width_of wides) u k (2 + w)) → r ≡ tag_for e told n (entries e u)
+      → r ≡ gap_tag e long e.first (entries e u) → r ≡ tag_for e told n (entries e u)
   unfolding tag_for
   tag_gap r h m q =
-      rw (← l, ends, limit (end + long), lt-leb _ _ h, limit end, le-leb _ _ m) (q ∙ ap (gap_tag e long e.first) (sym (entries_is e u k wides w a b c)))
+      rw (← l, ← f, limit (end + long), lt-leb _ _ h, limit end, le-leb _ _ m) q
 
   pub tag_none : told < end + 8 * (k + 1 + 2) + 8 → None ≡ tag_for e told n (entries e u)
   unfolding tag_for
   tag_none m =
       let h : told < end + long + 8 * (k + 1 + 2) + 8 = omega arith in
-      rw (← l, ends, limit (end + long), lt-leb _ _ h, limit end, lt-leb _ _ m) refl
+      rw (← l, ← f, limit (end + long), lt-leb _ _ h, limit end, lt-leb _ _ m) refl

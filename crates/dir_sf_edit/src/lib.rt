@@ -12,11 +12,12 @@ ghost use Rattle.dir_sf.specs.Entry.{entry, width_of, entry_at, entries_in, size
 ghost use Rattle.dir_sf.specs.Fork.{place_of, used_width, laid, lay, holds, count_of, parent, entries};
 ghost use Rattle.dir_sf.specs.Change.{gap_tag, tag_for, is_free, placed, inserted, insert_request, removed, remove_request};
 ghost use Rattle.dir_sf.specs.Inner.{enough, Readable};
+ghost use Rattle.dir_sf.specs.Left.{left, bare};
 ghost use Rattle.dir_sf_edit.specs.Inner.{rank, with_nth, without_nth};
 ghost use Rattle.dir_sf.specs.Inode.{used, insert_code, remove_code, with_entries, insert_bytes, remove_bytes};
 
 use dir::Target;
-use dir_sf::Spot;
+use dir_sf::Entries;
 use edition::{Edition, V4};
 use refusal::Refusal;
 
@@ -66,54 +67,17 @@ fn put_entry<'a, 'b>(
     put_rest(e, b, o + 3 + n, to, wides)
 }
 
-// Copies the entry at p in u to an offset, its number in another width. Gives where it ends.
-fn copy_entry<'a, 'b>(
-    e: Edition,
-    b: &'a mut [u8],
-    o: usize,
-    u: &'b [u8],
-    p: usize,
-    wides: usize,
-    after: usize,
-) -> usize
-    requires { Sane e × (enough e (width_of wides) u.now 1 p ≡ true)
-        × (o + (3 + byte p u.now + (e.ftype + width_of after)) ≤ length b.old) }
-    ensures { (b.new ≡ put b.old o (entry_bytes e (width_of after) (entry_at e (width_of wides) u.now p)))
-        × (result ≡ o + (3 + byte p u.now + (e.ftype + width_of after))) }
-{
-    let n = dir_sf::namelen(e, u, p, wides);
-    let tag = be::be16(u, p + 1);
-    let end = p + 3 + n;
-    let to = dir_sf::target_at(e, u, end, wides);
-    put_entry(e, b, o, &u[p + 3..end], tag, to, after)
-}
-
-// Copies the k entries of u from `at` on to an offset, their numbers in another width. Gives where they end.
-fn copy_entries<'a, 'b>(
-    e: Edition,
-    b: &'a mut [u8],
-    to: usize,
-    u: &'b [u8],
-    at: usize,
-    k: usize,
-    wides: usize,
-    after: usize,
-) -> usize
-    requires { Sane e × (at ≤ length u.now) × (enough e (width_of wides) u.now k at ≡ true)
-        × (to + length (entries_bytes e (width_of after) (entries_in e (width_of wides) u.now k at)) ≤ length b.old) }
+// Copies entries to an offset, their numbers in another width. Gives where they end.
+fn copy_entries<'a, 'b>(b: &'a mut [u8], to: usize, entries: Entries<'b>, after: usize) -> usize
+    requires { to + length (entries_bytes entries.edition (width_of after) (bare (left entries))) ≤ length b.old }
     ensures { (b.new
-        ≡ put b.old to (entries_bytes e (width_of after) (entries_in e (width_of wides) u.now k at)))
-        × (result ≡ to + length (entries_bytes e (width_of after) (entries_in e (width_of wides) u.now k at))) }
+        ≡ put b.old to (entries_bytes entries.entry.edition (width_of after) (bare (left entries.entry))))
+        × (result ≡ to + length (entries_bytes entries.entry.edition (width_of after) (bare (left entries.entry)))) }
 {
-    let mut i = 0;
-    let mut p = at;
+    let e = entries.edition;
     let mut o = to;
-    let w = dir_sf::rest(e, wides);
-    while i < k {
-        let n = dir_sf::namelen(e, u, p, wides);
-        o = copy_entry(e, b, o, u, p, wides, after);
-        p = p + 3 + n + w;
-        i += 1;
+    for x in entries {
+        o = put_entry(e, b, o, x.name, x.tag, x.target, after);
     }
     o
 }
@@ -146,7 +110,14 @@ fn copy_first<'a, 'b>(
         × (result ≡ o + length (entries_bytes e (width_of after) (take index (entries e u.now)))) }
 {
     let wides = be::be8(u, 1);
-    copy_entries(e, t, o, u, 2 + dir_sf::width(wides), index, wides, after)
+    let first = Entries {
+        edition: e,
+        bytes: u,
+        wides,
+        at: 2 + dir_sf::width(wides),
+        left: index,
+    };
+    copy_entries(t, o, first, after)
 }
 
 // Lays out a header and the first `index` entries of u. Gives where they end.
@@ -184,8 +155,14 @@ fn copy_others<'a, 'b>(
         × (result ≡ o + length (entries_bytes e (width_of after) (drop index (entries e u.now)))) }
 {
     let k = be::be8(u, 0);
-    let wides = be::be8(u, 1);
-    copy_entries(e, t, o, u, at, k - index, wides, after)
+    let others = Entries {
+        edition: e,
+        bytes: u,
+        wides: be::be8(u, 1),
+        at,
+        left: k - index,
+    };
+    copy_entries(t, o, others, after)
 }
 
 // Writes a size and the data fork back: the first n bytes of t.
@@ -264,9 +241,7 @@ fn check_remove<'a, 'b>(e: Edition, b: &'a [u8], told: usize, name: &'b [u8]) ->
     ensures { code result ≡ remove_code e told b.now name.now }
 {
     dir_sf::check(e, b, told)?;
-    let start = e.literal;
-    let end = start + dir_sf::used_long(e, b, told);
-    check_removal(e, &b[start..end], name)
+    check_removal(e, dir_sf::used(e, b, told), name)
 }
 
 // Takes the entry of a name out.
@@ -275,10 +250,8 @@ fn take_out<'a, 'b>(e: Edition, b: &'a mut [u8], told: usize, name: &'b [u8])
     ensures { b.new ≡ with_entries e b.old (removed e name.now (entries e (used e b.old))) }
 {
     let n = dir_sf::fork_long(e, &b[..]);
-    let start = e.literal;
-    let end = start + dir_sf::used_long(e, &b[..], told);
     let mut t = [0u8; 2048];
-    let size = shrink(e, &mut t, &b[start..end], name);
+    let size = shrink(e, &mut t, dir_sf::used(e, &b[..], told), name);
     write_back(e, b, &t[..], n, size);
 }
 
@@ -308,44 +281,41 @@ pub fn remove<'a, 'b>(b: &'a mut [u8], told: usize, name: &'b [u8]) -> Result<()
 // ---- insert
 
 // The least tag after all the entries.
-fn end_of(e: Edition, u: &[u8], at: usize, k: usize, wides: usize) -> usize
-    requires { Sane e × (at ≤ length u.now) × (enough e (width_of wides) u.now k at ≡ true) }
-    ensures { (result ≡ end_tag e e.first (entries_in e (width_of wides) u.now k at)) × (result ≤ 65815) }
+fn end_of(entries: Entries) -> usize
+    ensures { (result
+        ≡ end_tag entries.entry.edition entries.entry.edition.first (bare (left entries.entry)))
+        × (result ≤ 65815) }
 {
-    let mut i = 0;
-    let mut p = at;
+    let e = entries.edition;
     let mut low = e.first;
-    let w = dir_sf::rest(e, wides);
-    while i < k {
-        let n = dir_sf::namelen(e, u, p, wides);
-        let tag = be::be16(u, p + 1);
-        low = tag + edition::entry_size(e, n);
-        p = p + 3 + n + w;
-        i += 1;
+    for x in entries {
+        low = x.tag + edition::entry_size(e, x.name.len());
     }
     low
 }
 
 // The start of the lowest gap in the tags that holds `long`, if there is one.
-fn gap_of(e: Edition, u: &[u8], at: usize, k: usize, wides: usize, long: usize) -> Option<usize>
-    requires { Sane e × (at ≤ length u.now) × (enough e (width_of wides) u.now k at ≡ true) × (long < 280) }
-    ensures { result ≡ gap_tag e long e.first (entries_in e (width_of wides) u.now k at) }
+fn gap_of(entries: Entries, long: usize) -> Option<usize>
+    requires { long < 280 }
+    ensures { result
+        ≡ gap_tag entries.entry.edition long entries.entry.edition.first (bare (left entries.entry)) }
 {
-    let mut i = 0;
-    let mut p = at;
+    let e = entries.edition;
     let mut low = e.first;
-    let w = dir_sf::rest(e, wides);
-    while i < k {
-        let n = dir_sf::namelen(e, u, p, wides);
-        let tag = be::be16(u, p + 1);
-        if low + long <= tag {
+    for x in entries {
+        if low + long <= x.tag {
             return Some(low);
         }
-        low = tag + edition::entry_size(e, n);
-        p = p + 3 + n + w;
-        i += 1;
+        low = x.tag + edition::entry_size(e, x.name.len());
     }
     None
+}
+
+// Where an entry stands: how many are before it, and where it starts.
+#[derive(Clone, Copy)]
+struct Spot {
+    index: usize,
+    at: usize,
 }
 
 // Where an entry with a tag goes: how many are before it, and where the next one starts.
@@ -354,18 +324,16 @@ fn rank_of(e: Edition, u: &[u8], at: usize, k: usize, wides: usize, tag: usize) 
     ensures { (result.index ≡ rank tag (entries_in e (width_of wides) u.now k at))
         × (result.at ≡ start (size_at e (width_of wides) u.now) result.index at) }
 {
-    let mut i = 0;
     let mut p = at;
     let w = dir_sf::rest(e, wides);
-    while i < k {
+    for i in 0..k {
         let n = dir_sf::namelen(e, u, p, wides);
         if tag < be::be16(u, p + 1) {
             return Spot { index: i, at: p };
         }
         p = p + 3 + n + w;
-        i += 1;
     }
-    Spot { index: i, at: p }
+    Spot { index: k, at: p }
 }
 
 // The tag of a new entry with a name of n bytes, if one is free.
@@ -374,15 +342,14 @@ fn tag_of(e: Edition, u: &[u8], n: usize, told: usize) -> Option<usize>
     ensures { result ≡ tag_for e told n (entries e u.now) }
 {
     let k = be::be8(u, 0);
-    let wides = be::be8(u, 1);
-    let at = 2 + dir_sf::width(wides);
+    let entries = Entries::of(e, u);
     let long = edition::entry_size(e, n);
-    let end = end_of(e, u, at, k, wides);
+    let end = end_of(entries);
     if end + long + 8 * (k + 1 + 2) + 8 <= told {
         return Some(end);
     }
     if end + 8 * (k + 1 + 2) + 8 <= told {
-        return gap_of(e, u, at, k, wides, long);
+        return gap_of(entries, long);
     }
     None
 }
@@ -487,9 +454,7 @@ fn check_insert<'a, 'b>(
 {
     dir_sf::check(e, b, told)?;
     let fork = dir_sf::fork_long(e, b);
-    let start = e.literal;
-    let end = start + dir_sf::used_long(e, b, told);
-    check_insertion(e, &b[start..end], told, fork, name, to)
+    check_insertion(e, dir_sf::used(e, b, told), told, fork, name, to)
 }
 
 // Lays out the directory in u with a new entry, for which there is a tag. Gives its size.
@@ -521,10 +486,8 @@ fn put_in<'a, 'b>(e: Edition, b: &'a mut [u8], told: usize, name: &'b [u8], to: 
         ≡ with_entries e b.old (inserted e told name.now to (entries e (used e b.old))) }
 {
     let n = dir_sf::fork_long(e, &b[..]);
-    let start = e.literal;
-    let end = start + dir_sf::used_long(e, &b[..], told);
     let mut t = [0u8; 2048];
-    let size = grow(e, &mut t, &b[start..end], told, name, to);
+    let size = grow(e, &mut t, dir_sf::used(e, &b[..], told), told, name, to);
     write_back(e, b, &t[..], n, size);
 }
 

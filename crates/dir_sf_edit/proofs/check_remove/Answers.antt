@@ -7,7 +7,7 @@ pub returns-in_err-check : goal.returns-in_err-check
 returns-in_err-check c = code_is _ _ c.from_residual.ensures.1 (remove_refused _ _ _ _ _ c.in_err-check.ensures)
 
 pub check_removal-requires : goal.check_removal-requires
-check_removal-requires c = (c.requires, lent_readable _ c.requires _ _ _ c.in_ok-check.ensures c.used_long.ensures.0)
+check_removal-requires c = (c.requires, lent_readable _ c.requires _ _ _ c.in_ok-check.ensures c.used.ensures.0)
 
 pub returns : goal.returns
-returns c = remove_passed _ c.requires _ _ _ _ _ c.in_ok-check.ensures c.used_long.ensures.0 c.check_removal.ensures
+returns c = remove_passed _ c.requires _ _ _ _ _ c.in_ok-check.ensures c.used.ensures.0 c.check_removal.ensures

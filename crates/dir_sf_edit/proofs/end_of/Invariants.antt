@@ -1,10 +1,11 @@
-use Prim.Native.Nat.{◌-◌}
-use Rattle.dir_sf_edit.proofs.TagScans.{Ends}
-use Rattle.dir_sf.specs.Entry.{width_of}
+use Prim.Native.Nat.{◌≤◌}
+use mathlib.Core.Path.{◌≡◌}
+use Rattle.dir_sf.specs.Entry.{end_tag}
+use Rattle.dir_sf.specs.Left.{left, bare}
 use Rattle.dir_sf_edit.proofs.end_of.Given as goal
 
-abbrev pub invariant-loop-i : goal.invariant-loop-i
-invariant-loop-i l = Ends l.e (width_of l.wides) l.u l.at l.k l.i l.p l.low
-
-abbrev pub decreases-loop-i : goal.decreases-loop-i
-decreases-loop-i l = l.k - l.i
+abbrev pub invariant-loop-x : goal.invariant-loop-x
+invariant-loop-x l =
+    (goal.iterator-loop-x).can_next l.x-iterator × (goal.iterator-loop-x).is_finite l.x-iterator
+    × (end_tag l.fn.entries.edition l.fn.entries.edition.first (bare (left l.fn.entries)) ≡ end_tag l.fn.entries.edition l.low (bare (left l.x-iterator)))
+    × (l.low ≤ 65815)
