@@ -81,33 +81,28 @@ pub fn seek(e: Edition, b: &[u8], end: usize, count: usize, name: &[u8], h: usiz
     requires h_value { h ≡ hash_of e name.now }
     ensures { result ≡ found_as (sought e b.now name.now) }
 {
-    let mut i = first_slot(e, b, end, count, h);
-    let mut c = 0;
-    while i < count {
+    let mut compared = 0;
+    for i in first_slot(e, b, end, count, h)..count {
         if be::be32(b, end + 8 * i) != h {
-            return Search {
-                found: None,
-                compared: c,
-            };
+            break;
         }
         let a = be::be32(b, end + 8 * i + 4);
         if a != 0 {
-            c += 1;
+            compared += 1;
             if named(e, b, 8 * a, name) {
                 return Search {
                     found: Some(Hit {
                         index: i,
                         at: 8 * a,
                     }),
-                    compared: c,
+                    compared,
                 };
             }
         }
-        i += 1;
     }
     Search {
         found: None,
-        compared: c,
+        compared,
     }
 }
 

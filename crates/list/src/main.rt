@@ -17,58 +17,15 @@ const STDIN_FILENO: i32 = 0;
 
 const STDOUT_FILENO: i32 = 1;
 
-// Lines go into a buffer of this many bytes, `out`, of which the first n are in use. It is written when the next piece does not fit.
+// How many bytes are kept before they are written.
 const BUFFER: usize = 8192;
 
-// Room for k more bytes in the buffer, which is written and started anew where it has none: how many are then in use.
-fn room(out: &[u8], n: usize, k: usize) -> usize
-    requires { (n ≤ length out.now) × (k ≤ length out.now) }
-    ensures { result + k ≤ length out.now }
-{
-    if k <= out.len() - n {
-        return n;
-    }
-    io::write_all(STDOUT_FILENO, &out[..n]);
-    0
-}
-
-// Puts s into the buffer: how many bytes are then in use. What is longer than the buffer is written by itself.
-fn text<'a, 'b>(out: &'a mut [u8], n: usize, s: &'b [u8]) -> usize
-    requires { n ≤ length out.old }
-    ensures { result ≤ length out.old }
-{
-    let k = s.len();
-    let most = out.len();
-    if most < k {
-        room(&out[..], n, most);
-        io::write_all(STDOUT_FILENO, s);
-        return 0;
-    }
-    let at = room(&out[..], n, k);
-    be::copy_into(out, at, s);
-    at + k
-}
-
-// A label and a number.
-fn number<'a, 'b>(out: &'a mut [u8], n: usize, label: &'b [u8], v: u64) -> usize
-    requires { n ≤ length out.old }
-    ensures { result ≤ length out.old }
-{
-    let mut digits = [0u8; 20];
-    let k = io::decimal(v, &mut digits);
-    let at = text(out, n, label);
-    text(out, at, &digits[..k])
-}
-
-// A space and 8 hexadecimal digits.
-fn hash(out: &mut [u8], n: usize, v: u64) -> usize
-    requires { n ≤ length out.old }
-    ensures { result ≤ length out.old }
-{
-    let mut digits = [0u8; 16];
-    let k = io::hex(v, 8, &mut digits);
-    let at = text(out, n, b" ");
-    text(out, at, &digits[..k])
+// Text on its way out: what is kept is written when the next piece does not fit.
+#[derive(Drop)]
+struct Lines {
+    kept: [u8; BUFFER],
+    used: usize,
+    ghost fits: { used ≤ 8192 },
 }
 
 // A hexadecimal digit.
@@ -78,84 +35,109 @@ fn digit(n: u8) -> u8
     if n < 10 { n + 48 } else { n + 87 }
 }
 
-// The bytes of s in hexadecimal, at the start of out: how many digits.
-fn hex_of(s: &[u8], out: &mut [u8; 512]) -> usize
-    requires { (length s.now < 256) × (length out.old ≡ 512) }
-    ensures { IsPrefixLen result out.new }
-{
-    let mut i = 0;
-    while i < s.len() {
-        out[2 * i] = digit(s[i] / 16);
-        out[2 * i + 1] = digit(s[i] % 16);
-        i += 1;
+impl Lines {
+    fn new() -> Lines {
+        Lines {
+            kept: [0; BUFFER],
+            used: 0,
+        }
     }
-    2 * i
-}
 
-// A space and a name's bytes in hexadecimal.
-fn name_bytes<'a, 'b>(out: &'a mut [u8], n: usize, s: &'b [u8]) -> usize
-    requires { (n ≤ length out.old) × (length s.now < 256) }
-    ensures { result ≤ length out.old }
-{
-    let mut digits = [0u8; 512];
-    let k = hex_of(s, &mut digits);
-    let at = text(out, n, b" ");
-    text(out, at, &digits[..k])
-}
+    // Writes what is kept.
+    fn flush(&mut self) {
+        io::write_all(STDOUT_FILENO, &self.kept[..self.used]);
+        self.used = 0;
+    }
 
-// A live entry's line: tag, inode number, hash, name.
-fn line<'a, 'b>(e: Edition, out: &'a mut [u8], n: usize, b: &'b [u8], entry: Entry) -> usize
-    requires { (n ≤ length out.old) × (entry.start + entry.len ≤ length b.now) × (entry.len < 256) }
-    ensures { result ≤ length out.old }
-{
-    let from = entry.start;
-    let end = from + entry.len;
-    let name = &b[from..end];
-    let n = number(out, n, b"", entry.tag as u64);
-    let n = number(out, n, b" ", entry.target.inode);
-    let n = hash(out, n, name::hash(e, name) as u64);
-    let n = name_bytes(out, n, name);
-    text(out, n, b"\n")
-}
+    // A piece of text. What is longer than all that can be kept is written by itself.
+    fn text(&mut self, s: &[u8]) {
+        let n = s.len();
+        if BUFFER - self.used < n {
+            self.flush();
+        }
+        if BUFFER - self.used < n {
+            io::write_all(STDOUT_FILENO, s);
+            return;
+        }
+        be::copy_into(&mut self.kept, self.used, s);
+        self.used += n;
+    }
 
-// The first line: the block's length, its live entries and its stale slots.
-fn head<'a, 'b>(e: Edition, out: &'a mut [u8], b: &'b [u8]) -> usize
-    requires { Sane e × Ready e b.now }
-    ensures { result ≤ length out.old }
-{
-    let len = b.len();
-    let count = be::be32(b, len - 8);
-    let stale = be::be32(b, len - 4);
-    let n = number(out, 0, b"block ", len as u64);
-    let n = number(out, n, b" live ", (count - stale) as u64);
-    let n = number(out, n, b" stale ", stale as u64);
-    text(out, n, b"\n")
+    // A label and a number.
+    fn number(&mut self, label: &[u8], v: u64) {
+        let mut digits = [0u8; 20];
+        let k = io::decimal(v, &mut digits);
+        self.text(label);
+        self.text(&digits[..k]);
+    }
+
+    // A space and 8 hexadecimal digits.
+    fn hash(&mut self, v: u64) {
+        let mut digits = [0u8; 16];
+        let k = io::hex(v, 8, &mut digits);
+        self.text(b" ");
+        self.text(&digits[..k]);
+    }
+
+    // A space and a name's bytes in hexadecimal.
+    fn name(&mut self, s: &[u8]) {
+        self.text(b" ");
+        for byte in s {
+            self.text(&[digit(*byte / 16), digit(*byte % 16)]);
+        }
+    }
+
+    // A live entry's line: tag, inode number, hash, name.
+    fn entry(&mut self, e: Edition, b: &[u8], entry: Entry)
+        requires { entry.start + entry.len ≤ length b.now }
+    {
+        let from = entry.start;
+        let end = from + entry.len;
+        let name = &b[from..end];
+        self.number(b"", entry.tag as u64);
+        self.number(b" ", entry.target.inode);
+        self.hash(name::hash(e, name) as u64);
+        self.name(name);
+        self.text(b"\n");
+    }
+
+    // The first line: the block's length, its live entries and its stale slots.
+    fn head(&mut self, e: Edition, b: &[u8])
+        requires { Sane e × Ready e b.now }
+    {
+        let len = b.len();
+        let count = be::be32(b, len - 8);
+        let stale = be::be32(b, len - 4);
+        self.number(b"block ", len as u64);
+        self.number(b" live ", (count - stale) as u64);
+        self.number(b" stale ", stale as u64);
+        self.text(b"\n");
+    }
 }
 
 // The lines of a tested block.
 fn listing(e: Edition, b: &[u8])
     requires { Sane e × Ready e b.now }
 {
-    let mut out = [0u8; BUFFER];
-    let mut n = head(e, &mut out, b);
+    let mut lines = Lines::new();
+    lines.head(e, b);
     let end = dir_block_lookup::end_of_data(e, b);
     let mut p = e.header;
     while p < end {
         let s = dir_block_lookup::step_ready(e, b, end, p);
-        let seen = s.seen;
-        if let Seen::Live(entry) = seen {
-            n = line(e, &mut out, n, b, entry);
+        if let Seen::Live(entry) = s.seen {
+            lines.entry(e, b, entry);
         }
         p = s.next;
     }
-    io::write_all(STDOUT_FILENO, &out[..n]);
+    lines.flush();
 }
 
 fn refused(refusal: Refusal) {
-    let mut out = [0u8; BUFFER];
-    let n = number(&mut out, 0, b"refused ", refusal.number() as u64);
-    let n = text(&mut out, n, b"\n");
-    io::write_all(STDOUT_FILENO, &out[..n]);
+    let mut lines = Lines::new();
+    lines.number(b"refused ", refusal.number() as u64);
+    lines.text(b"\n");
+    lines.flush();
 }
 
 // Whether what was read is refused: b, and the bytes after it. Only a full buffer can have bytes after it, and then the whole is too long.

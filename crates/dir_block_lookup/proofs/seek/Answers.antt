@@ -16,9 +16,6 @@ here c =
     slot_read _ c.args.b.now c.requires.sane.0 c.requires.sane.1 c.args.end c.loop-i.i c.be32.result c.be32-a.result
     c.requires.end_value.0 (omega (arith, c.requires.end_value)) c.be32.ensures.0 c.be32-a.ensures.0
 
-pub first_slot-i-requires : goal.first_slot-i-requires
-first_slot-i-requires c = record { sane = c.requires.sane; end_value = c.requires.end_value }
-
 pub loop-i-init : goal.loop-i-init
 loop-i-init c =
     let e = c.first_slot-i.ensures in
@@ -44,7 +41,7 @@ returns-then-be32-h c =
     let s =
     slot_read _ b c.requires.sane.0 c.requires.sane.1 c.args.end l.i c.be32.result _ c.requires.end_value.0 (omega (arith, c.requires.end_value))
     c.be32.ensures.0 refl in
-    sym (ap found_as (run_other _ b c.args.name.now l.i l.c l.invariant.0 _ s c.args.count (ordered _ b c.requires.sane.0 c.requires.sane.1)
+    sym (ap found_as (run_other _ b c.args.name.now l.i l.compared l.invariant.0 _ s c.args.count (ordered _ b c.requires.sane.0 c.requires.sane.1)
     (length_slots _ b c.requires.sane.1 ∙ sym c.requires.end_value.1) (omega arith) (λ z. c.if-be32-h.true (z ∙ sym c.requires.h_value))))
 
 pub overflow_mul-i-in-loop-i : goal.overflow_mul-i-in-loop-i
@@ -59,28 +56,18 @@ overflow_add-end-in-loop-i-2 c = omega (arith, slots_room _ c.args.b.now c.requi
 pub be32-a-requires : goal.be32-a-requires
 be32-a-requires c = omega (arith, slots_room _ c.args.b.now c.requires.sane.0 c.requires.sane.1, c.requires.end_value)
 
-pub overflow_add-c : goal.overflow_add-c
-overflow_add-c c = omega (arith, c.loop-i.invariant.0.few, slots_room _ c.args.b.now c.requires.sane.0 c.requires.sane.1, c.requires.end_value)
-
-pub overflow_mul-a : goal.overflow_mul-a
-overflow_mul-a c =
-    let r = slots_room _ c.args.b.now c.requires.sane.0 c.requires.sane.1 in
-    omega (arith, r, c.requires.end_value, live_inside _ c.args.b.now c.requires.sane.0 c.requires.sane.1 c.loop-i.i _ _ (here (goal.at.overflow_mul-a c).After-be32-a) c.if-a-ne0.true)
+pub overflow_add-compared : goal.overflow_add-compared
+overflow_add-compared c = omega (arith, c.loop-i.invariant.0.few, slots_room _ c.args.b.now c.requires.sane.0 c.requires.sane.1, c.requires.end_value)
 
 pub named-requires : goal.named-requires
 named-requires c =
     let r = slots_room _ c.args.b.now c.requires.sane.0 c.requires.sane.1 in
     omega (arith, r, c.requires.end_value, live_inside _ c.args.b.now c.requires.sane.0 c.requires.sane.1 c.loop-i.i _ _ (here (goal.at.named-requires c).After-be32-a) c.if-a-ne0.true)
 
-pub overflow_mul-result : goal.overflow_mul-result
-overflow_mul-result c =
-    let r = slots_room _ c.args.b.now c.requires.sane.0 c.requires.sane.1 in
-    omega (arith, r, c.requires.end_value, live_inside _ c.args.b.now c.requires.sane.0 c.requires.sane.1 c.loop-i.i _ _ (here (goal.at.overflow_mul-result c).After-be32-a) c.if-a-ne0.true)
-
 pub returns-then-named : goal.returns-then-named
 returns-then-named c =
     let l = c.loop-i in
-    sym (ap found_as (run_hit _ c.args.b.now c.args.name.now l.i l.c l.invariant.0 (slot c.be32.result c.be32-a.result) (here (goal.at.returns-then-named c).After-be32-a)
+    sym (ap found_as (run_hit _ c.args.b.now c.args.name.now l.i l.compared l.invariant.0 (slot c.be32.result c.be32-a.result) (here (goal.at.returns-then-named c).After-be32-a)
     c.if-a-ne0.true (c.if-be32-h.false ∙ c.requires.h_value) (sym c.named.ensures ∙ c.if-named.true)))
 
 pub loop-i-preserved : goal.loop-i-preserved
@@ -93,14 +80,14 @@ loop-i-preserved c =
     let goes : ℕ → Type 0 = λ x. Run c.args.e b n (l.i + 1) x in
     let h = here (goal.at.loop-i-preserved c).After-be32-a in (
       elim c.if-a-ne0.branch [
-        | then-a-ne0+else-named w ↦ subst goes (sym w.c-is) (run_differs _ b n l.i l.c l.invariant.0 s h w.if-a-ne0.true q (sym w.named.ensures ∙ w.if-named.false))
-        | else-a-ne0 w ↦ subst goes (sym w.c-is) (run_stale _ b n l.i l.c l.invariant.0 s h w.if-a-ne0.false)
+        | then-a-ne0+else-named w ↦ subst goes (sym w.compared-is) (run_differs _ b n l.i l.compared l.invariant.0 s h w.if-a-ne0.true q (sym w.named.ensures ∙ w.if-named.false))
+        | else-a-ne0 w ↦ subst goes (sym w.compared-is) (run_stale _ b n l.i l.compared l.invariant.0 s h w.if-a-ne0.false)
       ],
       omega arith,
     )
 
-pub returns : goal.returns
-returns c =
+pub returns-after-loop-i : goal.returns-after-loop-i
+returns-after-loop-i c =
     let l = c.loop-i in
-    sym (ap found_as (run_end _ c.args.b.now c.args.name.now l.i l.c l.invariant.0 c.args.count
+    sym (ap found_as (run_end _ c.args.b.now c.args.name.now l.i l.compared l.invariant.0 c.args.count
     (length_slots _ c.args.b.now c.requires.sane.1 ∙ sym c.requires.end_value.1) (omega arith) l.invariant.1))

@@ -1,7 +1,7 @@
 use native.Mathlib.Omega.{arith}
 use Rattle.dir_block_laws.proofs.RecordSteps.{count_read, stale_read}
 use Rattle.dir_block_laws.proofs.SlotSearch.{slots_room, stale_within}
-use Rattle.list.proofs.head.Goals as goal
+use Rattle.list.proofs.Lines.head.Goals as goal
 
 pub overflow_sub-len : goal.overflow_sub-len
 overflow_sub-len c = omega (arith, slots_room _ c.args.b.now c.requires.0 c.requires.1)
