@@ -22,6 +22,7 @@ ghost use Rattle.dir_block_edit.specs.Chosen.{chosen};
 ghost use Rattle.dir_block_edit.specs.Refusal.{asked_of};
 
 use dir::Target;
+use dir_block_scan::{Gap, Scan};
 use edition::{Edition, V4};
 use refusal::Refusal;
 
@@ -171,7 +172,15 @@ fn put_first(e: Edition, b: &mut [u8], o: usize, u: usize, to: Target, name: &[u
     put_gap(b, end, u - end);
 }
 
-// (a): the longest gap, l bytes at o; the first stale slot is taken.
+// What an insert adds: a name and its hash, and what it stands for.
+#[derive(Clone, Copy)]
+struct New<'a> {
+    to: Target,
+    name: &'a [u8],
+    hash: usize,
+}
+
+// (a): the longest gap; the first stale slot is taken.
 fn insert_a(
     e: Edition,
     b: &mut [u8],
@@ -179,77 +188,59 @@ fn insert_a(
     count: usize,
     stale: usize,
     p: usize,
-    o: usize,
-    l: usize,
-    h: usize,
-    to: Target,
-    name: &[u8],
+    gap: Gap,
+    new: New,
 )
     requires sane { Sane e × Ready e b.old }
     requires end_value { (end ≡ data_end b.old) × ((count ≡ count_of b.old) × ((stale ≡ stale_of b.old) × (0 < stale))) }
-    requires spot { Spot b.old h p }
-    requires inside { Inside e b.old o l × ((length name.now < 256) × (entry_size e (length name.now) ≤ l)) }
-    ensures { b.new ≡ written b.old (entry_writes e to name.now o (o + l)
-        ++ index_writes (length b.old) (insert_slot (slot h (o / 8)) (without_first is_stale (slots b.old))) (stale - 1)) }
+    requires spot { Spot b.old new.hash p }
+    requires inside { Inside e b.old gap.at gap.len × ((length new.name.now < 256) × (entry_size e (length new.name.now) ≤ gap.len)) }
+    ensures { b.new ≡ written b.old (entry_writes e new.entry.to new.entry.name.now gap.at (gap.at + gap.len)
+        ++ index_writes (length b.old) (insert_slot (slot new.entry.hash (gap.at / 8)) (without_first is_stale (slots b.old))) (stale - 1)) }
 {
-    dir_block_index::reuse(e, b, end, count, stale, p, h, o / 8);
-    put_first(e, b, o, o + l, to, name);
+    dir_block_index::reuse(e, b, end, count, stale, p, new.hash, gap.at / 8);
+    put_first(e, b, gap.at, gap.at + gap.len, new.to, new.name);
 }
 
-// (c): the longest gap other than T, l bytes at o; T, k bytes at u, gives 8 bytes off its end to the index.
+// (c): the longest gap other than T; T, the last gap, gives 8 bytes off its end to the index.
 fn insert_c(
     e: Edition,
     b: &mut [u8],
     end: usize,
     count: usize,
     p: usize,
-    o: usize,
-    l: usize,
-    u: usize,
-    k: usize,
-    h: usize,
-    to: Target,
-    name: &[u8],
+    gap: Gap,
+    last: Gap,
+    new: New,
 )
     requires sane { Sane e × Ready e b.old }
     requires end_value { (end ≡ data_end b.old) × (count ≡ count_of b.old) }
-    requires spot { Spot b.old h p }
-    requires inside { Inside e b.old o l × ((length name.now < 256) × (entry_size e (length name.now) ≤ l)) }
-    requires l_bound { (o + l ≤ u) × ((u + k ≡ end) × ((8 ≤ k) × (k % 8 ≡ 0))) }
-    ensures { b.new ≡ written b.old (entry_writes e to name.now o (o + l)
-        ++ (gap_writes u (k - 8) ++ index_writes (length b.old) (insert_slot (slot h (o / 8)) (slots b.old)) 0)) }
+    requires spot { Spot b.old new.hash p }
+    requires inside { Inside e b.old gap.at gap.len × ((length new.name.now < 256) × (entry_size e (length new.name.now) ≤ gap.len)) }
+    requires l_bound { (gap.at + gap.len ≤ last.at) × ((last.at + last.len ≡ end) × ((8 ≤ last.len) × (last.len % 8 ≡ 0))) }
+    ensures { b.new ≡ written b.old (entry_writes e new.entry.to new.entry.name.now gap.at (gap.at + gap.len)
+        ++ (gap_writes last.at (last.len - 8) ++ index_writes (length b.old) (insert_slot (slot new.entry.hash (gap.at / 8)) (slots b.old)) 0)) }
 {
-    dir_block_index::grow(e, b, end, count, p, h, o / 8);
-    put_first(e, b, o, o + l, to, name);
-    put_gap(b, u, k - 8);
+    dir_block_index::grow(e, b, end, count, p, new.hash, gap.at / 8);
+    put_first(e, b, gap.at, gap.at + gap.len, new.to, new.name);
+    put_gap(b, last.at, last.len - 8);
 }
 
-// (d): T, k bytes at u, with 8 bytes off its end.
-fn insert_d(
-    e: Edition,
-    b: &mut [u8],
-    end: usize,
-    count: usize,
-    p: usize,
-    u: usize,
-    k: usize,
-    h: usize,
-    to: Target,
-    name: &[u8],
-)
+// (d): T, the last gap, with 8 bytes off its end.
+fn insert_d(e: Edition, b: &mut [u8], end: usize, count: usize, p: usize, last: Gap, new: New)
     requires sane { Sane e × Ready e b.old }
     requires end_value { (end ≡ data_end b.old) × (count ≡ count_of b.old) }
-    requires spot { Spot b.old h p }
-    requires name_len_bound { (length name.now < 256) × (entry_size e (length name.now) + 8 ≤ k) }
-    requires header_le_u { (e.header ≤ u) × ((u + k ≡ end) × (k % 8 ≡ 0)) }
-    ensures { b.new ≡ written b.old (entry_writes e to name.now u (u + k - 8)
-        ++ index_writes (length b.old) (insert_slot (slot h (u / 8)) (slots b.old)) 0) }
+    requires spot { Spot b.old new.hash p }
+    requires name_len_bound { (length new.name.now < 256) × (entry_size e (length new.name.now) + 8 ≤ last.len) }
+    requires header_le_u { (e.header ≤ last.at) × ((last.at + last.len ≡ end) × (last.len % 8 ≡ 0)) }
+    ensures { b.new ≡ written b.old (entry_writes e new.entry.to new.entry.name.now last.at (last.at + last.len - 8)
+        ++ index_writes (length b.old) (insert_slot (slot new.entry.hash (last.at / 8)) (slots b.old)) 0) }
 {
-    dir_block_index::grow(e, b, end, count, p, h, u / 8);
-    put_first(e, b, u, u + k - 8, to, name);
+    dir_block_index::grow(e, b, end, count, p, new.hash, last.at / 8);
+    put_first(e, b, last.at, last.at + last.len - 8, new.to, new.name);
 }
 
-// (b): T, k bytes at u, grown over the stale slots that are not needed; all stale slots are dropped.
+// (b): T, the last gap, grown over the stale slots that are not needed; all stale slots are dropped.
 fn insert_b(
     e: Edition,
     b: &mut [u8],
@@ -257,59 +248,58 @@ fn insert_b(
     count: usize,
     stale: usize,
     p: usize,
-    u: usize,
-    k: usize,
-    h: usize,
-    to: Target,
-    name: &[u8],
+    last: Gap,
+    new: New,
 )
     requires sane { Sane e × Ready e b.old }
     requires end_value { (end ≡ data_end b.old) × ((count ≡ count_of b.old) × ((stale ≡ stale_of b.old) × (0 < stale))) }
-    requires spot { Spot b.old h p }
-    requires name_len_bound { (length name.now < 256) × (entry_size e (length name.now) ≤ k + 8 * (stale - 1)) }
-    requires header_le_u { (e.header ≤ u) × ((u + k ≡ end) × (k % 8 ≡ 0)) }
-    ensures { b.new ≡ written b.old (entry_writes e to name.now u (u + k + 8 * (stale - 1))
-        ++ index_writes (length b.old) (insert_slot (slot h (u / 8)) (keep is_live (slots b.old))) 0) }
+    requires spot { Spot b.old new.hash p }
+    requires name_len_bound { (length new.name.now < 256) × (entry_size e (length new.name.now) ≤ last.len + 8 * (stale - 1)) }
+    requires header_le_u { (e.header ≤ last.at) × ((last.at + last.len ≡ end) × (last.len % 8 ≡ 0)) }
+    ensures { b.new ≡ written b.old (entry_writes e new.entry.to new.entry.name.now last.at (last.at + last.len + 8 * (stale - 1))
+        ++ index_writes (length b.old) (insert_slot (slot new.entry.hash (last.at / 8)) (keep is_live (slots b.old))) 0) }
 {
-    dir_block_index::squeeze(e, b, end, count, stale, p, h, u / 8);
-    put_first(e, b, u, u + k + 8 * (stale - 1), to, name);
+    dir_block_index::squeeze(e, b, end, count, stale, p, new.hash, last.at / 8);
+    put_first(
+        e,
+        b,
+        last.at,
+        last.at + last.len + 8 * (stale - 1),
+        new.to,
+        new.name,
+    );
 }
 
-// (c) or (d), without stale slots: l bytes at o are the longest gap other than T.
+// (c) or (d), without stale slots: `other` is the longest gap other than T.
 fn choose_cd(
     e: Edition,
     b: &mut [u8],
     end: usize,
     count: usize,
     p: usize,
-    g: dir_block_scan::Scan,
-    o: usize,
-    l: usize,
-    h: usize,
+    g: Scan,
+    other: Gap,
     need: usize,
-    to: Target,
-    name: &[u8],
+    new: New,
 ) -> bool
     requires sane { Sane e × Ready e b.old }
     requires end_value { (end ≡ data_end b.old) × ((count ≡ count_of b.old) × (0 ≡ stale_of b.old)) }
-    requires spot { Spot b.old h p }
+    requires spot { Spot b.old new.hash p }
     requires scanned { Scanned e b.old (first g) g.last.at g.last.len }
-    requires name_value { ((longest (other_gaps (room_of e b.old name.now))).off ≡ o)
-        × (size (longest (other_gaps (room_of e b.old name.now))) ≡ l) }
-    requires h_value { (h ≡ hash_of e name.now) × ((need ≡ entry_size e (length name.now)) × (length name.now < 256)) }
-    ensures { (result ≡ has_room e b.old name.now) × (b.new ≡ chosen e result b.old name.now to) }
+    requires name_value { ((longest (other_gaps (room_of e b.old new.name.now))).off ≡ other.at)
+        × (size (longest (other_gaps (room_of e b.old new.name.now))) ≡ other.len) }
+    requires h_value { (new.hash ≡ hash_of e new.name.now) × ((need ≡ entry_size e (length new.name.now)) × (length new.name.now < 256)) }
+    ensures { (result ≡ has_room e b.old new.entry.name.now) × (b.new ≡ chosen e result b.old new.entry.name.now new.entry.to) }
 {
-    let u = g.last.at;
-    let k = g.last.len;
-    if k < 8 {
+    if g.last.len < 8 {
         return false;
     }
-    if need <= l {
-        insert_c(e, b, end, count, p, o, l, u, k, h, to, name);
+    if need <= other.len {
+        insert_c(e, b, end, count, p, other, g.last, new);
         return true;
     }
-    if need + 8 <= k {
-        insert_d(e, b, end, count, p, u, k, h, to, name);
+    if need + 8 <= g.last.len {
+        insert_d(e, b, end, count, p, g.last, new);
         return true;
     }
     false
@@ -323,29 +313,23 @@ fn choose_ab(
     count: usize,
     stale: usize,
     p: usize,
-    g: dir_block_scan::Scan,
-    h: usize,
+    g: Scan,
     need: usize,
-    to: Target,
-    name: &[u8],
+    new: New,
 ) -> bool
     requires sane { Sane e × Ready e b.old }
     requires end_value { (end ≡ data_end b.old) × ((count ≡ count_of b.old) × ((stale ≡ stale_of b.old) × (0 < stale))) }
-    requires spot { Spot b.old h p }
+    requires spot { Spot b.old new.hash p }
     requires scanned { Scanned e b.old (first g) g.last.at g.last.len }
-    requires h_value { (h ≡ hash_of e name.now) × ((need ≡ entry_size e (length name.now)) × (length name.now < 256)) }
-    ensures { (result ≡ has_room e b.old name.now) × (b.new ≡ chosen e result b.old name.now to) }
+    requires h_value { (new.hash ≡ hash_of e new.name.now) × ((need ≡ entry_size e (length new.name.now)) × (length new.name.now < 256)) }
+    ensures { (result ≡ has_room e b.old new.entry.name.now) × (b.new ≡ chosen e result b.old new.entry.name.now new.entry.to) }
 {
-    let o = g.first.at;
-    let l = g.first.len;
-    let u = g.last.at;
-    let k = g.last.len;
-    if need <= l {
-        insert_a(e, b, end, count, stale, p, o, l, h, to, name);
+    if need <= g.first.len {
+        insert_a(e, b, end, count, stale, p, g.first, new);
         return true;
     }
-    if need <= k + 8 * (stale - 1) {
-        insert_b(e, b, end, count, stale, p, u, k, h, to, name);
+    if need <= g.last.len + 8 * (stale - 1) {
+        insert_b(e, b, end, count, stale, p, g.last, new);
         return true;
     }
     false
@@ -358,7 +342,7 @@ fn choose(
     end: usize,
     count: usize,
     stale: usize,
-    g: dir_block_scan::Scan,
+    g: Scan,
     to: Target,
     name: &[u8],
     h: usize,
@@ -370,25 +354,13 @@ fn choose(
     ensures { (result ≡ has_room e b.old name.now) × (b.new ≡ chosen e result b.old name.now to) }
 {
     let need = edition::entry_size(e, name.len());
+    let new = New { to, name, hash: h };
     let p = dir_block_index::spot(e, &b[..], end, count, h);
     let m = dir_block_scan::longest(e, &b[..], g);
     if 0 < stale {
-        return choose_ab(e, b, end, count, stale, p, m, h, need, to, name);
+        return choose_ab(e, b, end, count, stale, p, m, need, new);
     }
-    choose_cd(
-        e,
-        b,
-        end,
-        count,
-        p,
-        m,
-        g.first.at,
-        g.first.len,
-        h,
-        need,
-        to,
-        name,
-    )
+    choose_cd(e, b, end, count, p, m, g.first, need, new)
 }
 
 // The insert of a legal name other than "." and "..", whose hash is h, with what may be asked for.

@@ -11,4 +11,4 @@ put_first-requires c =
 pub returns : goal.returns
 returns c =
     let g = c.requires.inside in
-    done_a _ c.args.b.now c.args.name.now c.requires.sane.1 c.args.to c.args.h (c.args.o / 8) c.requires.sane.0 c.args.o c.args.l (c.args.stale - 1) _ _ (omega (arith, c.requires.end_value)) g.0 g.1.1 c.reuse.ensures c.put_first.ensures
+    done_a _ c.args.b.now c.args.new.name.now c.requires.sane.1 c.args.new.to c.args.new.hash (c.args.gap.at / 8) c.requires.sane.0 c.args.gap.at c.args.gap.len (c.args.stale - 1) _ _ (omega (arith, c.requires.end_value)) g.0 g.1.1 c.reuse.ensures c.put_first.ensures

@@ -21,6 +21,6 @@ pub returns : goal.returns
 returns c =
     let g = c.requires.inside in
     let t = c.requires.l_bound in
-    done_c _ c.args.b.now c.args.name.now c.requires.sane.1 c.args.to c.args.h (c.args.o / 8) c.args.o c.args.l
-    c.args.u c.args.k _ _ _ g.0 g.1.1 t.0 (t.1.0 ∙ c.requires.end_value.0) t.1.1.0 t.1.1.1 c.grow.ensures
+    done_c _ c.args.b.now c.args.new.name.now c.requires.sane.1 c.args.new.to c.args.new.hash (c.args.gap.at / 8) c.args.gap.at c.args.gap.len
+    c.args.last.at c.args.last.len _ _ _ g.0 g.1.1 t.0 (t.1.0 ∙ c.requires.end_value.0) t.1.1.0 t.1.1.1 c.grow.ensures
     c.put_first.ensures c.put_gap.ensures

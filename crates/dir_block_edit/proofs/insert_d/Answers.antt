@@ -16,4 +16,4 @@ put_first-requires c =
 pub returns : goal.returns
 returns c =
     let t = c.requires.header_le_u in
-    done_d _ c.args.b.now c.args.name.now c.requires.sane.1 c.args.to c.args.h (c.args.u / 8) c.args.u c.args.k _ _ (t.1.0 ∙ c.requires.end_value.0) c.requires.name_len_bound.1 t.1.1 c.grow.ensures c.put_first.ensures
+    done_d _ c.args.b.now c.args.new.name.now c.requires.sane.1 c.args.new.to c.args.new.hash (c.args.last.at / 8) c.args.last.at c.args.last.len _ _ (t.1.0 ∙ c.requires.end_value.0) c.requires.name_len_bound.1 t.1.1 c.grow.ensures c.put_first.ensures
