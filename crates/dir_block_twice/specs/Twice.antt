@@ -66,7 +66,7 @@ once_in e b [] = true
 once_in e b (s ∷ ss) = not (not (eqb s.addr 0) && clash_from e b s.hash s.addr ss) && once_in e b ss
 
 -- the names of the entries that the n slots at t address are within the block, and eight more bytes follow them
-unfoldable pub Reach : List ℕ → ℕ → ℕ → Type 0
+abbrev pub Reach : List ℕ → ℕ → ℕ → Type 0
 Reach b t n = (i : ℕ) → i < n → (addr_at b t i ≡ 0 → ⊥) → 8 * addr_at b t i + 9 + byte (8 * addr_at b t i + 8) b + 8 ≤ length b
 
 -- no block has more slots

@@ -1,7 +1,7 @@
 use native.Mathlib.Omega.{arith}
 use mathlib.Core.Bool.{false≢true}
 use Rattle.dir_block_twice.proofs.SortedSlots.{ranked_on, ranked_all}
-use Rattle.dir_block_twice.proofs.ranked.Goals as goal
+use Rattle.dir_block_twice.proofs.Slots.ranked.Goals as goal
 
 pub loop-i-init : goal.loop-i-init
 loop-i-init c = λ k l. absurd (omega arith)

@@ -1,5 +1,5 @@
 use Rattle.dir_block_twice.proofs.TwinKeys.{either_first, either_second}
-use Rattle.dir_block_twice.proofs.in_run.Goals as goal
+use Rattle.dir_block_twice.proofs.Slots.in_run.Goals as goal
 
 pub returns-then-follows : goal.returns-then-follows
 returns-then-follows c = either_first _ _ _ c.follows.ensures c.if-follows.true

@@ -1,6 +1,0 @@
-use Rattle.dir_block_twice.proofs.NameOrder.{before_at}
-use Rattle.dir_block_twice.proofs.ascends.Goals as goal
-
-pub returns : goal.returns
-returns c =
-    before_at c.args.b.now c.args.t c.args.n _ _ _ _ _ c.cell.ensures.0 c.cell-2.ensures.0 c.sorts_before.ensures
