@@ -385,6 +385,7 @@ impl<'a> Accepted<'a> {
         Ok(entry.step(s))
     }
 
+    // What a set or a removal of this name with these flags reads first.
     fn plan<'b>(self, key: Key<'b>) -> Plan
         ensures { (result ≡ plan_of self.entry.fork.now key.entry.name.now key.entry.flags)
             × ((result.at + result.size ≤ result.end) × (result.end ≤ length self.entry.fork.now)) }

@@ -30,4 +30,3 @@ returns-in-Ok c = let b = c.args.b.now in
     let n = c.in-Ok.field-0.len in
     let h = ap numbered (sym c.in-Ok.is) ∙ c.lookup.ensures.0 in
     rw (← h) (record { contents = found_part a n b; place = (refl, search rules); long = found_long a n b (looked_inside _ _ _ _ h) })
-
