@@ -59,19 +59,25 @@ module _ (e : Edition) (w : ℕ) (u : List ℕ) where
         let z : at + size_at e w u at ≡ at + 3 + n + v = omega (arith, long_at_is e w u at) in
         rw (← z) (lies_enough e w u (k - 1) (at + size_at e w u at) (omega (arith, start_on (size_at e w u) k at some, enough_lies e w u k at f)))
 
-  -- and what it tells is the entry
+  -- what it reads is the entry, and the next one starts behind it
+  pub turn_entry : (at n tag : ℕ) (t : Target) → n ≡ get_or u at 0 → tag ≡ field (at + 1) 2 u
+      → t ≡ target (field (at + 3 + n + e.ftype) w u) (field (at + 3 + n) e.ftype u)
+      → entry_at e w u at ≡ entry tag (take (at + 3 + n - (at + 3)) (drop (at + 3) u)) t
+  turn_entry at n tag t a c d =
+      let l : at + 3 + n - (at + 3) ≡ get_or u at 0 = omega arith in
+      let x : SfEntry = entry_at e w u at in
+      ap₂ (λ (o : ℕ) (y : Target). entry o x.name y) (tag_at_is e w u at ∙ sym c) (target_at_is e w u at n a ∙ sym d)
+      ∙ ap (λ (s : List ℕ). entry tag s t) (name_at_is e w u at ∙ ap (λ (j : ℕ). take j (drop (at + 3) u)) (sym l))
+
+  pub turn_next : (at n v : ℕ) → n ≡ get_or u at 0 → v ≡ e.ftype + w → at + size_at e w u at ≡ at + 3 + n + v
+  turn_next at n v a b = omega (arith, long_at_is e w u at)
+
   pub turn_tells : (k at n v tag : ℕ) (t : Target) → 0 < k → n ≡ get_or u at 0 → v ≡ e.ftype + w → tag ≡ field (at + 1) 2 u
       → t ≡ target (field (at + 3 + n + e.ftype) w u) (field (at + 3 + n) e.ftype u)
       → placed_in e w u k at ≡ (at, entry tag (take (at + 3 + n - (at + 3)) (drop (at + 3) u)) t) ∷ placed_in e w u (k - 1) (at + 3 + n + v)
   turn_tells k at n v tag t some a b c d =
-      let l : at + 3 + n - (at + 3) ≡ get_or u at 0 = omega arith in
-      let z : at + size_at e w u at ≡ at + 3 + n + v = omega (arith, long_at_is e w u at) in
-      let x : SfEntry = entry_at e w u at in
-      let g : entry x.tag x.name x.target ≡ entry tag (take (at + 3 + n - (at + 3)) (drop (at + 3) u)) t =
-      ap₂ (λ (o : ℕ) (y : Target). entry o x.name y) (tag_at_is e w u at ∙ sym c) (target_at_is e w u at n a ∙ sym d)
-      ∙ ap (λ (s : List ℕ). entry tag s t) (name_at_is e w u at ∙ ap (λ (j : ℕ). take j (drop (at + 3) u)) (sym l)) in
       placed_on k at some
-      ∙ ap₂ (λ (y : SfEntry) (q : ℕ). (at, y) ∷ placed_in e w u (k - 1) q) g z
+      ∙ ap₂ (λ (y : SfEntry) (q : ℕ). (at, y) ∷ placed_in e w u (k - 1) q) (turn_entry at n tag t a c d) (turn_next at n v a b)
 
 -- a test of every entry, made on the items
 pub every_bare : (q : SfEntry → Bool) (xs : List (ℕ × SfEntry)) → list_all (λ x. q x.1) xs ≡ every q (bare xs)
@@ -133,3 +139,8 @@ placed_is e u k wides w a b c = rw (c, a, b) refl
 pub placed_bare : (e : Edition) (u : List ℕ) → bare (placed e u) ≡ entries e u
 unfolding placed entries
 placed_bare e u = bare_is e (used_width u) u (count_of u) (2 + used_width u)
+
+pub from_is : (u : List ℕ) (k wides w : ℕ) → k ≡ byte 0 u → wides ≡ byte 1 u → w ≡ width_of wides
+    → (u ≡ u) × (width_of wides ≡ used_width u) × (k ≡ count_of u) × (2 + w ≡ 2 + used_width u)
+unfolding used_width stored_wides count_of
+from_is u k wides w a b c = (refl, ap width_of b, a, ap (λ (x : ℕ). 2 + x) (c ∙ ap width_of b))

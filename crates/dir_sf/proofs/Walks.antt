@@ -1,58 +1,38 @@
 -- The walk: what a step shows, and that it meets each entry once.
 -- Assumes nothing.
-use Prim.Native.Nat.{ℕ, ◌+◌, ◌-◌, ◌≤◌, ◌<◌}
+use Prim.Native.Nat.{ℕ, suc, ◌+◌, ◌-◌, ◌≤◌, ◌<◌}
 use native.Mathlib.Omega.{arith}
 use mathlib.Core.Bool.{true, cond}
 use mathlib.Core.Path.{◌≡◌, refl, sym, ◌∙◌, ap, ap₂}
 use mathlib.Core.List.{List}
 use lib.Dec.{eqb}
-use lib.ListN.{length, get_or, length-take, length-drop}
+use lib.ListN.{length}
 use Rattle.std.specs.Prelude.{Result, Ok, Err}
 use borrow.Author.Tests.{eq-eqb, ne_eqb}
 use Rattle.refusal.specs.declared.Refusal.{Refusal}
 use Rattle.refusal.specs.Refusal.{ASKED, number}
 use Rattle.refusal.proofs.Passed.{outcome_answered}
-use Rattle.be.specs.Bytes.{field}
 use Rattle.be.proofs.Bools.{by_cases}
 use Rattle.records.specs.Records.{start, stands}
-use Rattle.records.proofs.Starts.{start_on, start_done, start_fits, stands_here, stands_on, stands_done}
+use Rattle.records.proofs.Starts.{start_above, start_on, start_done, start_fits, stands_here, stands_on, stands_done}
 use Rattle.edition.specs.declared.Edition.{Edition}
 use Rattle.edition.specs.Edition.{Sane}
 use Rattle.dir.specs.declared.Step.{Step}
 use Rattle.dir.specs.declared.Seen.TheVariants.{Live, End}
-use Rattle.dir_sf.specs.Entry.{width_of, size_at, entry_at}
-use Rattle.dir_sf.specs.Fork.{count_of, stored_wides, used_width, place_of}
+use Rattle.dir_sf.specs.Entry.{SfEntry, entry, size_at, entry_at}
+use Rattle.dir_sf.specs.Fork.{count_of, used_width, place_of}
 use Rattle.dir_sf.specs.Walk.{end_step, entry_step, place_in, step_in, step_code, step_next, step_seen, walk_step, StepPromise}
 use Rattle.dir_sf.specs.Inner.{enough, at_end, at_entry, walked_over, walked_in}
 use Rattle.dir.specs.declared.Target.{Target}
-use Rattle.dir.specs.Target.{target}
 use Rattle.dir.specs.Answers.{walked_code, walked_next, walked_seen}
 use Rattle.dir_sf.specs.Inode.{verdict, used}
 use Rattle.dir_sf.proofs.Tested.{verdict_not}
-use Rattle.dir_sf.proofs.Leaves.{one_in}
-use Rattle.dir_sf.proofs.Listed.{list_enough}
-use Rattle.dir_sf.proofs.Run.{Run, run_start, run_on, run_one, long_at_is, tag_at_is, name_at_is, target_at_is}
-
-pub record Walk (e : Edition) (w : ℕ) (u : List ℕ) (first k place i p : ℕ) : Type 0 where
-  pub run : Run e w u first k i p
-  pub rest : walked_over e w u k first place ≡ walked_over e w u (k - i) p place
-
-pub walk_start : (e : Edition) (u : List ℕ) (k wides w place : ℕ) → k ≡ get_or u 0 0 → wides ≡ get_or u 1 0 → w ≡ width_of wides
-    → enough e (used_width u) u (count_of u) (2 + used_width u) ≡ true → Walk e (width_of wides) u (2 + width_of wides) k place 0 (2 + w)
-walk_start e u k wides w place a b c f =
-    let q : k - 0 ≡ k = omega arith in
-    let W : ℕ = width_of wides in
-    rw c
-    (record {
-      run = run_start e W u (2 + W) k (list_enough e u k wides W a b refl f);
-      rest = ap (λ (j : ℕ). walked_over e W u j (2 + W) place) (sym q);
-    })
+use Rattle.dir_sf.proofs.Run.{enough_lies, long_at_is}
 
 -- the definition's own terms
-whole : (e : Edition) (u : List ℕ) (k wides place : ℕ) → k ≡ get_or u 0 0 → wides ≡ get_or u 1 0
-    → walked_over e (width_of wides) u k (2 + width_of wides) place ≡ walked_in e u place
-unfolding walked_in used_width stored_wides count_of
-whole e u k wides place a b = rw (a, b) refl
+pub walk_start : (e : Edition) (u : List ℕ) (w k at place : ℕ) → w ≡ used_width u → k ≡ count_of u → at ≡ 2 + used_width u → walked_over e w u k at place ≡ walked_in e u place
+unfolding walked_in
+walk_start e u w k at place a b c = rw (a, b, c) refl
 
 pub long_some : (e : Edition) (w : ℕ) (u : List ℕ) (p : ℕ) → 1 ≤ size_at e w u p
 long_some e w u p = omega (arith, long_at_is e w u p)
@@ -73,46 +53,36 @@ module _ (e : Edition) (w : ℕ) (u : List ℕ) (k p place : ℕ) where
   step_last h =
       rw (stands_done (size_at e w u) place k p h, start_done (size_at e w u) k p h) (by_cases (eqb place p) (λ q. rw q refl) (λ q. rw q refl))
 
-module _ (e : Edition) (w : ℕ) (u : List ℕ) (first k place i p n v : ℕ) (s : Walk e w u first k place i p) (h : i < k) (a : n ≡ get_or u p 0) (b : v ≡ e.ftype + w) where
-  next : p + size_at e w u p ≡ p + 3 + n + v
-  next = omega (arith, long_at_is e w u p)
+-- a turn of the iterator, which is at the entry at p, the first of the k that are left
+module _ (e f : Edition) (w : ℕ) (u v : List ℕ) (k k₁ p p₁ x place : ℕ) (a : f ≡ e) (b : v ≡ u) (c : k ≡ suc k₁) (d : x ≡ p) (n : p₁ ≡ p + size_at f w v p) where
+  behind : p₁ ≡ p + size_at e w u p
+  behind = n ∙ ap₂ (λ (g : Edition) (l : List ℕ). p + size_at g w l p) a b
 
-  pub walk_on : (place ≡ p → ⊥) → Walk e w u first k place (i + 1) (p + 3 + n + v)
-  walk_on f =
-      let fewer : k - i - 1 ≡ k - (i + 1) = omega arith in
-      record {
-        run = run_on e w u first k i p n v s.run h a b;
-        rest = s.rest ∙ step_miss e w u (k - i) p place (omega arith) f ∙ ap₂ (λ (j q : ℕ). walked_over e w u j q place) fewer next;
-      }
+  pub walk_on : (place ≡ x → ⊥) → walked_over e w u k₁ p₁ place ≡ walked_over e w u k p place
+  walk_on h =
+      let fewer : k - 1 ≡ k₁ = omega arith in
+      sym (step_miss e w u k p place (omega arith) (λ q. h (q ∙ sym d)) ∙ ap₂ (λ (j q : ℕ). walked_over e w u j q place) fewer (sym behind))
 
-  hit : place ≡ p → (j : Target) (g : ℕ) → j ≡ target (field (p + 3 + n + e.ftype) w u) (field (p + 3 + n) e.ftype u) → g ≡ field (p + 1) 2 u
-      → Ok (record { next = p + 3 + n + v; seen = Live (record { target = j; tag = g; start = e.literal + (p + 3); len = n }) }) ≡ walked_over e w u k first place
+  pub walk_hit : (tag : ℕ) (name : List ℕ) (t : Target) → entry_at f w v p ≡ entry tag name t → place ≡ x
+      → Ok (record { next = p₁; seen = Live (record { target = t; tag = tag; start = e.literal + (x + 3); len = length name }) }) ≡ walked_over e w u k p place
   unfolding entry_step
-  hit f j g c o =
-      let x : (entry_at e w u p).target ≡ j = target_at_is e w u p n a ∙ sym c in
-      let z : length (entry_at e w u p).name ≡ n =
-      rw (name_at_is e w u p) (simp (length-take, length-drop) (omega (arith, one_in e w p u (run_one e w u first k i p s.run h)))) in
-      sym (s.rest ∙ step_hit e w u (k - i) p place (omega arith) f
-      ∙ ap₂ (λ (y₁ y₂ : ℕ). Ok (record { next = y₁; seen = Live (record { target = (entry_at e w u p).target; tag = y₂; start = e.literal + (p + 3); len = length (entry_at e w u p).name }) })) next
-      (tag_at_is e w u p ∙ sym o)
-      ∙ ap₂ (λ (y₁ : Target) (y₂ : ℕ). Ok (record { next = p + 3 + n + v; seen = Live (record { target = y₁; tag = g; start = e.literal + (p + 3); len = y₂ }) })) x z)
+  walk_hit tag name t y h =
+      let z : entry_at e w u p ≡ entry tag name t = ap₂ (λ (g : Edition) (l : List ℕ). entry_at g w l p) (sym a) (sym b) ∙ y in
+      sym (step_hit e w u k p place (omega arith) (h ∙ d)
+      ∙ ap₂ (λ (m : ℕ) (s : SfEntry). Ok (record { next = m; seen = Live (record { target = s.target; tag = s.tag; start = e.literal + (p + 3); len = length s.name }) })) (sym behind) z
+      ∙ ap (λ (m : ℕ). Ok (record { next = p₁; seen = Live (record { target = t; tag = tag; start = e.literal + (m + 3); len = length name }) })) (sym d))
 
-module _ (e : Edition) (u : List ℕ) (k wides place i p : ℕ) (a : k ≡ get_or u 0 0) (b : wides ≡ get_or u 1 0)
-    (s : Walk e (width_of wides) u (2 + width_of wides) k place i p) where
-  pub walk_hit : (n v g : ℕ) (j : Target) → i < k → n ≡ get_or u p 0 → v ≡ e.ftype + width_of wides → place ≡ p
-      → j ≡ target (field (p + 3 + n + e.ftype) (width_of wides) u) (field (p + 3 + n) e.ftype u) → g ≡ field (p + 1) 2 u
-      → Ok (record { next = p + 3 + n + v; seen = Live (record { target = j; tag = g; start = e.literal + (p + 3); len = n }) }) ≡ walked_in e u place
-  walk_hit n v g j h e₀ c f t o = hit e (width_of wides) u (2 + width_of wides) k place i p n v s h e₀ c f j g t o ∙ whole e u k wides place a b
-
-  over : k ≤ i → walked_in e u place ≡ cond (eqb place p) (at_end place) (Err ASKED)
-  over h = sym (whole e u k wides place a b) ∙ s.rest ∙ step_last e (width_of wides) u (k - i) p place (omega arith)
-
-  pub walk_end : k ≤ i → place ≡ p → Ok (record { next = p; seen = End }) ≡ walked_in e u place
+module _ (e : Edition) (w : ℕ) (u : List ℕ) (k p p₁ place : ℕ) (a : k ≡ 0) (b : p₁ ≡ p) where
+  pub walk_end : place ≡ p₁ → Ok (record { next = place; seen = End }) ≡ walked_over e w u k p place
   unfolding end_step
-  walk_end h f = sym (over h ∙ rw (eq-eqb _ _ f, f) refl)
+  walk_end h = sym (step_last e w u k p place (omega arith) ∙ rw (eq-eqb place p (h ∙ b)) refl)
 
-  pub walk_off : k ≤ i → (place ≡ p → ⊥) → Err ASKED ≡ walked_in e u place
-  walk_off h f = sym (over h ∙ rw (ne_eqb _ _ f) refl)
+  pub walk_off : (place ≡ p₁ → ⊥) → Err ASKED ≡ walked_over e w u k p place
+  walk_off h = sym (step_last e w u k p place (omega arith) ∙ rw (ne_eqb place p (λ q. h (q ∙ sym b))) refl)
+
+-- where the entry lies
+pub lies_at : (f : Edition) (w : ℕ) (v u : List ℕ) (k p x : ℕ) → v ≡ u → enough f w v k p ≡ true → x ≡ p → x ≤ length u
+lies_at f w v u k p x a h d = omega (arith, enough_lies f w v k p h, start_above (size_at f w v) k p, ap length a)
 
 -- ---- the public step
 

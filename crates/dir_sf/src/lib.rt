@@ -112,12 +112,12 @@ impl<'a> Iterator for Entries<'a> {
 }
 
 impl<'a> Entries<'a> {
-    ghost use Rattle.dir_sf.specs.Left.{left, placed, bare, first_hit};
+    ghost use Rattle.dir_sf.specs.Left.{left, placed, From, bare, first_hit};
 
     // Those of used bytes that pass the tests.
     pub fn of(e: Edition, u: &'a [u8]) -> Entries<'a>
         requires { Sane e × Readable e u.now }
-        ensures { (result.edition ≡ e) × (left result ≡ placed e u.now) }
+        ensures { (result.edition ≡ e) × (left result ≡ placed e u.now) × From u.now result }
     {
         let wides = be::be8(u, 1);
         Entries {
@@ -426,33 +426,25 @@ fn step_over(e: Edition, u: &[u8], place: usize) -> Result<Step, Refusal>
     requires { Sane e × Readable e u.now × (length u.now ≤ 1948) }
     ensures { numbered result ≡ walked_in e u.now place }
 {
-    let k = be::be8(u, 0);
-    let wides = be::be8(u, 1);
-    let w = rest(e, wides);
-    let mut p = 2 + width(wides);
-    for _ in 0..k {
-        let n = namelen(e, u, p, wides);
-        let end = p + 3 + n;
-        if place == p {
-            let target = target_at(e, u, end, wides);
-            let tag = be::be16(u, p + 1);
+    let mut entries = Entries::of(e, u);
+    while let Some(x) = entries.next() {
+        if place == x.at {
+            let tag = x.tag;
             let live = Entry {
-                target,
+                target: x.target,
                 tag,
-                start: e.literal + (p + 3),
-                len: n,
+                start: e.literal + (x.at + 3),
+                len: x.name.len(),
             };
-            let seen = Seen::Live(live);
             return Ok(Step {
-                next: end + w,
-                seen,
+                next: entries.at,
+                seen: Seen::Live(live),
             });
         }
-        p = end + w;
     }
-    if place == p {
+    if place == entries.at {
         return Ok(Step {
-            next: p,
+            next: place,
             seen: Seen::End,
         });
     }

@@ -1,6 +1,6 @@
 use mathlib.Core.Path.{refl}
 use Rattle.dir_sf.proofs.Listed.{list_enough}
-use Rattle.dir_sf.proofs.Turn.{placed_is}
+use Rattle.dir_sf.proofs.Turn.{placed_is, from_is}
 use Rattle.dir_sf.proofs.Entries.of.Goals as goal
 
 pub invariant_of-result : goal.invariant_of-result
@@ -8,4 +8,8 @@ invariant_of-result c =
     record { sane = c.requires.0; lie = list_enough _ _ _ _ _ c.be8.ensures.0 c.be8-wides.ensures.0 c.width.ensures.0 c.requires.1.listed }
 
 pub returns : goal.returns
-returns c = (refl, placed_is _ _ _ _ _ c.be8.ensures.0 c.be8-wides.ensures.0 c.width.ensures.0)
+returns c =
+    let k = c.be8.ensures.0 in
+    let s = c.be8-wides.ensures.0 in
+    let w = c.width.ensures.0 in
+    (refl, placed_is _ _ _ _ _ k s w, from_is _ _ _ _ k s w)
