@@ -12,7 +12,7 @@ use borrow.Author.Tests.{le-leb, lt-leb, eq-eqb, ne_eqb}
 use Rattle.be.specs.Bytes.{field}
 use Rattle.edition.specs.declared.Edition.{Edition}
 use Rattle.edition.specs.Edition.{Sane, block_size, largest_block}
-use Rattle.dir_block_rules.specs.Record.{Rec, entries}
+use Rattle.dir_block_rules.specs.Record.{Rec}
 use Rattle.dir_block_rules.specs.Block.{Slot, records, slots, slots_in, count_of, stale_of, data_end}
 use Rattle.dir_block_rules.specs.Verdict.{verdict, size_ok, magic_ok, span_ok}
 use Rattle.dir_block_twice.specs.Twice.{slots_from}

@@ -12,7 +12,7 @@ ghost use Rattle.name.specs.Name.{legal_name};
 ghost use Rattle.dir_block_rules.specs.Record.{says, gaps, entries};
 ghost use Rattle.dir_block_rules.specs.Verdict.{number_fits, best_pairs, best_ok, index_ok, verdict};
 ghost use Rattle.dir_block_twice.specs.Twice.{slots_from};
-ghost use Rattle.dir_block_test.specs.Passes.{rest, whole_len, ordered_with, level, slot_word, cells_of, hint, name_fits, fault_at, own_at, best_of_pairs, pair_of, which, fault_of, Surveyed, Faulted, after_index, after_tile, after_span, Parts, DataTiled};
+ghost use Rattle.dir_block_test.specs.Passes.{rest, whole_len, ordered_with, level, slot_word, cells_of, hint, name_fits, fault_at, own_at, best_of_pairs, pair_of, which, fault_of, Surveyed, Faulted, after_index, after_tile, after_span, tile_from, Parts};
 
 use edition::{Edition, V4};
 use refusal::Refusal;
@@ -292,34 +292,6 @@ fn best_fits(pairs: [Best; 3], left: bool) -> bool
     (pairs[1].long <= pairs[0].long) & ((pairs[2].long <= pairs[1].long) & left)
 }
 
-// The tests from BEST on. Names are compared only if neighbours have one hash.
-fn test_best(
-    e: Edition,
-    b: &[u8],
-    t: usize,
-    n: usize,
-    m: usize,
-    best: bool,
-    equal: bool,
-) -> Result<(), Refusal>
-    requires sane { Sane e }
-    requires data_tiled { DataTiled e b.now t n × (index_ok e (rest e b.now t (length b.now) e.header) (slots_from b.now t n 0) m ≡ true)
-        × (best ≡ best_ok (best_pairs e b.now) (gaps (rest e b.now t (length b.now) e.header)))
-        × (equal ≡ level 0 (slots_from b.now t n 0)) }
-    ensures { code result ≡ after_index e b.now (rest e b.now t (length b.now) e.header) }
-{
-    if !best {
-        return Err(Refusal::Best);
-    }
-    if !equal {
-        return Ok(());
-    }
-    if !dir_block_twice::once(e, b, t, n) {
-        return Err(Refusal::Twice);
-    }
-    Ok(())
-}
-
 // Whether an entry stands at o.
 fn entry_at(b: &[u8], o: usize, t: usize) -> bool
     requires { o < t → o + 8 ≤ length b.now }
@@ -331,98 +303,116 @@ fn entry_at(b: &[u8], o: usize, t: usize) -> bool
     false
 }
 
-// The tests from NAME on, by what the passes showed.
-fn test_entries(
-    e: Edition,
-    b: &[u8],
-    t: usize,
-    n: usize,
-    m: usize,
-    run: Run,
-    survey: Survey,
-    best: bool,
-) -> Result<(), Refusal>
-    requires sane { Sane e }
-    requires data_tiled { DataTiled e b.now t n × (m ≤ n) × (survey.entries ≡ length (entries (rest e b.now t (length b.now) e.header)))
-        × (run.good ≡ ordered_with 0 0 m (slots_from b.now t n 0)) × (run.equal ≡ level 0 (slots_from b.now t n 0))
-        × Faulted e b.now t n (fault_of survey.fault)
-        × (best ≡ best_ok (best_pairs e b.now) (gaps (rest e b.now t (length b.now) e.header))) }
-    ensures { code result ≡ after_tile e b.now (rest e b.now t (length b.now) e.header)
-        (slots_from b.now t n 0) m }
-{
-    if fails(survey.fault, Refusal::Name) {
-        return Err(Refusal::Name);
-    }
-    if !(entry_at(b, e.header, t) & entry_at(b, e.header + 16, t)) {
-        return Err(Refusal::Name);
-    }
-    if fails(survey.fault, Refusal::Number) {
-        return Err(Refusal::Number);
-    }
-    if !(run.good & (n - m == survey.entries)) {
-        return Err(Refusal::Index);
-    }
-    if fails(survey.fault, Refusal::Index) {
-        return Err(Refusal::Index);
-    }
-    test_best(e, b, t, n, m, best, run.equal)
-}
-
-// The tests from TILE on, with a table of zeros for the slots.
-fn test_data_with<'a, 'b>(
-    e: Edition,
-    b: &'a [u8],
-    t: usize,
-    n: usize,
-    m: usize,
-    cells: &'b mut [u64],
-) -> Result<(), Refusal>
-    requires sane { Sane e }
-    requires parts { Parts e b.now t n × (m ≤ n) × (t ≤ 8 * length cells.old) × (cells.old ≡ replicate (length cells.old) 0) }
-    ensures { code result ≡ after_span e b.now (rest e b.now t (length b.now) e.header)
-        (slots_from b.now t n 0) m }
-{
-    let run = slots(b, t, n, m, cells);
-    let pairs = [
-        pair_at(b, e.best),
-        pair_at(b, e.best + 4),
-        pair_at(b, e.best + 8),
-    ];
-    let Some(survey) = walk(e, b, t, &cells[..], pairs) else {
-        return Err(Refusal::Tile);
-    };
-    test_entries(e, b, t, n, m, run, survey, best_fits(pairs, survey.best))
-}
-
-// The table has a cell for every 8 bytes up to the data's end. Clearing that of the largest block would show in the test of a small one:
-// what is cleared follows the block's size.
+// The table of slots has a cell for every 8 bytes up to the data's end. Clearing that of the largest block would show in the test of a
+// small one: what is cleared follows the block's size.
 const DATA_1: usize = 1024;
 
 const DATA_4: usize = 4096;
 
 const DATA_16: usize = 16384;
 
-// The tests from TILE on.
-fn test_data(e: Edition, b: &[u8], t: usize, n: usize, m: usize) -> Result<(), Refusal>
-    requires sane { Sane e }
-    requires parts { Parts e b.now t n × (m ≤ n) }
-    ensures { code result ≡ after_span e b.now (rest e b.now t (length b.now) e.header)
-        (slots_from b.now t n 0) m }
-{
-    if t <= DATA_1 {
-        let mut cells = [0u64; DATA_1 / 8];
-        return test_data_with(e, b, t, n, m, &mut cells);
+// A block whose parts lie in it: its data ends at t, where n slots stand, of which m should be stale.
+#[derive(Clone, Copy)]
+struct Block<'a> {
+    e: Edition,
+    b: &'a [u8],
+    t: usize,
+    n: usize,
+    m: usize,
+    ghost sane: { Sane e },
+    ghost parts: { Parts e b.now t n },
+    ghost counted: { m ≤ n },
+}
+
+impl<'a> Block<'a> {
+    // The tests from BEST on. Names are compared only if neighbours have one hash.
+    fn test_best(self, best: bool, equal: bool) -> Result<(), Refusal>
+        requires tiles { tile_from self.e false (rest self.e self.b.now self.t (length self.b.now) self.e.header) ≡ true }
+        requires indexed { index_ok self.e (rest self.e self.b.now self.t (length self.b.now) self.e.header) (slots_from self.b.now self.t self.n 0) self.m ≡ true }
+        requires best_is { best ≡ best_ok (best_pairs self.e self.b.now) (gaps (rest self.e self.b.now self.t (length self.b.now) self.e.header)) }
+        requires equal_is { equal ≡ level 0 (slots_from self.b.now self.t self.n 0) }
+        ensures { let s = self.entry in code result ≡ after_index s.e s.b.now (rest s.e s.b.now s.t (length s.b.now) s.e.header) }
+    {
+        if !best {
+            return Err(Refusal::Best);
+        }
+        if !equal {
+            return Ok(());
+        }
+        if !dir_block_twice::once(self.e, self.b, self.t, self.n) {
+            return Err(Refusal::Twice);
+        }
+        Ok(())
     }
-    if t <= DATA_4 {
-        let mut cells = [0u64; DATA_4 / 8];
-        return test_data_with(e, b, t, n, m, &mut cells);
+
+    // The tests from NAME on, by what the passes showed.
+    fn test_entries(self, run: Run, survey: Survey, best: bool) -> Result<(), Refusal>
+        requires tiles { tile_from self.e false (rest self.e self.b.now self.t (length self.b.now) self.e.header) ≡ true }
+        requires shown { (survey.entries ≡ length (entries (rest self.e self.b.now self.t (length self.b.now) self.e.header)))
+            × (run.good ≡ ordered_with 0 0 self.m (slots_from self.b.now self.t self.n 0)) × (run.equal ≡ level 0 (slots_from self.b.now self.t self.n 0))
+            × Faulted self.e self.b.now self.t self.n (fault_of survey.fault)
+            × (best ≡ best_ok (best_pairs self.e self.b.now) (gaps (rest self.e self.b.now self.t (length self.b.now) self.e.header))) }
+        ensures { let s = self.entry in code result ≡ after_tile s.e s.b.now (rest s.e s.b.now s.t (length s.b.now) s.e.header)
+            (slots_from s.b.now s.t s.n 0) s.m }
+    {
+        let header = self.e.header;
+        if fails(survey.fault, Refusal::Name) {
+            return Err(Refusal::Name);
+        }
+        if !(entry_at(self.b, header, self.t) & entry_at(self.b, header + 16, self.t)) {
+            return Err(Refusal::Name);
+        }
+        if fails(survey.fault, Refusal::Number) {
+            return Err(Refusal::Number);
+        }
+        if !(run.good & (self.n - self.m == survey.entries)) {
+            return Err(Refusal::Index);
+        }
+        if fails(survey.fault, Refusal::Index) {
+            return Err(Refusal::Index);
+        }
+        self.test_best(best, run.equal)
     }
-    if t <= DATA_16 {
-        let mut cells = [0u64; DATA_16 / 8];
-        return test_data_with(e, b, t, n, m, &mut cells);
+
+    // The tests from TILE on, with a table of zeros for the slots.
+    fn test_data_with<'b>(self, cells: &'b mut [u64]) -> Result<(), Refusal>
+        requires table { (self.t ≤ 8 * length cells.old) × (cells.old ≡ replicate (length cells.old) 0) }
+        ensures { let s = self.entry in code result ≡ after_span s.e s.b.now (rest s.e s.b.now s.t (length s.b.now) s.e.header)
+            (slots_from s.b.now s.t s.n 0) s.m }
+    {
+        let run = slots(self.b, self.t, self.n, self.m, cells);
+        let best = self.e.best;
+        let pairs = [
+            pair_at(self.b, best),
+            pair_at(self.b, best + 4),
+            pair_at(self.b, best + 8),
+        ];
+        let Some(survey) = walk(self.e, self.b, self.t, &cells[..], pairs) else {
+            return Err(Refusal::Tile);
+        };
+        self.test_entries(run, survey, best_fits(pairs, survey.best))
     }
-    let mut cells = [0u64; edition::LARGEST_BLOCK / 8];
-    test_data_with(e, b, t, n, m, &mut cells)
+
+    // The tests from TILE on.
+    fn test_data(self) -> Result<(), Refusal>
+        ensures { let s = self.entry in code result ≡ after_span s.e s.b.now (rest s.e s.b.now s.t (length s.b.now) s.e.header)
+            (slots_from s.b.now s.t s.n 0) s.m }
+    {
+        if self.t <= DATA_1 {
+            let mut cells = [0u64; DATA_1 / 8];
+            return self.test_data_with(&mut cells);
+        }
+        if self.t <= DATA_4 {
+            let mut cells = [0u64; DATA_4 / 8];
+            return self.test_data_with(&mut cells);
+        }
+        if self.t <= DATA_16 {
+            let mut cells = [0u64; DATA_16 / 8];
+            return self.test_data_with(&mut cells);
+        }
+        let mut cells = [0u64; edition::LARGEST_BLOCK / 8];
+        self.test_data_with(&mut cells)
+    }
 }
 
 // The test of a block of an edition: refused by the first test that fails.
@@ -445,7 +435,14 @@ pub fn check(e: Edition, b: &[u8]) -> Result<(), Refusal>
     if n < m {
         return Err(Refusal::Span);
     }
-    test_data(e, b, len - 8 - 8 * n, n, m)
+    let block = Block {
+        e,
+        b,
+        t: len - 8 - 8 * n,
+        n,
+        m,
+    };
+    block.test_data()
 }
 
 // The test of a block of the V4 edition.

@@ -37,14 +37,12 @@ pub returns-then-n-m : goal.returns-then-n-m
 returns-then-n-m c = end_4' _ c.requires _ _ c.block_sized.ensures c.if-not-block_sized.false _ c.be32.ensures.0 c.if-be32-e.false _ _ c.be32-n.ensures.0
     c.be32-m.ensures.0 c.if-len-e.false c.if-n-m.true
 
-pub overflow_sub-len-3 : goal.overflow_sub-len-3
-overflow_sub-len-3 c = omega (arith, sizes c.args.e c.requires c.args.b.now _ c.block_sized.ensures c.if-not-block_sized.false)
-
-pub overflow_sub-len-4 : goal.overflow_sub-len-4
-overflow_sub-len-4 c = omega (arith, sizes c.args.e c.requires c.args.b.now _ c.block_sized.ensures c.if-not-block_sized.false)
-
-pub test_data-requires : goal.test_data-requires
-test_data-requires c = record { sane = c.requires; parts = (block_parts _ c.requires _ _ c.block_sized.ensures c.if-not-block_sized.false _ c.be32.ensures.0 c.if-be32-e.false _ _ c.be32-n.ensures.0 c.be32-m.ensures.0 c.if-len-e.false, c.if-n-m.false) }
+pub invariant_of-block : goal.invariant_of-block
+invariant_of-block c = record {
+  sane = c.requires;
+  parts = block_parts _ c.requires _ _ c.block_sized.ensures c.if-not-block_sized.false _ c.be32.ensures.0 c.if-be32-e.false _ _ c.be32-n.ensures.0 c.be32-m.ensures.0 c.if-len-e.false;
+  counted = c.if-n-m.false;
+}
 
 pub returns : goal.returns
 returns c = end_span _ c.requires _ _ c.block_sized.ensures c.if-not-block_sized.false _ c.be32.ensures.0 c.if-be32-e.false _ _
