@@ -99,7 +99,6 @@ module _ (e : Edition) (sane : Sane e) (b : List ℕ) (t n : ℕ) where
       once_is = twice_law e b (entries RS) SS m ix addrs reads ∙ sym (once_free e b 0 SS ix.order)
 
       pub reach : Reach b t n
-      unfolding Reach
       reach i h u =
           let s : (us : List Slot) × (slots_from b t n 0 ≡ us ++ slot_at b t i ∷ slots_from b t n (i + 1)) = slots_split b t n i h in
           let l : is_live (slot_at b t i) ≡ true = rw (ne_eqb (addr_at b t i) 0 u) in
