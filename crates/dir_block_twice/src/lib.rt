@@ -11,6 +11,7 @@ ghost use Rattle.dir_block_rules.specs.Lookup.{name_at};
 ghost use Rattle.dir_block_twice.specs.Twice.{slots_from, hash_at, addr_at, clash_from, runs_on, follows, key_bits, Marked, Noted, once_in, Reach, lex, Undecided, live_at, sorts_before, Ascends, Placed, Ranked, most_slots};
 
 use edition::Edition;
+use std::cmp::Ordering;
 
 // The hash of slot i, of those at t.
 pub fn slot_hash(b: &[u8], t: usize, i: usize) -> usize
@@ -106,7 +107,13 @@ fn same_start(x: &[u8], y: &[u8]) -> usize
     k
 }
 
-// Whether x comes before y: eight bytes a turn as long as they are the same, then byte by byte.
+// The order of x and y: eight bytes a turn as long as they are the same, then byte by byte.
+fn by_bytes(x: &[u8], y: &[u8]) -> Ordering {
+    let k = same_start(x, y);
+    x[k..].cmp(&y[k..])
+}
+
+// Whether x comes before y.
 fn sooner(x: &[u8], y: &[u8]) -> bool
     ensures { result ≡ lex x.now y.now }
 {
@@ -286,54 +293,27 @@ impl<'a> Slots<'a> {
         self.sorts_before(cell(order, p), cell(order, q))
     }
 
-    // The later in order of the cells k and k + 1, of which only the first m count.
-    fn later(self, order: &[u16], k: usize, m: usize) -> usize
-        requires { (k < m) × (m ≤ length order.now) }
-        ensures { (k ≤ result) × (result < m) }
-    {
-        if k + 1 < m {
-            if self.ascends(order, k, k + 1) {
-                return k + 1;
-            }
+    // The name of slot i's entry; nothing where no live slot is there.
+    fn name(self, i: usize) -> &'a [u8] {
+        if !self.live(i) {
+            return &[];
         }
-        k
+        let p = 8 * slot_addr(self.block, self.at, i);
+        let from = p + 9;
+        let end = from + be::be8(self.block, p + 8);
+        &self.block[from..end]
     }
 
-    // Sifts the cell `from` down the heap of the first m. Of this and what else makes the order and the ranks it is not proved that they come out
-    // right: both are tested where they are used.
-    fn sift<'b>(self, order: &'b mut [u16], from: usize, m: usize)
-        requires { (m ≤ length order.old) × (m ≤ most_slots) × (from ≤ m) }
-        ensures { length order.new ≡ length order.old }
-    {
-        let mut top = from;
-        while 2 * top + 1 < m {
-            let k = self.later(&order[..], 2 * top + 1, m);
-            if !self.ascends(&order[..], top, k) {
-                return;
-            }
-            order.swap(top, k);
-            top = k;
-        }
-    }
-
-    fn heap<'b>(self, order: &'b mut [u16], m: usize)
-        requires { (m ≤ length order.old) × (m ≤ most_slots) }
-        ensures { length order.new ≡ length order.old }
-    {
-        for k in (0..m / 2).rev() {
-            self.sift(order, k, m);
-        }
-    }
-
+    // Sorts the slots in the first m cells by their names. Of this and what else makes the order and the ranks it is not proved that they come
+    // out right: both are tested where they are used.
     fn sort<'b>(self, order: &'b mut [u16], m: usize)
-        requires { (m ≤ length order.old) × (m ≤ most_slots) }
+        requires { m ≤ length order.old }
         ensures { length order.new ≡ length order.old }
     {
-        self.heap(order, m);
-        for k in (1..m).rev() {
-            order.swap(0, k);
-            self.sift(order, 0, k);
-        }
+        order[..m].sort_unstable_by(|&i, &j| by_bytes(
+            self.name(i as usize),
+            self.name(j as usize),
+        ));
     }
 
     // Stores the live slots; how many there are.
