@@ -182,6 +182,7 @@ struct Slots<'a> {
     count: usize,
     ghost inside: { at + 8 * count ≤ length block.now },
     ghost reach: { Reach block.now at count },
+    ghost few: { count ≤ most_slots },
 }
 
 impl<'a> Slots<'a> {
@@ -318,7 +319,6 @@ impl<'a> Slots<'a> {
 
     // Stores the live slots; how many there are.
     fn gather<'b>(self, order: &'b mut [u16]) -> usize
-        requires { (self.count ≤ most_slots) }
         ensures { (result ≤ self.entry.count) × (length order.new ≡ length order.old) }
     {
         let mut m = 0;
@@ -397,7 +397,7 @@ impl<'a> Slots<'a> {
         order: &'b mut [u16],
         rank: &'c mut [u16],
     ) -> Option<bool>
-        requires { (self.count ≤ most_slots) × (self.count ≤ length order.old) × (self.count ≤ length rank.old) }
+        requires { (self.count ≤ length order.old) × (self.count ≤ length rank.old) }
         ensures { IfSome result (λ once. once ≡ once_in e self.entry.block.now (slots_from self.entry.block.now self.entry.at self.entry.count 0)) }
     {
         let m = self.gather(order);
@@ -409,7 +409,6 @@ impl<'a> Slots<'a> {
     // By sorting the names, however many have their bits in common. The arrays have a cell for each slot that a block can have, and are made
     // only here.
     fn sorted(self, e: Edition) -> Option<bool>
-        requires { (self.count ≤ most_slots) }
         ensures { IfSome result (λ once. once ≡ once_in e self.entry.block.now (slots_from self.entry.block.now self.entry.at self.entry.count 0)) }
     {
         let mut order = [0u16; edition::LARGEST_BLOCK / 8];
@@ -420,7 +419,6 @@ impl<'a> Slots<'a> {
     // By sorting, and were the order wrong, which it is not in a block that has passed INDEX, by the table with as many comparisons as it takes. Both ways that
     // come before it call this one, so that its arrays are in no test's frame that does not need them: a frame's pages are touched one by one.
     fn once_slow(self, e: Edition) -> bool
-        requires { (self.count ≤ most_slots) }
         ensures { result ≡ once_in e self.entry.block.now (slots_from self.entry.block.now self.entry.at self.entry.count 0) }
     {
         if let Some(once) = self.sorted(e) {
@@ -431,28 +429,13 @@ impl<'a> Slots<'a> {
         last.unwrap()
     }
 
-    // Few names, by a table of the names seen. What is cleared for it, and how many slots are compared with later ones before the names are
-    // sorted, follow how many names there can be. Hardly one of 125 names of one hash finds its bits set by chance.
-    fn once_few(self, e: Edition) -> bool
-        requires { (self.count ≤ most_slots) }
+    // By a table of the names seen, of CELLS words, where no more than TURNS slots are compared with later ones before the names are sorted.
+    fn once_by<const CELLS: usize, const TURNS: usize>(self, e: Edition) -> bool
+        requires { (0 < CELLS) × (CELLS ≤ 1024) }
         ensures { result ≡ once_in e self.entry.block.now (slots_from self.entry.block.now self.entry.at self.entry.count 0) }
     {
-        let mut seen = [0u64; 256];
-        let few = self.once_with(e, &mut seen, 2);
-        if let Some(once) = few {
-            return once;
-        }
-        self.once_slow(e)
-    }
-
-    // Many names, of which some four in 2,000 find their bits set by chance.
-    fn once_many(self, e: Edition) -> bool
-        requires { (self.count ≤ most_slots) }
-        ensures { result ≡ once_in e self.entry.block.now (slots_from self.entry.block.now self.entry.at self.entry.count 0) }
-    {
-        let mut seen = [0u64; 1024];
-        let few = self.once_with(e, &mut seen, 24);
-        if let Some(once) = few {
+        let mut seen = [0u64; CELLS];
+        if let Some(once) = self.once_with(e, &mut seen, TURNS) {
             return once;
         }
         self.once_slow(e)
@@ -472,8 +455,10 @@ pub fn once(e: Edition, b: &[u8], t: usize, n: usize) -> bool
         at: t,
         count: n,
     };
+    // What is cleared and compared follows how many names there can be. Hardly one of 125 names of one hash finds its bits set by chance, and of
+    // 2,000 some four do.
     if t <= FEW {
-        return slots.once_few(e);
+        return slots.once_by::<256, 2>(e);
     }
-    slots.once_many(e)
+    slots.once_by::<1024, 24>(e)
 }
