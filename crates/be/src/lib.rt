@@ -5,6 +5,9 @@ ghost use Rattle.std.specs.Prelude.{◌≡◌, ◌+◌, ◌≤◌, ◌<◌, eqb,
 ghost use Rattle.be.specs.Bytes.{byte, part, field, put, to_be};
 ghost use Rattle.be.specs.Words.{le, to_le};
 
+// Kept: the widths of the format's fields, read and written, each by two of half the width. One function over a const width would say
+// `field::<2>(b, o) as usize` where `be16(b, o)` says as much, at each of the hundred places that read a field.
+
 // The byte at a place.
 pub fn be8(b: &[u8], o: usize) -> usize
     requires { o < length b.now }

@@ -328,6 +328,7 @@ fn bytes(t: &[u32; 256], c0: u32, s: &[u8]) -> u32
 }
 
 // The same, eight bytes a turn and the rest byte by byte.
+// Kept: the rest begins where the loop ends; a `for` by steps would need that place worked out before, by a division.
 fn over(t: &[u32; 256], u: &[u32; 1792], c0: u32, s: &[u8]) -> u32
     requires { Table t.now × Later u.now }
     ensures { result ≡ crc_from c0 s.now }

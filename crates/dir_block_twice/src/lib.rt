@@ -93,6 +93,7 @@ fn note(seen: &mut [u64], k: usize, m: u64) -> bool
 }
 
 // How many bytes at the start of both say nothing of their order, by eights: they are the same.
+// Kept: the loop's place is the answer, also where it runs to the end.
 fn same_start(x: &[u8], y: &[u8]) -> usize
     ensures { Undecided x.now y.now result }
 {

@@ -5,6 +5,8 @@ ghost use Rattle.std.specs.Prelude.{◌≡◌, ◌+◌, ◌≤◌, ◌<◌};
 ghost use Rattle.edition.specs.Edition.{v4, Sane, entry_size, block_size};
 
 // What the rules take from an edition.
+// Kept: that an edition is sane is asked by contracts, and not in its type: `name::hash` (README) and `name::legal` (docs/CLAIMS.md) promise
+// what they say of any edition, and a type that is sane would ask more of their callers.
 #[derive(Clone, Copy)]
 pub struct Edition {
     // A block's first four bytes.

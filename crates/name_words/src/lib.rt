@@ -56,15 +56,6 @@ fn with_word(h: u32, w: u64) -> u32
     name::rotated(h, 24) ^ hash_word(w)
 }
 
-// With the eight bytes of the word w more.
-fn next_word(w: u64, h: u32, c: u64) -> Read
-    ensures { (result.hash ≡ hash_from h (to_le 8 w)) × (marked result.marks ≡ (marked c && every legal_byte (to_le 8 w))) }
-{
-    let hash = with_word(h, w);
-    let m = c & marks(w);
-    Read { marks: m, hash }
-}
-
 // The first n bytes of the word w, moved to its end.
 fn moved(w: u64, n: u32) -> u64
     requires { (1 ≤ n) × (n ≤ 8) }
@@ -84,33 +75,42 @@ fn one_word(w: u64, n: u32) -> Read
     Read { marks: m, hash }
 }
 
-// With the first n bytes of the word w more.
-fn last_word(w: u64, n: u32, h: u32, c: u64) -> Read
-    requires { (1 ≤ n) × (n ≤ 8) }
-    ensures { (result.hash ≡ hash_from h (to_le n w)) × (marked result.marks ≡ (marked c && every legal_byte (to_le n w))) }
-{
-    let one = one_word(w, n);
-    let hash = name::rotated(h, 7 * n % 32) ^ one.hash;
-    let m = c & one.marks;
-    Read { marks: m, hash }
-}
-
-// What the bytes from i0 up to end show after a hash h0, where eight more bytes follow them: eight bytes a turn.
-fn words(b: &[u8], i0: usize, end: usize, h0: u32, c0: u64) -> Read
-    requires { (i0 < end) × (end + 8 ≤ length b.now) }
-    ensures { (result.hash ≡ hash_from h0 (part i0 (end - i0) b.now))
-        × (marked result.marks ≡ (marked c0 && every legal_byte (part i0 (end - i0) b.now))) }
-{
-    let mut i = i0;
-    let mut h = h0;
-    let mut c = c0;
-    while 8 < end - i {
-        let g = next_word(be::le64(b, i), h, c);
-        h = g.hash;
-        c = g.marks;
-        i += 8;
+impl Read {
+    // With the eight bytes of the word w more.
+    fn next(self, w: u64) -> Read
+        ensures { (result.hash ≡ hash_from self.hash (to_le 8 w)) × (marked result.marks ≡ (marked self.marks && every legal_byte (to_le 8 w))) }
+    {
+        let hash = with_word(self.hash, w);
+        let m = self.marks & marks(w);
+        Read { marks: m, hash }
     }
-    last_word(be::le64(b, i), (end - i) as u32, h, c)
+
+    // With the first n bytes of the word w more.
+    fn last(self, w: u64, n: u32) -> Read
+        requires { (1 ≤ n) × (n ≤ 8) }
+        ensures { (result.hash ≡ hash_from self.hash (to_le n w)) × (marked result.marks ≡ (marked self.marks && every legal_byte (to_le n w))) }
+    {
+        let one = one_word(w, n);
+        let hash = name::rotated(self.hash, 7 * n % 32) ^ one.hash;
+        let m = self.marks & one.marks;
+        Read { marks: m, hash }
+    }
+
+    // With the bytes from i0 up to end more, where eight more bytes follow them: eight bytes a turn.
+    // Kept: the last word is read where the loop ends, and a `for` by steps would need that place worked out before, by a division.
+    fn words(self, b: &[u8], i0: usize, end: usize) -> Read
+        requires { (i0 < end) × (end + 8 ≤ length b.now) }
+        ensures { (result.hash ≡ hash_from self.hash (part i0 (end - i0) b.now))
+            × (marked result.marks ≡ (marked self.marks && every legal_byte (part i0 (end - i0) b.now))) }
+    {
+        let mut i = i0;
+        let mut read = self;
+        while 8 < end - i {
+            read = read.next(be::le64(b, i));
+            i += 8;
+        }
+        read.last(be::le64(b, i), (end - i) as u32)
+    }
 }
 
 // The hash of the 32 bytes of four words.
@@ -125,14 +125,14 @@ fn folded(a: u64, b: u64, c: u64, d: u64) -> u32
 #[derive(Clone, Copy)]
 struct Begun {
     at: usize,
-    marks: u64,
-    hash: u32,
+    read: Read,
 }
 
 // As long as more than 32 bytes are left: runs of 32 are laid over each other, and hashed once.
+// Kept: the loop ends where the rest begins, as that of `Read::words` does.
 fn chunks(b: &[u8], i0: usize, end: usize) -> Begun
     requires { (i0 < end) × (end + 8 ≤ length b.now) }
-    ensures { HalfRead b.now i0 end result.at result.marks result.hash }
+    ensures { HalfRead b.now i0 end result.at result.read.marks result.read.hash }
 {
     let mut i = i0;
     let mut m = HIGH_BITS;
@@ -153,24 +153,21 @@ fn chunks(b: &[u8], i0: usize, end: usize) -> Begun
         i += 32;
     }
     let hash = folded(u, v, x, y);
-    Begun {
-        at: i,
-        marks: m,
-        hash,
-    }
+    let read = Read { marks: m, hash };
+    Begun { at: i, read }
 }
 
 // The same, and nothing is hashed where there is no run of 32.
 fn begin(b: &[u8], i0: usize, end: usize) -> Begun
     requires { (i0 < end) × (end + 8 ≤ length b.now) }
-    ensures { HalfRead b.now i0 end result.at result.marks result.hash }
+    ensures { HalfRead b.now i0 end result.at result.read.marks result.read.hash }
 {
     if end - i0 <= 32 {
-        return Begun {
-            at: i0,
+        let read = Read {
             marks: HIGH_BITS,
             hash: 0,
         };
+        return Begun { at: i0, read };
     }
     chunks(b, i0, end)
 }
@@ -182,7 +179,7 @@ fn all_words(b: &[u8], i0: usize, end: usize) -> Read
         × (marked result.marks ≡ every legal_byte (part i0 (end - i0) b.now)) }
 {
     let g = begin(b, i0, end);
-    words(b, g.at, end, g.hash, g.marks)
+    g.read.words(b, g.at, end)
 }
 
 // What a directory name shows.
@@ -256,6 +253,7 @@ struct Hashed {
 }
 
 // Runs of 32, as long as more than 32 bytes are left.
+// Kept: the loop ends where the rest begins, as that of `Read::words` does.
 fn runs(s: &[u8]) -> Hashed
     requires { 0 < length s.now }
     ensures { (result.at < length s.now)
@@ -296,6 +294,7 @@ fn with_first(h: u32, w: u64, n: u32) -> u32
 }
 
 // The hash h0 with the bytes from i0 on, eight a turn.
+// Kept: the last bytes are read where the loop ends, as in `Read::words`.
 fn hash_rest(s: &[u8], i0: usize, h0: u32) -> u32
     requires { (i0 < length s.now) × (8 ≤ length s.now) }
     ensures { result ≡ hash_from h0 (part i0 (length s.now - i0) s.now) }
@@ -332,6 +331,7 @@ fn mixed(k: u64, w: u64) -> u64
 }
 
 // Eight bytes a turn, from the key k0.
+// Kept: the last word is read where the loop ends, as in `Read::words`.
 fn key_words(b: &[u8], i0: usize, end: usize, k0: u64) -> u64
     requires { (i0 < end) × (end + 8 ≤ length b.now) }
     ensures { result ≡ key_from ((end - i0 - 1) / 8) k0 (part i0 (end - i0) b.now) }

@@ -1,5 +1,0 @@
-use Rattle.name_words.proofs.MarkedLanes.{marked_more}
-use Rattle.name_words.proofs.next_word.Goals as goal
-
-pub returns : goal.returns
-returns c = (c.with_word-hash.ensures, marked_more c.args.c _ _ c.marks.ensures)
