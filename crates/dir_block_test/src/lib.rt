@@ -80,31 +80,6 @@ struct Run {
     equal: bool,
 }
 
-// Goes over the n slots at t, of which m should be stale, and keeps each one's word in the cell of its address.
-fn slots<'a, 'b>(b: &'a [u8], t: usize, n: usize, m: usize, cells: &'b mut [u64]) -> Run
-    requires { t + 8 * n ≤ length b.now }
-    ensures { (result.good ≡ ordered_with 0 0 m (slots_from b.now t n 0)) × (result.equal ≡ level 0 (slots_from b.now t n 0))
-        × (cells.new ≡ cells_of b.now t cells.old n) }
-{
-    let mut last = 0;
-    let mut stale = 0;
-    let mut good = true;
-    let mut equal = false;
-    for i in 0..n {
-        let h = dir_block_twice::slot_hash(b, t, i);
-        let a = dir_block_twice::slot_addr(b, t, i);
-        keep(cells, a, h);
-        good = good & (last <= h);
-        equal = equal | (last == h);
-        stale += usize::from(a == 0);
-        last = h;
-    }
-    Run {
-        good: good & (stale == m),
-        equal,
-    }
-}
-
 // Whether the cell of address a has the word of hash h.
 fn has_slot(cells: &[u64], h: usize, a: usize) -> bool
     requires { (a < length cells.now) × (a < 4294967296) × (h < 4294967296) }
@@ -227,48 +202,6 @@ struct Survey {
     best: bool,
 }
 
-// Goes over the records up to t. A pair of zeros need not name a gap. Records that are not tiled show nothing.
-fn walk(e: Edition, b: &[u8], t: usize, cells: &[u64], pairs: [Best; 3]) -> Option<Survey>
-    requires sane { Sane e }
-    requires t_in_bounds { (t + 8 ≤ length b.now) × (t < 65536) × (t % 8 ≡ 0) × (e.header ≤ t) × (t ≤ 8 * length cells.now) }
-    ensures { Surveyed e (own_at e b.now) (hint cells.now) (rest e b.now t (length b.now) e.header)
-        (best_of_pairs (pair_of pairs 0) (pair_of pairs 1) (pair_of pairs 2)
-        (gaps (rest e b.now t (length b.now) e.header)))
-        result }
-{
-    let own = be::le64(b, e.header);
-    let mut o = e.header;
-    let mut after = false;
-    let mut entries = 0;
-    let mut fault = None;
-    let mut named = [is_zero(pairs[0]), is_zero(pairs[1]), is_zero(pairs[2])];
-    let mut best = true;
-    while o < t {
-        let len = whole_len(e, b, o, t)?;
-        if !is_gap(b, o) {
-            fault = first_fault(fault, entry_fault(e, b, o, t, cells, own));
-            entries += 1;
-            after = false;
-            o += len;
-            continue;
-        }
-        if after {
-            return None;
-        }
-        match which(o, len, pairs) {
-            Some(i) => named[i] = true,
-            None => best = best & (len <= pairs[2].long),
-        }
-        after = true;
-        o += len;
-    }
-    Some(Survey {
-        entries,
-        fault,
-        best: best & (named[0] & (named[1] & named[2])),
-    })
-}
-
 // The pair at o.
 fn pair_at(b: &[u8], o: usize) -> Best
     requires { o + 4 ≤ length b.now }
@@ -325,6 +258,71 @@ struct Block<'a> {
 }
 
 impl<'a> Block<'a> {
+    // Goes over the slots, and keeps each one's word in the cell of its address.
+    fn slots<'b>(self, cells: &'b mut [u64]) -> Run
+        ensures { let s = self.entry in (result.good ≡ ordered_with 0 0 s.m (slots_from s.b.now s.t s.n 0)) × (result.equal ≡ level 0 (slots_from s.b.now s.t s.n 0))
+            × (cells.new ≡ cells_of s.b.now s.t cells.old s.n) }
+    {
+        let mut last = 0;
+        let mut stale = 0;
+        let mut good = true;
+        let mut equal = false;
+        for i in 0..self.n {
+            let h = dir_block_twice::slot_hash(self.b, self.t, i);
+            let a = dir_block_twice::slot_addr(self.b, self.t, i);
+            keep(cells, a, h);
+            good = good & (last <= h);
+            equal = equal | (last == h);
+            stale += usize::from(a == 0);
+            last = h;
+        }
+        Run {
+            good: good & (stale == self.m),
+            equal,
+        }
+    }
+
+    // Goes over the records. A pair of zeros need not name a gap. Records that are not tiled show nothing.
+    fn walk(self, cells: &[u64], pairs: [Best; 3]) -> Option<Survey>
+        requires { self.t ≤ 8 * length cells.now }
+        ensures { let s = self.entry in Surveyed s.e (own_at s.e s.b.now) (hint cells.now) (rest s.e s.b.now s.t (length s.b.now) s.e.header)
+            (best_of_pairs (pair_of pairs 0) (pair_of pairs 1) (pair_of pairs 2)
+            (gaps (rest s.e s.b.now s.t (length s.b.now) s.e.header)))
+            result }
+    {
+        let own = be::le64(self.b, self.e.header);
+        let mut o = self.e.header;
+        let mut after = false;
+        let mut entries = 0;
+        let mut fault = None;
+        let mut named = [is_zero(pairs[0]), is_zero(pairs[1]), is_zero(pairs[2])];
+        let mut best = true;
+        while o < self.t {
+            let len = whole_len(self.e, self.b, o, self.t)?;
+            if !is_gap(self.b, o) {
+                fault = first_fault(fault, entry_fault(self.e, self.b, o, self.t, cells, own));
+                entries += 1;
+                after = false;
+                o += len;
+                continue;
+            }
+            if after {
+                return None;
+            }
+            match which(o, len, pairs) {
+                Some(i) => named[i] = true,
+                None => best = best & (len <= pairs[2].long),
+            }
+            after = true;
+            o += len;
+        }
+        Some(Survey {
+            entries,
+            fault,
+            best: best & (named[0] & (named[1] & named[2])),
+        })
+    }
+
     // The tests from BEST on. Names are compared only if neighbours have one hash.
     fn test_best(self, best: bool, equal: bool) -> Result<(), Refusal>
         requires tiles { tile_from self.e false (rest self.e self.b.now self.t (length self.b.now) self.e.header) ≡ true }
@@ -380,14 +378,14 @@ impl<'a> Block<'a> {
         ensures { let s = self.entry in code result ≡ after_span s.e s.b.now (rest s.e s.b.now s.t (length s.b.now) s.e.header)
             (slots_from s.b.now s.t s.n 0) s.m }
     {
-        let run = slots(self.b, self.t, self.n, self.m, cells);
+        let run = self.slots(cells);
         let best = self.e.best;
         let pairs = [
             pair_at(self.b, best),
             pair_at(self.b, best + 4),
             pair_at(self.b, best + 8),
         ];
-        let Some(survey) = walk(self.e, self.b, self.t, &cells[..], pairs) else {
+        let Some(survey) = self.walk(&cells[..], pairs) else {
             return Err(Refusal::Tile);
         };
         self.test_entries(run, survey, best_fits(pairs, survey.best))

@@ -6,9 +6,7 @@ use Rattle.dir_block_test.proofs.SlotTable.{cells_long}
 use Rattle.dir_block_test.proofs.Block.test_data_with.Goals as goal
 
 pub walk-requires : goal.walk-requires
-walk-requires c =
-    let p = c.args.self.parts in
-    record { sane = c.args.self.sane; t_in_bounds = (omega (arith, p.slots_fit), p.short, p.eights, p.least, omega (arith, c.requires.table.0, cells_long _ _ _ _ _ c.slots-run.ensures.2)) }
+walk-requires c = omega (arith, c.requires.table.0, cells_long _ _ _ _ _ c.slots-run.ensures.2)
 
 pub returns-in_default : goal.returns-in_default
 returns-in_default c = end_5 _ _ _ _ _ c.in_default.ensures

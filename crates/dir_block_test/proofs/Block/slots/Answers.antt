@@ -6,7 +6,7 @@ use lib.Dec.{eqb}
 use mir.Val.{bool_byte}
 use Rattle.dir_block_test.proofs.SlotWalk.{ordering_start, ordering_on, ordering_end, level_end}
 use Rattle.dir_block_test.proofs.SlotTable.{cells_on, cells_none, cells_end, cells_long}
-use Rattle.dir_block_test.proofs.slots.Goals as goal
+use Rattle.dir_block_test.proofs.Block.slots.Goals as goal
 
 one_if : (x : Bool) → bool_byte x ≡ cond x 1 0
 one_if true = refl
