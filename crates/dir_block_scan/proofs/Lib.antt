@@ -1,1 +1,2 @@
 pub mod TableStored
+pub mod PutBy

@@ -2,19 +2,19 @@
 // over its records.
 #![tactic(auto)]
 
-ghost use Rattle.std.specs.Prelude.{◌≡◌, ◌+◌, ◌-◌, ◌≤◌, ◌<◌, cond, [], ◌∷◌, length};
+ghost use Rattle.std.specs.Prelude.{Bool, ◌≡◌, ◌+◌, ◌-◌, ◌≤◌, ◌<◌, cond, [], ◌∷◌, length};
 ghost use Rattle.be.specs.Bytes.{put, field};
 ghost use Rattle.edition.specs.Edition.{entry_size, Sane};
 ghost use Rattle.dir_block_rules.specs.Record.{gaps, besides};
 ghost use Rattle.dir_block_rules.specs.Block.{records, data_end};
-ghost use Rattle.dir_block_rules.specs.Verdict.{pair, best_pairs};
+ghost use Rattle.dir_block_rules.specs.Verdict.{Pair, pair, best_pairs};
 ghost use Rattle.dir_block_rules.specs.Change.{best_of, with_best, pair_bytes};
 ghost use Rattle.dir_block_laws.specs.Tiled.{Tiled, Ready};
 ghost use Rattle.dir_block_laws.specs.BestSoFar.{ins, ins_all, ins_at, ahead};
 ghost use Rattle.dir_block_laws.specs.JoinedTable.{empty_table, joined_table, in_order, ins_besides};
 ghost use Rattle.dir_block_laws.specs.UsedTable.{less, used_table};
 ghost use Rattle.dir_block_laws.specs.Pass.{Place, GapsBefore, GapsUpTo, NextPlace, Scanned, Surveyed};
-ghost use Rattle.dir_block_scan.specs.Table.{pair_of, table, three, top, first};
+ghost use Rattle.dir_block_scan.specs.Table.{pair_of, table, three, top, first, longer, put_by};
 
 use edition::Edition;
 
@@ -53,14 +53,44 @@ fn before_all(s: Scan, g: Gap) -> Scan
     }
 }
 
-// A gap goes into the table, behind those that are as long.
-fn with_gap(s: Scan, g: Gap) -> Scan
-    ensures { (table result ≡ ins (pair_of g) (table s)) × (three result ≡ ins (pair_of g) (three s)) }
+// Which gap stands before which in a table.
+trait Order {
+    ghost precedes: { Pair → Pair → Bool };
+
+    fn precedes(g: Gap, h: Gap) -> bool
+        ensures { result ≡ precedes (pair_of g) (pair_of h) };
+}
+
+// The longer one.
+struct Longer;
+
+impl Order for Longer {
+    ghost precedes = { longer };
+
+    fn precedes(g: Gap, h: Gap) -> bool {
+        h.len < g.len
+    }
+}
+
+// The longer one, or as long with a lower offset.
+struct Ahead;
+
+impl Order for Ahead {
+    ghost precedes = { ahead };
+
+    fn precedes(g: Gap, h: Gap) -> bool {
+        (h.len < g.len) | ((h.len == g.len) & (g.at < h.at))
+    }
+}
+
+// A gap goes into the table, before the first that it stands before.
+fn insert<O: Order>(s: Scan, g: Gap) -> Scan
+    ensures { (table result ≡ put_by O.precedes (pair_of g) (table s)) × (three result ≡ put_by O.precedes (pair_of g) (three s)) }
 {
-    if s.first.len < g.len {
+    if O::precedes(g, s.first) {
         return before_all(s, g);
     }
-    if s.second.len < g.len {
+    if O::precedes(g, s.second) {
         return Scan {
             second: g,
             third: s.second,
@@ -68,52 +98,31 @@ fn with_gap(s: Scan, g: Gap) -> Scan
             ..s
         };
     }
-    if s.third.len < g.len {
+    if O::precedes(g, s.third) {
         return Scan {
             third: g,
             fourth: s.third,
             ..s
         };
     }
-    if s.fourth.len < g.len {
+    if O::precedes(g, s.fourth) {
         return Scan { fourth: g, ..s };
     }
     s
 }
 
-// Whether gap g comes before gap h: it is longer, or as long with a lower offset.
-fn ahead(g: Gap, h: Gap) -> bool
-    ensures { result ≡ ahead (pair_of g) (pair_of h) }
+// A gap goes into the table, behind those that are as long.
+fn with_gap(s: Scan, g: Gap) -> Scan
+    ensures { (table result ≡ ins (pair_of g) (table s)) × (three result ≡ ins (pair_of g) (three s)) }
 {
-    (h.len < g.len) | ((h.len == g.len) & (g.at < h.at))
+    insert::<Longer>(s, g)
 }
 
 // A gap goes into the table where it belongs, also among those that are as long.
 fn with_gap_at(s: Scan, g: Gap) -> Scan
     ensures { (table result ≡ ins_at (pair_of g) (table s)) × (three result ≡ ins_at (pair_of g) (three s)) }
 {
-    if ahead(g, s.first) {
-        return before_all(s, g);
-    }
-    if ahead(g, s.second) {
-        return Scan {
-            second: g,
-            third: s.second,
-            fourth: s.third,
-            ..s
-        };
-    }
-    if ahead(g, s.third) {
-        return Scan {
-            third: g,
-            fourth: s.third,
-            ..s
-        };
-    }
-    if ahead(g, s.fourth) {
-        return Scan { fourth: g, ..s };
-    }
-    s
+    insert::<Ahead>(s, g)
 }
 
 // No gap; a walk stands at o.
