@@ -2,17 +2,16 @@
 -- Assumes nothing.
 use Prim.Native.Nat.{ℕ, zero, suc, ◌+◌, ◌-◌, ◌<◌}
 use native.Mathlib.Omega.{arith}
-use mathlib.Core.Bool.{Bool, true, false, ◌&&◌}
+use mathlib.Core.Bool.{Bool, true, false, ◌&&◌, ◌||◌}
 use mathlib.Core.Path.{◌≡◌, refl, sym, ◌∙◌, ap, ap₂}
 use mathlib.Core.List.{List, [], ◌∷◌, map}
 use lib.ListN.{length, take, drop, get_or}
-use Rattle.std.specs.Prelude.{Option, Some, None, is_some}
-use Rattle.std.specs.List.{list_all}
+use Rattle.std.specs.Prelude.{Some, None}
+use Rattle.std.specs.List.{list_all, list_any}
 use Rattle.std.proofs.lemmas.Iterator.{YieldsList}
 use Rattle.std.proofs.lemmas.Iterator.Consumers.{YieldsList-from_shown}
 use Rattle.be.specs.Bytes.{byte, field}
-use Rattle.be.specs.Lists.{every}
-use Rattle.be.proofs.Bools.{by_cases}
+use Rattle.be.specs.Lists.{every, some_of}
 use Rattle.name.specs.Name.{same_name}
 use Rattle.dir_sf.specs.Fork.{count_of, stored_wides, used_width, entries, holds, once_ok}
 use Rattle.records.specs.Records.{places}
@@ -23,7 +22,6 @@ use Rattle.dir.specs.Target.{target}
 use Rattle.dir_sf.specs.Entry.{SfEntry, entry, width_of, size_at, entry_at, entries_in}
 use Rattle.dir_sf.specs.Inner.{enough}
 use Rattle.dir_sf.specs.declared.Entries.{Entries}
-use Rattle.dir_sf.specs.declared.Hit.{Hit}
 use Rattle.dir_sf.specs.Left.{placed_in, placed, bare, told, left, Gives, first_hit}
 use Rattle.dir_sf.proofs.Run.{enough_fewer, enough_lies, lies_enough, long_at_is, name_at_is, tag_at_is, target_at_is}
 
@@ -84,6 +82,10 @@ pub every_bare : (q : SfEntry → Bool) (xs : List (ℕ × SfEntry)) → list_al
 every_bare q [] = refl
 every_bare q (x ∷ xs) = ap (λ (t : Bool). q x.1 && t) (every_bare q xs)
 
+pub some_bare : (q : SfEntry → Bool) (xs : List (ℕ × SfEntry)) → list_any (λ x. q x.1) xs ≡ some_of q (bare xs)
+some_bare q [] = refl
+some_bare q (x ∷ xs) = ap (λ (t : Bool). q x.1 || t) (some_bare q xs)
+
 pub turn_length : (e : Edition) (w : ℕ) (u : List ℕ) (k at : ℕ) → length (placed_in e w u k at) ≡ k
 unfolding placed_in
 turn_length e w u k at = length_records (size_at e w u) (λ p. (p, entry_at e w u p)) k at
@@ -107,16 +109,11 @@ pub hit_never : (e : Edition) (n : List ℕ) (i : ℕ) (xs : List (ℕ × SfEntr
 unfolding first_hit
 hit_never e n i xs h = sym (ap (first_hit e n i) h)
 
-pub hit_holds : (e : Edition) (n : List ℕ) (i : ℕ) (xs : List (ℕ × SfEntry)) → is_some (first_hit e n i xs) ≡ holds e n (bare xs)
-unfolding first_hit holds
-hit_holds e n i [] = refl
-hit_holds e n i (x ∷ xs) = by_cases (same_name e n x.1.name) (λ q. rw q refl) (λ q. rw q (hit_holds e n (suc i) xs))
-
 -- ---- TWICE: the name that a turn gives, searched for among the others
 
-module _ (e f : Edition) (x : SfEntry) (xs : List (ℕ × SfEntry)) (r : Option Hit) (t : Bool) (a : f ≡ e) (h : r ≡ first_hit f x.name 0 xs) (k : t ≡ is_some r) where
+module _ (e f : Edition) (x : SfEntry) (xs : List (ℕ × SfEntry)) (t : Bool) (a : f ≡ e) (k : t ≡ holds f x.name (bare xs)) where
   found_later : t ≡ holds e x.name (bare xs)
-  found_later = k ∙ ap is_some h ∙ hit_holds f x.name 0 xs ∙ ap (λ (y : Edition). holds y x.name (bare xs)) a
+  found_later = k ∙ ap (λ (y : Edition). holds y x.name (bare xs)) a
 
   pub once_not : t ≡ true → false ≡ once_ok e (x ∷ bare xs)
   unfolding once_ok

@@ -8,7 +8,7 @@ ghost use Rattle.edition.specs.Edition.{v4, Sane};
 ghost use Rattle.name.specs.Name.{legal_name, fixed_name};
 ghost use Rattle.dinode.specs.Core.{directory_code, data_length};
 ghost use Rattle.dir_sf.specs.Entry.{width_of, entries_in, size_at, is_wide, wides_of};
-ghost use Rattle.dir_sf.specs.Fork.{place_of, count_of, parent, entries, names_ok, numbers_ok, once_ok, used_width, used_verdict, fork_verdict};
+ghost use Rattle.dir_sf.specs.Fork.{place_of, count_of, parent, entries, names_ok, numbers_ok, once_ok, holds, used_width, used_verdict, fork_verdict};
 ghost use Rattle.dir_sf.specs.Inode.{used, verdict, looked, lookup, LookupPromise};
 ghost use Rattle.dir_sf.specs.Walk.{walk_step, StepPromise};
 ghost use Rattle.refusal.specs.Refusal.{code, numbered};
@@ -91,6 +91,7 @@ impl<'a> Iterator for Entries<'a> {
 
     ghost remaining = { item_count left };
 
+    #[inline(always)]
     fn next(&mut self) -> Option<StoredEntry<'a>> {
         if self.left == 0 {
             return None;
@@ -147,6 +148,14 @@ impl<'a> Entries<'a> {
         None
     }
 
+    // Whether an entry bears a name.
+    fn holds(mut self, name: &[u8]) -> bool
+        ensures { result ≡ holds self.entry.edition name.now (bare (left self.entry)) }
+    {
+        let e = self.edition;
+        self.any(|x| name::matches(e, name, x.name))
+    }
+
     // NAME.
     fn named(mut self) -> bool
         ensures { result ≡ names_ok self.entry.edition (bare (left self.entry)) }
@@ -179,7 +188,7 @@ impl<'a> Entries<'a> {
         ensures { result ≡ once_ok self.entry.edition (bare (left self.entry)) }
     {
         while let Some(x) = self.next() {
-            if self.find(x.name).is_some() {
+            if self.holds(x.name) {
                 return false;
             }
         }
