@@ -11,8 +11,8 @@ use borrow.Author.Tests.{ltb-true, not-true}
 use Rattle.std.specs.Prelude.{Result, Ok, Err}
 use Rattle.std.specs.Result.{IsErrAnd}
 use Rattle.refusal.specs.declared.Refusal.{Refusal}
-use Rattle.refusal.specs.Refusal.{ABSENT, number, numbered}
-use Rattle.refusal.proofs.Passed.{passed_on, outcome_answered, ok_done, ok_given, code_answered}
+use Rattle.refusal.specs.Refusal.{ABSENT, number, numbered, outcome}
+use Rattle.refusal.proofs.Passed.{passed_on, outcome_answered, ok_done, ok_given}
 use Rattle.be.specs.Lists.{some_of, keep}
 use Rattle.be.proofs.Codes.{both}
 use Rattle.be.proofs.Bools.{by_cases, neither, clash, and_left, and_right, keep_append}
@@ -124,9 +124,9 @@ module _ (e : Edition) (b name : List ℕ) (flags : ℕ) where
   length_is = by_cases (eqb (lookup_code e b name flags) 0) (λ q. rw q) (λ q. rw q)
 
   -- what a lookup promises
-  pub promised : (r : Result Place Refusal) → numbered r ≡ lookup e b name flags → LookupPromise e b name flags r
+  pub promised : (r : Result Place ℕ) → r ≡ lookup e b name flags → LookupPromise e b name flags r
   unfolding lookup there_at
-  promised r h = (h, code_answered r (lookup_code e b name flags) there_at h, ap start_of h ∙ start_is, ap length_of h ∙ length_is)
+  promised r h = (h, ap outcome h ∙ outcome_answered (lookup_code e b name flags) there_at, ap start_of h ∙ start_is, ap length_of h ∙ length_is)
 
 module _ (e : Edition) (b name : List ℕ) (flags : ℕ) (a : asked_code e b name flags ≡ 0) where
   z : fork_verdict (attr_fork e b) ≡ 0

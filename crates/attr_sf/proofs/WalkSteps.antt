@@ -11,8 +11,8 @@ use borrow.Author.Tests.{eq-eqb, ne_eqb}
 use Rattle.std.specs.Prelude.{Result, Ok, Err, Some, None}
 use Rattle.std.specs.Result.{IsErrAnd}
 use Rattle.refusal.specs.declared.Refusal.{Refusal}
-use Rattle.refusal.specs.Refusal.{ASKED, number, numbered}
-use Rattle.refusal.proofs.Passed.{passed_on, code_answered}
+use Rattle.refusal.specs.Refusal.{ASKED, number, numbered, outcome}
+use Rattle.refusal.proofs.Passed.{passed_on, outcome_answered}
 use Rattle.be.proofs.Bools.{by_cases}
 use Rattle.be.specs.Bytes.{byte}
 use Rattle.records.specs.Records.{stands}
@@ -86,6 +86,6 @@ module _ (e : Edition) (b : List ℕ) (place : ℕ) where
   seen_is = by_cases (eqb (step_code e b place) 0) (λ q. rw q) (λ q. rw q)
 
   -- what a step promises
-  pub promised : (r : Result Step Refusal) → numbered r ≡ walk_step e b place → StepPromise e b place r
+  pub promised : (r : Result Step ℕ) → r ≡ walk_step e b place → StepPromise e b place r
   unfolding walk_step
-  promised r h = (h, code_answered r (step_code e b place) (step_in (attr_start e b) (attr_fork e b) place) h, ap walked_next h ∙ next_is, ap walked_seen h ∙ seen_is)
+  promised r h = (h, ap outcome h ∙ outcome_answered (step_code e b place) (step_in (attr_start e b) (attr_fork e b) place), ap walked_next h ∙ next_is, ap walked_seen h ∙ seen_is)

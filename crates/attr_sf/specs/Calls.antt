@@ -1,8 +1,7 @@
 -- What the calls on an inode's attributes answer, and the bytes that they leave.
 -- Assumes nothing.
 use Rattle.std.specs.Prelude.{ℕ, ◌+◌, ◌≡◌, Bool, cond, ◌&&◌, List, [], ◌∷◌, ◌++◌, eqb, leb, ltb, length, Result, Ok, Err}
-use Rattle.refusal.specs.declared.Refusal.{Refusal}
-use Rattle.refusal.specs.Refusal.{ASKED, ABSENT, NOROOM, code, numbered, answered, outcome}
+use Rattle.refusal.specs.Refusal.{ASKED, ABSENT, NOROOM, answered, outcome}
 use Rattle.be.specs.Codes.{◌unless◌then◌, ◌and_then◌}
 use Rattle.be.specs.Bytes.{byte, part, put}
 use Rattle.edition.specs.declared.Edition.{Edition}
@@ -85,10 +84,10 @@ lookup_length e b name flags =
     cond (eqb (lookup_code e b name flags) 0) (attr_at (attr_start e b) (attr_fork e b) (key_place (attr_fork e b) name flags)).value_len 0
 
 -- what a lookup promises of its answer: the answer itself, and its number and values
-abbrev pub LookupPromise : Edition → List ℕ → List ℕ → ℕ → Result Place Refusal → Type 0
+abbrev pub LookupPromise : Edition → List ℕ → List ℕ → ℕ → Result Place ℕ → Type 0
 LookupPromise e b name flags r =
-    (numbered r ≡ lookup e b name flags) × (code r ≡ lookup_code e b name flags)
-    × (start_of (numbered r) ≡ lookup_start e b name flags) × (length_of (numbered r) ≡ lookup_length e b name flags)
+    (r ≡ lookup e b name flags) × (place_code r ≡ lookup_code e b name flags)
+    × (start_of r ≡ lookup_start e b name flags) × (length_of r ≡ lookup_length e b name flags)
 
 -- ---- changes
 

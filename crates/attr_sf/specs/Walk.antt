@@ -1,8 +1,7 @@
 -- The walk over an inode's attributes: one step, and the steps one after the other.
 -- Assumes nothing.
 use Rattle.std.specs.Prelude.{ℕ, zero, suc, ◌+◌, ◌≡◌, Bool, true, false, cond, List, [], ◌∷◌, eqb, Option, Some, None, Result, Ok, Err}
-use Rattle.refusal.specs.declared.Refusal.{Refusal}
-use Rattle.refusal.specs.Refusal.{ASKED, code, numbered, answered, outcome}
+use Rattle.refusal.specs.Refusal.{ASKED, answered, outcome}
 use Rattle.be.specs.Codes.{◌and_then◌, ◌unless◌then◌}
 use Rattle.records.specs.Records.{stands}
 use Rattle.edition.specs.declared.Edition.{Edition}
@@ -54,10 +53,10 @@ unfoldable pub step_seen : Edition → List ℕ → ℕ → Option Attr
 step_seen e b place = cond (eqb (step_code e b place) 0) (step_in (attr_start e b) (attr_fork e b) place).seen None
 
 -- what a step promises of its answer: the answer itself, and its number and values
-abbrev pub StepPromise : Edition → List ℕ → ℕ → Result Step Refusal → Type 0
+abbrev pub StepPromise : Edition → List ℕ → ℕ → Result Step ℕ → Type 0
 StepPromise e b place r =
-    (numbered r ≡ walk_step e b place) × (code r ≡ step_code e b place)
-    × (walked_next (numbered r) ≡ step_next e b place) × (walked_seen (numbered r) ≡ step_seen e b place)
+    (r ≡ walk_step e b place) × (walked_code r ≡ step_code e b place)
+    × (walked_next r ≡ step_next e b place) × (walked_seen r ≡ step_seen e b place)
 
 -- ---- the whole walk
 

@@ -452,7 +452,7 @@ fn look<'a, 'b>(e: Edition, b: &'a [u8], key: Key<'b>) -> Result<Place, Refusal>
 
 // Looks an attribute up: where its value lies in the inode.
 pub fn lookup<'a, 'b>(b: &'a [u8], name: &'b [u8], flags: usize) -> Result<Place, Refusal>
-    ensures { LookupPromise v4 b.now name.now flags result }
+    ensures { LookupPromise v4 b.now name.now flags (numbered result) }
 {
     look(V4::edition(), b, Key { name, flags })
 }
@@ -483,7 +483,7 @@ fn walk_on(e: Edition, b: &[u8], place: usize) -> Result<Step, Refusal>
 
 // One step of the walk over an inode's attributes, from a place that is counted from the fork's start.
 pub fn step_at(b: &[u8], place: usize) -> Result<Step, Refusal>
-    ensures { StepPromise v4 b.now place result }
+    ensures { StepPromise v4 b.now place (numbered result) }
 {
     walk_on(V4::edition(), b, place)
 }

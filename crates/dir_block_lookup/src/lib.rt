@@ -155,7 +155,7 @@ fn lookup_in(e: Edition, b: &[u8], name: &[u8]) -> Result<Looked, Refusal>
 
 // The lookup of a name in a block of the V4 edition.
 pub fn lookup(b: &[u8], name: &[u8]) -> Result<Looked, Refusal>
-    ensures { LookupPromise v4 b.now name.now result }
+    ensures { LookupPromise v4 b.now name.now (numbered result) }
 {
     lookup_in(V4::edition(), b, name)
 }
@@ -225,7 +225,7 @@ fn step_in(e: Edition, b: &[u8], p: usize) -> Result<Step, Refusal>
 
 // One step of the walk over a block of the V4 edition.
 pub fn step(b: &[u8], p: usize) -> Result<Step, Refusal>
-    ensures { StepPromise v4 b.now p result }
+    ensures { StepPromise v4 b.now p (numbered result) }
 {
     step_in(V4::edition(), b, p)
 }

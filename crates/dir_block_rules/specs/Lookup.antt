@@ -1,8 +1,7 @@
 -- Lookup of a name in a block, with the names compared.
 -- Assumes nothing.
 use Rattle.std.specs.Prelude.{ℕ, suc, ◌+◌, ◌*◌, Bool, true, false, cond, ◌&&◌, ◌≡◌, List, [], ◌∷◌, eqb, Result}
-use Rattle.refusal.specs.declared.Refusal.{Refusal}
-use Rattle.refusal.specs.Refusal.{ASKED, ABSENT, answered, numbered}
+use Rattle.refusal.specs.Refusal.{ASKED, ABSENT, answered}
 use Rattle.be.specs.Lists.{tally}
 use Rattle.be.specs.Bytes.{byte, field, part}
 use Rattle.be.specs.Codes.{◌unless◌then◌, ◌and_then◌}
@@ -106,8 +105,7 @@ unfoldable pub lookup : Edition → List ℕ → List ℕ → Result Looked ℕ
 lookup e b n = answered (lookup_refusal e b n) (looked_of e b n)
 
 -- what a lookup promises of its answer: the answer itself, and its number and values
-abbrev pub LookupPromise : Edition → List ℕ → List ℕ → Result Looked Refusal → Type 0
+abbrev pub LookupPromise : Edition → List ℕ → List ℕ → Result Looked ℕ → Type 0
 LookupPromise e b n r =
-    let a = numbered r in
-    (a ≡ lookup e b n) × (looked_code a ≡ lookup_code e b n) × (looked_target a ≡ lookup_target e b n) × (looked_tag a ≡ lookup_tag e b n)
-    × (looked_compared a ≡ lookup_compared e b n)
+    (r ≡ lookup e b n) × (looked_code r ≡ lookup_code e b n) × (looked_target r ≡ lookup_target e b n) × (looked_tag r ≡ lookup_tag e b n)
+    × (looked_compared r ≡ lookup_compared e b n)

@@ -1,8 +1,7 @@
 -- One step of the walk over a block, and repeated steps.
 -- Assumes nothing.
 use Rattle.std.specs.Prelude.{ℕ, zero, suc, ◌+◌, Bool, cond, ◌||◌, ◌≡◌, List, [], ◌∷◌, eqb, Result}
-use Rattle.refusal.specs.declared.Refusal.{Refusal}
-use Rattle.refusal.specs.Refusal.{ASKED, answered, numbered}
+use Rattle.refusal.specs.Refusal.{ASKED, answered}
 use Rattle.be.specs.Lists.{some_of}
 use Rattle.be.specs.Codes.{◌unless◌then◌, ◌and_then◌}
 use Rattle.edition.specs.declared.Edition.{Edition}
@@ -61,10 +60,9 @@ unfoldable pub walk_step : Edition → List ℕ → ℕ → Result Step ℕ
 walk_step e b p = answered (step_code e b p) (step_from e b p)
 
 -- what a step promises of its answer: the answer itself, and its number and values
-abbrev pub StepPromise : Edition → List ℕ → ℕ → Result Step Refusal → Type 0
+abbrev pub StepPromise : Edition → List ℕ → ℕ → Result Step ℕ → Type 0
 StepPromise e b p r =
-    let a = numbered r in
-    (a ≡ walk_step e b p) × (walked_code a ≡ step_code e b p) × (walked_next a ≡ step_next e b p) × (walked_seen a ≡ step_seen e b p)
+    (r ≡ walk_step e b p) × (walked_code r ≡ step_code e b p) × (walked_next r ≡ step_next e b p) × (walked_seen r ≡ step_seen e b p)
 
 -- k steps, each from where the one before stands
 unfoldable pub walk : Edition → List ℕ → ℕ → ℕ → List (Result Step ℕ)

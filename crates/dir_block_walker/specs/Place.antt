@@ -1,7 +1,6 @@
 -- What a walker meets, and where it then stands.
 -- Assumes nothing.
 use Rattle.std.specs.Prelude.{ℕ, zero, suc, List, [], ◌∷◌, ◌++◌, Result, Ok, Err}
-use Rattle.refusal.specs.declared.Refusal.{Refusal}
 use Rattle.edition.specs.Edition.{v4}
 use Rattle.dir.specs.declared.Step.{Step}
 use Rattle.dir_block_rules.specs.Walk.{walk_step, StepPromise}
@@ -12,7 +11,7 @@ abbrev pub met : Walker → Result Step ℕ
 met w = walk_step v4 w.block.now w.place
 
 -- and what that step promises of its answer
-abbrev pub Says : Walker → Result Step Refusal → Type 0
+abbrev pub Says : Walker → Result Step ℕ → Type 0
 Says w r = StepPromise v4 w.block.now w.place r
 
 -- a step leads on; at the data's end it leads where it stood, and a refusal leaves the walker there

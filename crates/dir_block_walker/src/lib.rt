@@ -31,14 +31,14 @@ pub fn start<'a>(block: &'a [u8]) -> Walker<'a>
 
 // What stands at a place of the block: the plain walk's step.
 fn met(block: &[u8], place: usize) -> Result<Step, Refusal>
-    ensures { StepPromise v4 block.now place result }
+    ensures { StepPromise v4 block.now place (numbered result) }
 {
     dir_block_lookup::step(block, place)
 }
 
 // What stands at the walker's place. The walker stays.
 pub fn step<'a>(w: Walker<'a>) -> Result<Step, Refusal>
-    ensures { Says w.entry result }
+    ensures { Says w.entry (numbered result) }
 {
     met(w.block, w.place)
 }
@@ -55,7 +55,7 @@ fn place_after(p: usize, walked: Result<Step, Refusal>) -> usize
 
 // What stands at the walker's place, and the walker moves on: at the end and after a refusal it stays.
 pub fn advance<'s, 'a>(w: &'s mut Walker<'a>) -> Result<Step, Refusal>
-    ensures { Says w.old result × (w.new ≡ moved w.old) }
+    ensures { Says w.old (numbered result) × (w.new ≡ moved w.old) }
 {
     let p = w.place;
     let walked = met(w.block, p);
@@ -65,14 +65,14 @@ pub fn advance<'s, 'a>(w: &'s mut Walker<'a>) -> Result<Step, Refusal>
 
 // One step of a walker that stands at a place.
 pub fn step_from(block: &[u8], place: usize) -> Result<Step, Refusal>
-    ensures { StepPromise v4 block.now place result }
+    ensures { StepPromise v4 block.now place (numbered result) }
 {
     step(Walker { block, place })
 }
 
 // What a walker meets after n steps: it keeps its place between them.
 pub fn nth(block: &[u8], n: usize) -> Result<Step, Refusal>
-    ensures { StepPromise v4 block.now (nth_place block.now n) result }
+    ensures { StepPromise v4 block.now (nth_place block.now n) (numbered result) }
 {
     let mut w = start(block);
     for _ in 0..n {

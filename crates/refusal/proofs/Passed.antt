@@ -2,7 +2,7 @@
 -- Assumes nothing.
 use native.Mathlib.Omega.{arith}
 use mathlib.Core.Path.{◌≡◌, refl, sym, ap, ◌∙◌}
-use Rattle.std.specs.Prelude.{ℕ, ◌+◌, Bool, true, false, cond, eqb, Result, Ok, Err}
+use Rattle.std.specs.Prelude.{ℕ, Bool, true, false, eqb, Result, Ok, Err}
 use Rattle.std.specs.Result.{IsErrAnd}
 use borrow.Author.Tests.{eqb-true, ne_eqb}
 use Rattle.refusal.specs.declared.Refusal.{Refusal}

@@ -14,7 +14,7 @@ use Rattle.dir_block_lookup.proofs.lookup.Goals as goal
 
 -- of the edition that was made
 made : {e : Edition} (r : Result Looked Refusal) (b n : List ℕ) → numbered r ≡ lookup e b n → e ≡ v4
-    → LookupPromise v4 b n r
+    → LookupPromise v4 b n (numbered r)
 made r b n h q =
     let k = rw q at h in
     let v = values v4 b n in

@@ -14,7 +14,7 @@ use Rattle.dir_block_lookup.proofs.step.Goals as goal
 
 -- of the edition that was made
 made : {e : Edition} (r : Result Step Refusal) (b : List ℕ) (p : ℕ) → numbered r ≡ walk_step e b p → e ≡ v4
-    → StepPromise v4 b p r
+    → StepPromise v4 b p (numbered r)
 made r b p h q =
     let k = rw q at h in (k, ap walked_code k ∙ step_is v4 b p, ap walked_next k ∙ next_is v4 b p, ap walked_seen k ∙ seen_is v4 b p)
 

@@ -2,7 +2,7 @@
 use Rattle.std.proofs.Common.{ℕ, zero, suc, ◌≡◌, ◌≤◌, ◌+◌, ◌-◌, refl, sym, ◌∙◌, ap, subst, add-one, List, Result, Err, arith}
 use Rattle.edition.specs.Edition.{v4}
 use Rattle.refusal.specs.declared.Refusal.{Refusal}
-use Rattle.refusal.specs.Refusal.{number}
+use Rattle.refusal.specs.Refusal.{number, numbered}
 use Rattle.refusal.proofs.Passed.{err_is}
 use Rattle.dir.specs.declared.Step.{Step}
 use Rattle.dir_block_rules.specs.Walk.{walk_step, StepPromise}
@@ -23,15 +23,15 @@ stuck b i k (suc j) h =
     let z : i + suc j ≡ suc (i + j) = omega arith in
     ap (nth_place b) z ∙ ap (λ (p : ℕ). place_after p (walk_step v4 b p)) (stuck b i k j h) ∙ ap (place_after (nth_place b i)) (sym h)
 
-told : (b : List ℕ) (w : Walker) (p : ℕ) (r : Result Step Refusal) → w.block.now ≡ b → w.place ≡ p → Says w r → StepPromise v4 b p r
+told : (b : List ℕ) (w : Walker) (p : ℕ) (r : Result Step ℕ) → w.block.now ≡ b → w.place ≡ p → Says w r → StepPromise v4 b p r
 told b w p r h q s = subst (λ (a : List ℕ). StepPromise v4 a p r) h (subst (λ (o : ℕ). StepPromise v4 w.block.now o r) q s)
 
 refused_for_good : (b : List ℕ) (w : Walker) (i n : ℕ) (r : Result Step Refusal) (x : Refusal) → r ≡ Err x → w.block.now ≡ b → w.place ≡ nth_place b i → i ≤ n
-    → Says w (Err x) → StepPromise v4 b (nth_place b n) r
+    → Says w (Err (number x)) → StepPromise v4 b (nth_place b n) (numbered r)
 refused_for_good b w i n r x e h p l s =
     let m : n ≡ i + (n - i) = omega arith in
-    let q : nth_place b n ≡ nth_place b i = ap (nth_place b) m ∙ stuck b i (number x) (n - i) (told b w (nth_place b i) (Err x) h p s).0 in
-    told b w (nth_place b n) r h (p ∙ sym q) (subst (Says w) (sym e) s)
+    let q : nth_place b n ≡ nth_place b i = ap (nth_place b) m ∙ stuck b i (number x) (n - i) (told b w (nth_place b i) (Err (number x)) h p s).0 in
+    told b w (nth_place b n) (numbered r) h (p ∙ sym q) (subst (Says w) (sym (ap numbered e)) s)
 
 pub loop-init : goal.loop-init
 unfolding nth_place
