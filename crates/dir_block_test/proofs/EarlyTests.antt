@@ -16,7 +16,7 @@ use Rattle.dir_block_rules.specs.Record.{Rec}
 use Rattle.dir_block_rules.specs.Block.{Slot, records, slots, slots_in, count_of, stale_of, data_end}
 use Rattle.dir_block_rules.specs.Verdict.{verdict, size_ok, magic_ok, span_ok}
 use Rattle.dir_block_twice.specs.Twice.{slots_from}
-use Rattle.dir_block_test.specs.Passes.{rest, Parts, DataTiled, after_span, after_tile, after_index, tile_from, cells_of, hint, worst, own_at, Faulted}
+use Rattle.dir_block_test.specs.Passes.{rest, Parts, after_span, after_tile, after_index, tile_from, cells_of, hint, worst, own_at, Faulted}
 use Rattle.dir_block_test.proofs.FaultsAnswer.{tile_is}
 use Rattle.dir_block_rules.proofs.WholeRecords.{tile_law}
 -- TILE
@@ -28,9 +28,6 @@ module _ (e : Edition) (b : List ℕ) (t n m : ℕ) where
   end_5 z = sym (rw z)
 
   module _ (z : tile_from e false (rest e b t (length b) e.header) ≡ true) where
-    pub tiled_parts : Parts e b t n → DataTiled e b t n
-    tiled_parts p = record { parts = p; tiles = z }
-
     pub end_tile : (r : ℕ) → r ≡ after_tile e b (rest e b t (length b) e.header) (slots_from b t n 0) m
         → r ≡ after_span e b (rest e b t (length b) e.header) (slots_from b t n 0) m
     unfolding after_span
