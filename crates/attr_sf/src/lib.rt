@@ -312,6 +312,7 @@ fn check_fork(f: &[u8]) -> Result<(), Refusal>
 
 // What a set or a removal reads first: where the entry asked for starts (the entries' end when there is none), its size (0),
 // how many entries are kept, and the entries' end.
+// Kept: where there is none, the size is 0 and nothing more: no bytes are a run of bytes, and what follows has one way for both.
 #[derive(Clone, Copy)]
 struct Plan {
     at: usize,

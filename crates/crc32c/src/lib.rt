@@ -328,18 +328,16 @@ fn bytes(t: &[u32; 256], c0: u32, s: &[u8]) -> u32
 }
 
 // The same, eight bytes a turn and the rest byte by byte.
-// Kept: the rest begins where the loop ends; a `for` by steps would need that place worked out before, by a division.
 fn over(t: &[u32; 256], u: &[u32; 1792], c0: u32, s: &[u8]) -> u32
     requires { Table t.now × Later u.now }
     ensures { result ≡ crc_from c0 s.now }
 {
+    let whole = s.len() / 8 * 8;
     let mut c = c0;
-    let mut i = 0;
-    while 8 <= s.len() - i {
+    for i in (0..whole).step_by(8) {
         c = turn(t, u, c, be::le64(s, i));
-        i += 8;
     }
-    bytes(t, c, &s[i..])
+    bytes(t, c, &s[whole..])
 }
 
 // With four zero bytes more.

@@ -41,6 +41,8 @@ fn target_at(e: Edition, b: &[u8], o: usize) -> Target
 }
 
 // The first slot whose hash is not below h: by halves.
+// Kept: the library searches slices, and the slots are bytes of the block; there is no heap to copy them to. That the block is tested is asked of
+// callers, here and below: changes hold it as `&mut [u8]`, and no type can keep a fact of bytes that are written.
 pub fn first_slot(e: Edition, b: &[u8], end: usize, count: usize, h: usize) -> usize
     requires sane { Sane e × Ready e b.now }
     requires end_value { (end ≡ data_end b.now) × (count ≡ count_of b.now) }

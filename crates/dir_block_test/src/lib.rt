@@ -164,7 +164,7 @@ fn fails(fault: Option<Refusal>, r: Refusal) -> bool
 }
 
 // A pair of the best-gap table.
-#[derive(Clone, Copy)]
+#[derive(Clone, Copy, PartialEq)]
 struct Best {
     from: usize,
     long: usize,
@@ -174,7 +174,7 @@ struct Best {
 fn named(p: Best, o: usize, n: usize) -> bool
     ensures { result ≡ (eqb o p.from && eqb n p.long) }
 {
-    (o == p.from) & (n == p.long)
+    Best { from: o, long: n } == p
 }
 
 // Which of the pairs names the gap of n bytes at o.
@@ -215,7 +215,7 @@ fn pair_at(b: &[u8], o: usize) -> Best
 fn is_zero(p: Best) -> bool
     ensures { result ≡ (eqb p.from 0 && eqb p.long 0) }
 {
-    (p.from == 0) & (p.long == 0)
+    p == Best { from: 0, long: 0 }
 }
 
 // BEST: whether the pairs do not rise, and name the longest gaps.
@@ -238,11 +238,13 @@ fn entry_at(b: &[u8], o: usize, t: usize) -> bool
 
 // The table of slots has a cell for every 8 bytes up to the data's end. Clearing that of the largest block would show in the test of a
 // small one: what is cleared follows the block's size.
-const DATA_1: usize = 1024;
+const CELLS_1: usize = 128;
 
-const DATA_4: usize = 4096;
+const CELLS_4: usize = 512;
 
-const DATA_16: usize = 16384;
+const CELLS_16: usize = 2048;
+
+const CELLS_64: usize = edition::LARGEST_BLOCK / 8;
 
 // A block whose parts lie in it: its data ends at t, where n slots stand, of which m should be stale.
 #[derive(Clone, Copy)]
@@ -391,25 +393,31 @@ impl<'a> Block<'a> {
         self.test_entries(run, survey, best_fits(pairs, survey.best))
     }
 
+    // The same, with a table of so many cells.
+    fn test_data_by<const CELLS: usize>(self) -> Result<(), Refusal>
+        requires { (self.t ≤ 8 * CELLS) × (CELLS ≤ 8192) }
+        ensures { let s = self.entry in code result ≡ after_span s.e s.b.now (rest s.e s.b.now s.t (length s.b.now) s.e.header)
+            (slots_from s.b.now s.t s.n 0) s.m }
+    {
+        let mut cells = [0u64; CELLS];
+        self.test_data_with(&mut cells)
+    }
+
     // The tests from TILE on.
     fn test_data(self) -> Result<(), Refusal>
         ensures { let s = self.entry in code result ≡ after_span s.e s.b.now (rest s.e s.b.now s.t (length s.b.now) s.e.header)
             (slots_from s.b.now s.t s.n 0) s.m }
     {
-        if self.t <= DATA_1 {
-            let mut cells = [0u64; DATA_1 / 8];
-            return self.test_data_with(&mut cells);
+        if self.t <= 8 * CELLS_1 {
+            return self.test_data_by::<CELLS_1>();
         }
-        if self.t <= DATA_4 {
-            let mut cells = [0u64; DATA_4 / 8];
-            return self.test_data_with(&mut cells);
+        if self.t <= 8 * CELLS_4 {
+            return self.test_data_by::<CELLS_4>();
         }
-        if self.t <= DATA_16 {
-            let mut cells = [0u64; DATA_16 / 8];
-            return self.test_data_with(&mut cells);
+        if self.t <= 8 * CELLS_16 {
+            return self.test_data_by::<CELLS_16>();
         }
-        let mut cells = [0u64; edition::LARGEST_BLOCK / 8];
-        self.test_data_with(&mut cells)
+        self.test_data_by::<CELLS_64>()
     }
 }
 

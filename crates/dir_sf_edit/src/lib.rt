@@ -166,6 +166,7 @@ fn copy_others<'a, 'b>(
 }
 
 // Writes a size and the data fork back: the first n bytes of t.
+// Kept: the new fork is laid out in 2,048 bytes, of which n count: the library has fixed memory and no heap.
 fn write_back<'a, 'b>(e: Edition, b: &'a mut [u8], t: &'b [u8], n: usize, size: usize)
     requires { Sane e × (n ≤ length t.now) × (e.literal + n ≤ length b.old) }
     ensures { b.new ≡ put (put b.old size_place (to_be 8 size)) e.literal (take n t.now) }
