@@ -126,6 +126,19 @@ pub fn hash(e: Edition, s: &[u8]) -> usize
     hash32(e, s) as usize
 }
 
+// Whether two runs as long as each other are equal, byte by byte.
+fn equal_bytes(s: &[u8], t: &[u8]) -> bool
+    requires { length s.now ≡ length t.now }
+    ensures { result ≡ same s.now t.now }
+{
+    for i in 0..s.len() {
+        if s[i] != t[i] {
+            return false;
+        }
+    }
+    true
+}
+
 // Whether the 32 bytes at i of both are equal, by words.
 fn equal_32(s: &[u8], t: &[u8], i: usize) -> bool
     requires { (i + 32 ≤ length s.now) × (i + 32 ≤ length t.now) }
@@ -165,7 +178,7 @@ pub fn equal(s: &[u8], t: &[u8]) -> bool
         return false;
     }
     if n < 8 {
-        return s == t;
+        return equal_bytes(s, t);
     }
     let mut i = 0;
     while 32 < n - i {
