@@ -146,10 +146,10 @@ fn entry_fault(e: Edition, b: &[u8], o: usize, t: usize, cells: &[u64], own: u64
 fn first_fault(x: Option<Refusal>, y: Option<Refusal>) -> Option<Refusal>
     ensures { fault_of result ≡ min (fault_of x) (fault_of y) }
 {
-    match (x, y) {
-        (Some(r), Some(s)) => { if s < r { y } else { x } }
-        (Some(_), None) => x,
-        (None, _) => y,
+    match (y, x) {
+        (None, _) => x,
+        (Some(s), Some(r)) => { if s < r { y } else { x } }
+        (Some(_), None) => y,
     }
 }
 
@@ -300,14 +300,15 @@ impl<'a> Block<'a> {
         let mut named = [is_zero(pairs[0]), is_zero(pairs[1]), is_zero(pairs[2])];
         let mut best = true;
         while o < self.t {
-            let len = whole_len(self.e, self.b, o, self.t)?;
             if !is_gap(self.b, o) {
+                let len = whole_len(self.e, self.b, o, self.t)?;
                 fault = first_fault(fault, entry_fault(self.e, self.b, o, self.t, cells, own));
                 entries += 1;
                 after = false;
                 o += len;
                 continue;
             }
+            let len = whole_len(self.e, self.b, o, self.t)?;
             if after {
                 return None;
             }

@@ -32,6 +32,9 @@ whole_len-requires c =
 pub returns-in_err-len : goal.returns-in_err-len
 returns-in_err-len c = subst (Surveyed _ _ _ _ _) (sym c.from_residual.ensures) (walking_broken _ _ _ _ _ _ _ _ _ _ _ _ (hi c.args.self.parts) c.args.self.parts.eights _ _ _ _ _ _ _ _ c.loop-o.invariant.walking c.loop-o-test.true c.in_err-len.ensures)
 
+pub returns-in_err-len-2 : goal.returns-in_err-len-2
+returns-in_err-len-2 c = subst (Surveyed _ _ _ _ _) (sym c.from_residual-in_err-len-2.ensures) (walking_broken _ _ _ _ _ _ _ _ _ _ _ _ (hi c.args.self.parts) c.args.self.parts.eights _ _ _ _ _ _ _ _ c.loop-o.invariant.walking c.loop-o-test.true c.in_err-len-2.ensures)
+
 pub entry_fault-requires : goal.entry_fault-requires
 entry_fault-requires c =
     let p = c.args.self.parts in record {
@@ -63,13 +66,13 @@ loop-o-preserved-then-not-is_gap c = record {
 
 pub returns-then-after : goal.returns-then-after
 returns-then-after c =
-    walking_touch _ _ _ _ _ _ _ _ _ _ _ _ (hi c.args.self.parts) c.args.self.parts.eights _ _ _ _ _ _ _ _ c.loop-o.invariant.walking c.loop-o-test.true _ c.in_ok-len.ensures (sym c.is_gap.ensures ∙ c.if-not-is_gap.false) c.if-after.true
+    walking_touch _ _ _ _ _ _ _ _ _ _ _ _ (hi c.args.self.parts) c.args.self.parts.eights _ _ _ _ _ _ _ _ c.loop-o.invariant.walking c.loop-o-test.true _ c.in_ok-len-2.ensures (sym c.is_gap.ensures ∙ c.if-not-is_gap.false) c.if-after.true
 
 pub overflow_add-o-in-loop-o : goal.overflow_add-o-in-loop-o
-overflow_add-o-in-loop-o c = omega (arith, (hd _ _ _ _ _ _ _ _ _ _ _ _ (hi c.args.self.parts) c.args.self.parts.eights _ _ _ _ _ _ _ _ c.loop-o.invariant.walking c.loop-o-test.true _ c.in_ok-len.ensures).fits)
+overflow_add-o-in-loop-o c = omega (arith, (hd _ _ _ _ _ _ _ _ _ _ _ _ (hi c.args.self.parts) c.args.self.parts.eights _ _ _ _ _ _ _ _ c.loop-o.invariant.walking c.loop-o-test.true _ c.in_ok-len-2.ensures).fits)
 
 pub loop-o-smaller : goal.loop-o-smaller
-loop-o-smaller c = omega (arith, c.loop-o-test.true, (hd _ _ _ _ _ _ _ _ _ _ _ _ (hi c.args.self.parts) c.args.self.parts.eights _ _ _ _ _ _ _ _ c.loop-o.invariant.walking c.loop-o-test.true _ c.in_ok-len.ensures).least)
+loop-o-smaller c = omega (arith, c.loop-o-test.true, (hd _ _ _ _ _ _ _ _ _ _ _ _ (hi c.args.self.parts) c.args.self.parts.eights _ _ _ _ _ _ _ _ c.loop-o.invariant.walking c.loop-o-test.true _ c.in_ok-len-2.ensures).least)
 
 pub bounds-named-i : goal.bounds-named-i
 bounds-named-i c = which_index _ _ _ _ _ _ (sym c.in-Some.is ∙ c.which.ensures)
@@ -84,11 +87,11 @@ loop-o-preserved c =
           let i = w.in-Some.i in record {
             long = ap length w.named-is ∙ length-set c.loop-o.named i true ∙ v.long;
             walking = rw (w.named-is, w.best-is, f i 0 (omega arith), f i 1 (omega arith), f i 2 (omega arith))
-                (walking_named _ _ _ _ _ _ _ _ _ _ _ _ (hi c.args.self.parts) c.args.self.parts.eights _ _ _ _ _ _ _ _ c.loop-o.invariant.walking c.loop-o-test.true _ c.in_ok-len.ensures g c.if-after.false i (sym w.in-Some.is ∙ c.which.ensures));
+                (walking_named _ _ _ _ _ _ _ _ _ _ _ _ (hi c.args.self.parts) c.args.self.parts.eights _ _ _ _ _ _ _ _ c.loop-o.invariant.walking c.loop-o-test.true _ c.in_ok-len-2.ensures g c.if-after.false i (sym w.in-Some.is ∙ c.which.ensures));
           }
       | in-None w ↦ record {
         long = ap length w.named-is ∙ v.long;
-        walking = rw (w.named-is, w.best-is) (walking_other _ _ _ _ _ _ _ _ _ _ _ _ (hi c.args.self.parts) c.args.self.parts.eights _ _ _ _ _ _ _ _ c.loop-o.invariant.walking c.loop-o-test.true _ c.in_ok-len.ensures g c.if-after.false (sym w.in-None.is ∙ c.which.ensures));
+        walking = rw (w.named-is, w.best-is) (walking_other _ _ _ _ _ _ _ _ _ _ _ _ (hi c.args.self.parts) c.args.self.parts.eights _ _ _ _ _ _ _ _ c.loop-o.invariant.walking c.loop-o-test.true _ c.in_ok-len-2.ensures g c.if-after.false (sym w.in-None.is ∙ c.which.ensures));
       }
     ]
 
