@@ -306,16 +306,63 @@ impl<'a> Slots<'a> {
         &self.block[from..end]
     }
 
-    // Sorts the slots in the first m cells by their names. Of this and what else makes the order and the ranks it is not proved that they come
-    // out right: both are tested where they are used.
-    fn sort<'b>(self, order: &'b mut [u16], m: usize)
-        requires { m ≤ length order.old }
-        ensures { length order.new ≡ length order.old }
+    // Whether a merge takes left[p] before right[q]; a run that is used up has no cell left.
+    fn takes_left(self, left: &[u16], right: &[u16], p: usize, q: usize) -> bool
+        requires { (p ≤ length left.now) × (q ≤ length right.now) × (p + q < length left.now + length right.now) }
+        ensures { (result ≡ true → p < length left.now) × (result ≡ false → q < length right.now) }
     {
-        order[..m].sort_unstable_by(|&i, &j| by_bytes(
-            self.name(i as usize),
-            self.name(j as usize),
-        ));
+        if left.len() <= p {
+            return false;
+        }
+        if right.len() <= q {
+            return true;
+        }
+        by_bytes(self.name(cell(left, p)), self.name(cell(right, q))) != Ordering::Greater
+    }
+
+    // Merges two runs of cells, in each of which the slots stand by their names, into as many cells.
+    fn merge<'b, 'c>(self, left: &'b [u16], right: &'b [u16], to: &'c mut [u16])
+        requires { length to.old ≡ length left.now + length right.now }
+        ensures { length to.new ≡ length to.old }
+    {
+        let mut p = 0;
+        let mut q = 0;
+        for k in 0..to.len() {
+            if self.takes_left(left, right, p, q) {
+                place(to, k, cell(left, p));
+                p += 1;
+            } else {
+                place(to, k, cell(right, q));
+                q += 1;
+            }
+        }
+    }
+
+    // Merges the runs of so many cells two by two; what is left at the end is shorter.
+    fn merge_runs<'b, 'c>(self, order: &'b [u16], to: &'c mut [u16], run: usize)
+        requires { (length to.old ≡ length order.now) × (0 < run) × (run ≤ most_slots) }
+        ensures { length to.new ≡ length to.old }
+    {
+        for low in (0..order.len()).step_by(2 * run) {
+            let mid = order.len().min(low + run);
+            let high = order.len().min(mid + run);
+            self.merge(&order[low..mid], &order[mid..high], &mut to[low..high]);
+        }
+    }
+
+    // Sorts the slots in the first m cells by their names, with as many spare cells. Runs are merged, and the slice's own method is not taken: an
+    // order of names can be made against that, in which it compares twice as often. Of this and what else makes the order and the ranks it is
+    // not proved that they come out right: both are tested where they are used.
+    fn sort<'b, 'c>(self, order: &'b mut [u16], spare: &'c mut [u16], m: usize)
+        requires { (m ≤ length order.old) × (m ≤ length spare.old) × (m ≤ most_slots) }
+        ensures { (length order.new ≡ length order.old) × (length spare.new ≡ length spare.old) }
+    {
+        let mut run = 1;
+        while run < m {
+            self.merge_runs(&order[..m], &mut spare[..m], run);
+            order[..m].copy_from_slice(&spare[..m]);
+            run *= 2;
+        }
     }
 
     // Stores the live slots; how many there are.
@@ -402,7 +449,7 @@ impl<'a> Slots<'a> {
         ensures { IfSome result (λ once. once ≡ once_in e self.entry.block.now (slots_from self.entry.block.now self.entry.at self.entry.count 0)) }
     {
         let m = self.gather(order);
-        self.sort(order, m);
+        self.sort(order, rank, m);
         rank_all(&order[..], m, rank);
         self.judge(e, &order[..], &rank[..], m)
     }
