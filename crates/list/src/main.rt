@@ -35,6 +35,18 @@ fn digit(n: u8) -> u8
     if n < 10 { n + 48 } else { n + 87 }
 }
 
+// The bytes of s in hexadecimal, at the start of out: how many digits.
+fn hex_of(s: &[u8], out: &mut [u8; 512]) -> usize
+    requires { (length s.now < 256) × (length out.old ≡ 512) }
+    ensures { IsPrefixLen result out.new }
+{
+    for i in 0..s.len() {
+        out[2 * i] = digit(s[i] / 16);
+        out[2 * i + 1] = digit(s[i] % 16);
+    }
+    2 * s.len()
+}
+
 impl Lines {
     fn new() -> Lines {
         Lines {
@@ -79,17 +91,19 @@ impl Lines {
         self.text(&digits[..k]);
     }
 
-    // A space and a name's bytes in hexadecimal.
-    fn name(&mut self, s: &[u8]) {
+    // A space and a name's bytes in hexadecimal, as one piece.
+    fn name(&mut self, s: &[u8])
+        requires { length s.now < 256 }
+    {
+        let mut digits = [0u8; 512];
+        let k = hex_of(s, &mut digits);
         self.text(b" ");
-        for byte in s {
-            self.text(&[digit(*byte / 16), digit(*byte % 16)]);
-        }
+        self.text(&digits[..k]);
     }
 
     // A live entry's line: tag, inode number, hash, name.
     fn entry(&mut self, e: Edition, b: &[u8], entry: Entry)
-        requires { entry.start + entry.len ≤ length b.now }
+        requires { (entry.start + entry.len ≤ length b.now) × (entry.len < 256) }
     {
         let from = entry.start;
         let end = from + entry.len;
