@@ -5,7 +5,7 @@ ghost use Rattle.std.specs.Prelude.{◌≡◌, ◌≤◌, length};
 ghost use Rattle.edition.specs.Edition.{v4, Sane};
 ghost use Rattle.refusal.specs.Refusal.{code, numbered};
 ghost use Rattle.dinode.specs.Core.{core_of, inode_size, version_ok, directory_ok, attributes_ok, data_length};
-ghost use Rattle.dinode.specs.Core.{inode_code, directory_code, attributes_code, tested, directory_fork, attributes_fork};
+ghost use Rattle.dinode.specs.Core.{inode_code, directory_code, attributes_code, tested, tested_code, directory_fork, attributes_fork};
 
 use edition::{Edition, V4};
 use refusal::Refusal;
@@ -91,7 +91,7 @@ fn check(e: Edition, b: &[u8]) -> Result<(), Refusal>
 
 // Tests any bytes as an inode of the V4 edition, and hands the fields out.
 pub fn test(b: &[u8]) -> Result<Core, Refusal>
-    ensures { (numbered result ≡ tested v4 b.now) × (code result ≡ inode_code v4 b.now) }
+    ensures { (numbered result ≡ tested v4 b.now) × (tested_code (numbered result) ≡ inode_code v4 b.now) × (code result ≡ inode_code v4 b.now) }
 {
     check(V4::edition(), b)?;
     Ok(fields(b))

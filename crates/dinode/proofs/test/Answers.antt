@@ -7,9 +7,9 @@ use Rattle.edition.specs.declared.Edition.{Edition}
 use Rattle.edition.specs.Edition.{v4}
 use Rattle.refusal.specs.declared.Refusal.{Refusal}
 use Rattle.refusal.specs.Refusal.{code, numbered}
-use Rattle.refusal.proofs.Passed.{passed_on, given, code_answered}
+use Rattle.refusal.proofs.Passed.{passed_on, given, code_answered, outcome_numbered}
 use Rattle.dinode.specs.declared.Core.{Core}
-use Rattle.dinode.specs.Core.{inode_code, core_of, tested}
+use Rattle.dinode.specs.Core.{inode_code, core_of, tested, tested_code}
 use Rattle.dinode.proofs.Sound.{sound_size}
 use Rattle.dinode.proofs.test.Goals as goal
 
@@ -17,9 +17,10 @@ use Rattle.dinode.proofs.test.Goals as goal
 code_is : {e f : Edition} {n : ℕ} (b : List ℕ) → n ≡ inode_code e b → e ≡ f → n ≡ inode_code f b
 code_is b h q = rw (← q) h
 
-told : (r : Result Core Refusal) (b : List ℕ) → numbered r ≡ tested v4 b → (numbered r ≡ tested v4 b) × (code r ≡ inode_code v4 b)
+told : (r : Result Core Refusal) (b : List ℕ) → numbered r ≡ tested v4 b
+    → (numbered r ≡ tested v4 b) × (tested_code (numbered r) ≡ inode_code v4 b) × (code r ≡ inode_code v4 b)
 unfolding tested
-told r b h = (h, code_answered r _ (core_of b) h)
+told r b h = (h, outcome_numbered r ∙ code_answered r _ (core_of b) h, code_answered r _ (core_of b) h)
 
 pub returns-in_err-check : goal.returns-in_err-check
 unfolding tested
