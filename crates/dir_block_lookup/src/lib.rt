@@ -1,7 +1,7 @@
 // Lookup and the walk in a block directory. Each public call tests the block once; the inner functions take a tested one.
 #![tactic(auto)]
 
-ghost use Rattle.std.specs.Prelude.{◌≡◌, true, ◌+◌, ◌≤◌, length, take, drop};
+ghost use Rattle.std.specs.Prelude.{◌≡◌, true, ◌+◌, ◌≤◌, length, take, drop, IsNone};
 ghost use Rattle.be.specs.Bytes.{byte};
 ghost use Rattle.edition.specs.Edition.{v4, Sane};
 ghost use Rattle.refusal.specs.Refusal.{numbered};
@@ -12,7 +12,7 @@ ghost use Rattle.dir_block_rules.specs.Walk.{is_place, walk_step, StepPromise};
 ghost use Rattle.dir_block_laws.specs.Pass.{Place, Steps};
 ghost use Rattle.dir_block_laws.specs.Tiled.{Ready};
 ghost use Rattle.dir_block_laws.specs.SlotIndex.{all_below, all_from};
-ghost use Rattle.dir_block_lookup.specs.Hit.{found_as};
+ghost use Rattle.dir_block_lookup.specs.Hit.{found_as, missed};
 
 use dir::{Entry, Looked, Seen, Step, Target};
 use edition::{Edition, V4};
@@ -81,7 +81,8 @@ pub fn seek(e: Edition, b: &[u8], end: usize, count: usize, name: &[u8], h: usiz
     requires sane { Sane e × Ready e b.now }
     requires end_value { (end ≡ data_end b.now) × (count ≡ count_of b.now) }
     requires h_value { h ≡ hash_of e name.now }
-    ensures { result ≡ found_as (sought e b.now name.now) }
+    ensures found { result ≡ found_as (sought e b.now name.now) }
+    ensures miss { IsNone result.found → sought e b.now name.now ≡ missed count result.compared }
 {
     let mut compared = 0;
     for i in first_slot(e, b, end, count, h)..count {

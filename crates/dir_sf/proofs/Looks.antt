@@ -2,11 +2,12 @@
 -- Assumes nothing.
 use Prim.Native.Nat.{ℕ, zero, suc, ◌+◌, ◌<◌}
 use native.Mathlib.Omega.{arith}
-use mathlib.Core.Bool.{Bool, true, false, not, cond}
+use mathlib.Core.Bool.{Bool, true, false, not, cond, true≢false}
 use mathlib.Core.Path.{◌≡◌, refl, sym, ◌∙◌, ap, ap₂}
 use mathlib.Core.List.{List, [], ◌∷◌}
 use lib.Dec.{ltb}
-use Rattle.std.specs.Prelude.{Option, Some, None, Ok, Err, is_some}
+use lib.ListN.{length}
+use Rattle.std.specs.Prelude.{Option, Some, None, Ok, Err, is_some, IsNone}
 use borrow.Author.Tests.{ltb-true, not-true, not-false}
 use Rattle.refusal.specs.Refusal.{ASKED, FIXED}
 use Rattle.be.specs.Lists.{same}
@@ -18,10 +19,10 @@ use Rattle.dir.specs.declared.Looked.TheVariants.{Found, Absent}
 use Rattle.dir_sf.specs.declared.Hit.{Hit}
 use Rattle.dir.specs.declared.Target.{Target}
 use Rattle.dir.specs.Target.{target, kept_of}
-use Rattle.dir_sf.specs.Entry.{SfEntry, size_at, entry_at, entries_in}
+use Rattle.dir_sf.specs.Entry.{SfEntry, empty_entry, size_at, entry_at, entries_in}
 use Rattle.dir_sf.specs.Fork.{entries, holds, used_width, count_of, place_of}
 use Rattle.dir_sf.specs.Change.{entry_in, target_in, tag_in, entry_for}
-use Rattle.dir_sf.specs.Inner.{hit_of, hits, seek}
+use Rattle.dir_sf.specs.Inner.{hit_of, hits, missed, seek}
 use Rattle.dir_sf.specs.Left.{placed_in, placed, first_hit}
 use Rattle.dir_sf.specs.Inode.{looked}
 use Rattle.dir_sf.proofs.Tests.{seek_holds}
@@ -51,6 +52,15 @@ hits_are e n u f xs r a b h =
     ∙ hit_walk e n (used_width u) u (count_of u) (2 + used_width u) 0
     ∙ ap (λ (j : ℕ). cond (holds e n (entries e u)) (Some (record { index = j; at = place_of e (seek e n (entries e u)) u; target = target_in e n (entries e u); tag = tag_in e n (entries e u) })) None) z
 
+-- where no entry bears the name
+seek_none : (e : Edition) (n : List ℕ) (xs : List SfEntry) → holds e n xs ≡ false → (seek e n xs ≡ length xs) × (entry_in e n xs ≡ empty_entry)
+unfolding holds seek entry_in
+seek_none e n [] h = (refl, refl)
+seek_none e n (x ∷ xs) h =
+    by_cases (same_name e n x.name)
+    (λ q. absurd (true≢false (rw q at h)))
+    (λ q. let z = seek_none e n xs (rw q at h) in rw q (ap suc z.0, z.1))
+
 -- what an answer of the search tells
 found_or : Hit → Option Hit → Hit
 found_or d (Some h) = h
@@ -67,6 +77,12 @@ module _ (e : Edition) (n u : List ℕ) (r : Option Hit) (told : r ≡ hits e n 
 
   pub hit_not : r ≡ None → holds e n (entries e u) ≡ false
   hit_not f = sym hit_some ∙ ap is_some f
+
+  -- where there is none, what the definitions say of it
+  pub miss_is : IsNone r → hit_of e n u ≡ missed e u
+  miss_is h =
+      let z = seek_none e n (entries e u) (sym hit_some ∙ h) in
+      ap₂ (λ (i : ℕ) (x : SfEntry). record { index = i; at = place_of e i u; target = x.target; tag = x.tag }) (z.0 ∙ count_is e u) z.1
 
   pub hit_is : (h : Hit) → r ≡ Some h → h ≡ hit_of e n u
   unfolding hits found_or

@@ -6,6 +6,7 @@ use Rattle.records.specs.Records.{start, within, stands}
 use Rattle.edition.specs.declared.Edition.{Edition}
 use Rattle.name.specs.Name.{same_name}
 use Rattle.dir.specs.declared.Step.{Step}
+use Rattle.dir.specs.Target.{no_target}
 use Rattle.dir_sf.specs.declared.Hit.{Hit}
 use Rattle.dir_sf.specs.Entry.{SfEntry, size_at, entries_in, filled, wides_of, tags_ok, end_tag, in_block}
 use Rattle.dir_sf.specs.Fork.{count_of, stored_wides, used_width, parent, entries, place_of, holds}
@@ -43,6 +44,10 @@ hit_of e n u =
 -- what the search for a name in the used bytes finds, if an entry bears it
 unfoldable pub hits : Edition → List ℕ → List ℕ → Option Hit
 hits e n u = cond (holds e n (entries e u)) (Some (hit_of e n u)) None
+
+-- what would be told where no entry bears the name: all stand before it, it starts behind them, and it stands for nothing
+abbrev pub missed : Edition → List ℕ → Hit
+missed e u = record { index = count_of u; at = place_of e (count_of u) u; target = no_target; tag = 0 }
 
 -- what the walk's pass over the used bytes answers: at the end, and at an entry
 abbrev pub at_end : ℕ → Result Step ℕ

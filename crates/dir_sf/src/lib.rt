@@ -1,7 +1,7 @@
 // Short-form directories: test, lookup and walk step, in the inode.
 #![tactic(auto)]
 
-ghost use Rattle.std.specs.Prelude.{◌≡◌, true, cond, not, ◌&&◌, ◌+◌, ◌≤◌, ◌<◌, length};
+ghost use Rattle.std.specs.Prelude.{◌≡◌, true, cond, not, ◌&&◌, ◌+◌, ◌≤◌, ◌<◌, length, IsNone};
 ghost use Rattle.be.specs.Bytes.{byte, field};
 ghost use Rattle.records.specs.Records.{start};
 ghost use Rattle.edition.specs.Edition.{v4, Sane};
@@ -12,7 +12,7 @@ ghost use Rattle.dir_sf.specs.Fork.{place_of, count_of, parent, entries, names_o
 ghost use Rattle.dir_sf.specs.Inode.{used, verdict, looked, lookup, LookupPromise};
 ghost use Rattle.dir_sf.specs.Walk.{walk_step, StepPromise};
 ghost use Rattle.refusal.specs.Refusal.{code, numbered};
-ghost use Rattle.dir_sf.specs.Inner.{enough, Readable, tiles, hits, seek, walked_in};
+ghost use Rattle.dir_sf.specs.Inner.{enough, Readable, tiles, hit_of, hits, missed, seek, walked_in};
 ghost use Rattle.dir.specs.Target.{target};
 
 use dir::{Entry, Looked, Seen, Step, Target};
@@ -364,7 +364,8 @@ pub struct Hit {
 // Searches for the first entry of a name.
 pub fn seek_name<'a, 'b>(e: Edition, u: &'a [u8], name: &'b [u8]) -> Option<Hit>
     requires { Sane e × Readable e u.now }
-    ensures { result ≡ hits e name.now u.now }
+    ensures found { result ≡ hits e name.now u.now }
+    ensures miss { IsNone result → hit_of e name.now u.now ≡ missed e u.now }
 {
     Entries::of(e, u).find(name)
 }

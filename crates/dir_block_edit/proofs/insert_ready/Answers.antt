@@ -87,7 +87,7 @@ seek-f-requires c =
 
 pub returns-then-is_some : goal.returns-then-is_some
 returns-then-is_some c =
-    insert_there _ c.requires.sane.0 c.args.b.now c.args.name.now c.args.to c.requires.sane.1 c.requires.name_value.0 c.requires.name_value.1.0 c.requires.name_value.1.1.0 (hit_is _ _ c.seek-f.ensures ∙ sym c.is_some.ensures ∙ c.if-is_some.true)
+    insert_there _ c.requires.sane.0 c.args.b.now c.args.name.now c.args.to c.requires.sane.1 c.requires.name_value.0 c.requires.name_value.1.0 c.requires.name_value.1.1.0 (hit_is _ _ c.seek-f.ensures.found ∙ sym c.is_some.ensures ∙ c.if-is_some.true)
 
 pub survey-g-requires : goal.survey-g-requires
 survey-g-requires c =
@@ -101,7 +101,7 @@ pub used_table-requires : goal.used_table-requires
 used_table-requires c =
     let b = c.args.b.now in
     let n = c.args.name.now in
-    let h = hit_is _ _ c.seek-f.ensures ∙ sym c.is_some.ensures ∙ c.if-is_some.false in
+    let h = hit_is _ _ c.seek-f.ensures.found ∙ sym c.is_some.ensures ∙ c.if-is_some.false in
     let rm = sym c.choose-done.ensures.0 ∙ c.if-done.true in
     let w = c.choose-done.ensures.1 ∙ ap (λ (t : Bool). chosen c.args.e t b n c.args.to) c.if-done.true in
     let st = stale_read b c.be32-s.result c.be32-s.ensures.0 in
@@ -110,11 +110,11 @@ used_table-requires c =
 pub returns-then-done : goal.returns-then-done
 returns-then-done c =
     insert_made _ c.requires.sane.0 c.args.b.now c.args.name.now c.args.to c.requires.sane.1 c.requires.name_value.0 c.requires.name_value.1.0
-    c.requires.name_value.1.1.0 (hit_is _ _ c.seek-f.ensures ∙ sym c.is_some.ensures ∙ c.if-is_some.false) (sym c.if-done.true ∙ c.choose-done.ensures.0) _
+    c.requires.name_value.1.1.0 (hit_is _ _ c.seek-f.ensures.found ∙ sym c.is_some.ensures ∙ c.if-is_some.false) (sym c.if-done.true ∙ c.choose-done.ensures.0) _
     (stores_changed _ c.requires.sane.0 c.args.b.now _ _ _ (c.choose-done.ensures.1 ∙ ap (λ (t : Bool). chosen c.args.e t c.args.b.now c.args.name.now c.args.to) c.if-done.true) c.used_table.ensures)
 
 pub returns : goal.returns
 returns c =
     insert_no_room _ c.requires.sane.0 c.args.b.now c.args.name.now c.args.to c.requires.sane.1 c.requires.name_value.0 c.requires.name_value.1.0
-    c.requires.name_value.1.1.0 (hit_is _ _ c.seek-f.ensures ∙ sym c.is_some.ensures ∙ c.if-is_some.false) (sym c.if-done.false ∙ c.choose-done.ensures.0) _
+    c.requires.name_value.1.1.0 (hit_is _ _ c.seek-f.ensures.found ∙ sym c.is_some.ensures ∙ c.if-is_some.false) (sym c.if-done.false ∙ c.choose-done.ensures.0) _
     (c.choose-done.ensures.1 ∙ ap (λ (t : Bool). chosen c.args.e t c.args.b.now c.args.name.now c.args.to) c.if-done.false)

@@ -33,13 +33,13 @@ pub remove_found-requires : goal.remove_found-requires
 remove_found-requires c =
     let b = c.args.b.now in
     let m = end_read b c.be32-c.result (count_read b c.be32-c.result c.be32-c.ensures.0) in
-    let h = hits _ _ c.seek-f.ensures _ c.in-Some.is in
+    let h = hits _ _ c.seek-f.ensures.found _ c.in-Some.is in
     record { sane = c.requires.sane; end_value = m; name_value = (h.0, (h.1, h.2)); name_value_2 = c.requires.name_value.0 }
 
 pub returns-in-Some : goal.returns-in-Some
 returns-in-Some c =
     let q = c.requires in
-    let h = (hits _ _ c.seek-f.ensures _ c.in-Some.is).0 in
+    let h = (hits _ _ c.seek-f.ensures.found _ c.in-Some.is).0 in
     removed_done _ q.sane.0 _ _ q.sane.1 (found_legal _ q.sane.0 _ _ q.sane.1 h) q.name_value.0 _ h c.remove_found.ensures
 
 pub returns-then-not-legal : goal.returns-then-not-legal
@@ -51,4 +51,4 @@ pub returns : goal.returns
 returns c =
     let q = c.requires in
     removed_absent _ q.sane.0 _ _ q.sane.1 (sym c.legal.ensures ∙ c.if-not-legal.false) q.name_value.0
-    (misses _ _ c.seek-f.ensures (λ h. c.in_default.not-Some h))
+    (misses _ _ c.seek-f.ensures.found (λ h. c.in_default.not-Some h))

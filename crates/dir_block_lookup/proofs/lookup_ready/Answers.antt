@@ -39,15 +39,15 @@ target_at-target-requires c =
     let a = c.args in
     let q = c.requires in
     let h = c.in-Some.hit in
-    let s = hits _ _ c.seek-s.ensures h c.in-Some.is in
+    let s = hits _ _ c.seek-s.ensures.found h c.in-Some.is in
     let r = found_room _ q.sane.0 a.b.now a.name.now _ h.index h.at q.sane.1 s.0 s.1 s.2 (end_read a.b.now _ (count_read a.b.now _ c.be32-count.ensures.0)) in
     (q.sane.0, omega (arith, r, slots_room _ a.b.now q.sane.0 q.sane.1, entry_size_least a.e (get_or a.b.now (h.at + 8) 0)))
 
 pub returns-in-Some : goal.returns-in-Some
 returns-in-Some c =
     let q = c.requires in
-    let s = hits _ _ c.seek-s.ensures _ c.in-Some.is in
-    lookup_found _ _ _ q.sane.0 q.sane.1 (found_legal _ q.sane.0 _ _ q.sane.1 s.0) _ (counts _ _ c.seek-s.ensures) _ s.0 s.2 _ c.target_at-target.ensures
+    let s = hits _ _ c.seek-s.ensures.found _ c.in-Some.is in
+    lookup_found _ _ _ q.sane.0 q.sane.1 (found_legal _ q.sane.0 _ _ q.sane.1 s.0) _ (counts _ _ c.seek-s.ensures.found) _ s.0 s.2 _ c.target_at-target.ensures
 
 pub returns-then-not-legal : goal.returns-then-not-legal
 returns-then-not-legal c = lookup_asked _ _ _ c.requires.sane.1.ok (sym c.legal.ensures ∙ c.if-not-legal.true)
@@ -55,5 +55,5 @@ returns-then-not-legal c = lookup_asked _ _ _ c.requires.sane.1.ok (sym c.legal.
 pub returns : goal.returns
 returns c =
     let q = c.requires in
-    lookup_absent _ _ _ q.sane.0 q.sane.1 (sym c.legal.ensures ∙ c.if-not-legal.false) _ (counts _ _ c.seek-s.ensures)
-    (misses _ _ c.seek-s.ensures (λ h. c.in_default.not-Some h))
+    lookup_absent _ _ _ q.sane.0 q.sane.1 (sym c.legal.ensures ∙ c.if-not-legal.false) _ (counts _ _ c.seek-s.ensures.found)
+    (misses _ _ c.seek-s.ensures.found (λ h. c.in_default.not-Some h))

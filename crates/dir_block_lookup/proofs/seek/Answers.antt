@@ -1,6 +1,7 @@
 use mathlib.Core.List.{◌∷◌}
 use Prim.Native.Nat.{ℕ, ◌≤◌, ◌+◌}
 use native.Mathlib.Omega.{arith}
+use mathlib.Core.Bool.{true≢false}
 use mathlib.Core.Path.{◌≡◌, refl, sym, ◌∙◌, ap, subst}
 use lib.ListN.{drop}
 use Rattle.dir_block_rules.specs.Block.{slots, slot, Slot}
@@ -41,8 +42,10 @@ returns-then-be32-h c =
     let s =
     slot_read _ b c.requires.sane.0 c.requires.sane.1 c.args.end l.i c.be32.result _ c.requires.end_value.0 (omega (arith, c.requires.end_value))
     c.be32.ensures.0 refl in
-    sym (ap found_as (run_other _ b c.args.name.now l.i l.compared l.invariant.0 _ s c.args.count (ordered _ b c.requires.sane.0 c.requires.sane.1)
-    (length_slots _ b c.requires.sane.1 ∙ sym c.requires.end_value.1) (omega arith) (λ z. c.if-be32-h.true (z ∙ sym c.requires.h_value))))
+    let w =
+    run_other _ b c.args.name.now l.i l.compared l.invariant.0 _ s c.args.count (ordered _ b c.requires.sane.0 c.requires.sane.1)
+    (length_slots _ b c.requires.sane.1 ∙ sym c.requires.end_value.1) (omega arith) (λ z. c.if-be32-h.true (z ∙ sym c.requires.h_value)) in
+    record { found = sym (ap found_as w); miss = λ h. w }
 
 pub overflow_mul-i-in-loop-i : goal.overflow_mul-i-in-loop-i
 overflow_mul-i-in-loop-i c = omega (arith, slots_room _ c.args.b.now c.requires.sane.0 c.requires.sane.1, c.requires.end_value)
@@ -67,8 +70,10 @@ named-requires c =
 pub returns-then-named : goal.returns-then-named
 returns-then-named c =
     let l = c.loop-i in
-    sym (ap found_as (run_hit _ c.args.b.now c.args.name.now l.i l.compared l.invariant.0 (slot c.be32.result c.be32-a.result) (here (goal.at.returns-then-named c).After-be32-a)
-    c.if-a-ne0.true (c.if-be32-h.false ∙ c.requires.h_value) (sym c.named.ensures ∙ c.if-named.true)))
+    let w =
+    run_hit _ c.args.b.now c.args.name.now l.i l.compared l.invariant.0 (slot c.be32.result c.be32-a.result) (here (goal.at.returns-then-named c).After-be32-a)
+    c.if-a-ne0.true (c.if-be32-h.false ∙ c.requires.h_value) (sym c.named.ensures ∙ c.if-named.true) in
+    record { found = sym (ap found_as w); miss = λ h. absurd (true≢false h) }
 
 pub loop-i-preserved : goal.loop-i-preserved
 loop-i-preserved c =
@@ -89,5 +94,7 @@ loop-i-preserved c =
 pub returns-after-loop-i : goal.returns-after-loop-i
 returns-after-loop-i c =
     let l = c.loop-i in
-    sym (ap found_as (run_end _ c.args.b.now c.args.name.now l.i l.compared l.invariant.0 c.args.count
-    (length_slots _ c.args.b.now c.requires.sane.1 ∙ sym c.requires.end_value.1) (omega arith) l.invariant.1))
+    let w =
+    run_end _ c.args.b.now c.args.name.now l.i l.compared l.invariant.0 c.args.count
+    (length_slots _ c.args.b.now c.requires.sane.1 ∙ sym c.requires.end_value.1) (omega arith) l.invariant.1 in
+    record { found = sym (ap found_as w); miss = λ h. w }

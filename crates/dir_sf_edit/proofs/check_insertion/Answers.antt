@@ -14,21 +14,21 @@ pub returns-then-fixed : goal.returns-then-fixed
 returns-then-fixed c = search (rules, insert_fixed)
 
 pub returns-then-is_some : goal.returns-then-is_some
-returns-then-is_some c = let h = c.is_some.ensures ∙ hit_some _ _ _ _ c.seek_name.ensures in search (rules, insert_exists)
+returns-then-is_some c = let h = c.is_some.ensures ∙ hit_some _ _ _ _ c.seek_name.ensures.found in search (rules, insert_exists)
 
 pub tag_of-requires : goal.tag_of-requires
 tag_of-requires c = (search rules, search rules, search (rules, short_name))
 
 pub returns-in_default : goal.returns-in_default
-returns-in_default c = let h = c.is_some.ensures ∙ hit_some _ _ _ _ c.seek_name.ensures in search (rules, insert_no_tag)
+returns-in_default c = let h = c.is_some.ensures ∙ hit_some _ _ _ _ c.seek_name.ensures.found in search (rules, insert_no_tag)
 
 pub grown-requires : goal.grown-requires
 grown-requires c = (search rules, search rules, search rules, search (rules, short_name), search rules)
 
 pub returns-then-fork-grown : goal.returns-then-fork-grown
 returns-then-fork-grown c =
-    let h = c.is_some.ensures ∙ hit_some _ _ _ _ c.seek_name.ensures in let f = c.in-Some.is in search (rules, insert_no_fit)
+    let h = c.is_some.ensures ∙ hit_some _ _ _ _ c.seek_name.ensures.found in let f = c.in-Some.is in search (rules, insert_no_fit)
 
 pub returns : goal.returns
 returns c =
-    let h = c.is_some.ensures ∙ hit_some _ _ _ _ c.seek_name.ensures in let f = c.in-Some.is in search (rules, insert_done)
+    let h = c.is_some.ensures ∙ hit_some _ _ _ _ c.seek_name.ensures.found in let f = c.in-Some.is in search (rules, insert_done)

@@ -11,7 +11,7 @@ pub returns-then-fixed : goal.returns-then-fixed
 returns-then-fixed c = search (rules, remove_fixed)
 
 pub returns-then-is_none : goal.returns-then-is_none
-returns-then-is_none c = let h = sym (hit_some _ _ _ _ c.seek_name.ensures) ∙ c.is_none.ensures in search (rules, remove_absent)
+returns-then-is_none c = let h = sym (hit_some _ _ _ _ c.seek_name.ensures.found) ∙ c.is_none.ensures in search (rules, remove_absent)
 
 pub returns : goal.returns
-returns c = let h = sym (hit_some _ _ _ _ c.seek_name.ensures) ∙ c.is_none.ensures in search (rules, remove_done)
+returns c = let h = sym (hit_some _ _ _ _ c.seek_name.ensures.found) ∙ c.is_none.ensures in search (rules, remove_done)
