@@ -142,7 +142,7 @@ fn entry_fault(e: Edition, b: &[u8], o: usize, t: usize, cells: &[u64], own: u64
     Some(Refusal::Index)
 }
 
-// The fault of the test that comes first.
+// The fault of the test that comes first. That y is none, as for most entries, is asked first: it saves time.
 fn first_fault(x: Option<Refusal>, y: Option<Refusal>) -> Option<Refusal>
     ensures { fault_of result ≡ min (fault_of x) (fault_of y) }
 {
@@ -284,7 +284,8 @@ impl<'a> Block<'a> {
         }
     }
 
-    // Goes over the records. A pair of zeros need not name a gap. Records that are not tiled show nothing.
+    // Goes over the records. A pair of zeros need not name a gap. Records that are not tiled show nothing. Whether a record is a gap is asked
+    // before its length, which asks that too: so the answer is known there, and is not worked out twice.
     fn walk(self, cells: &[u64], pairs: [Best; 3]) -> Option<Survey>
         requires { self.t ≤ 8 * length cells.now }
         ensures { let s = self.entry in Surveyed s.e (own_at s.e s.b.now) (hint cells.now) (rest s.e s.b.now s.t (length s.b.now) s.e.header)

@@ -351,7 +351,7 @@ impl<'a> Slots<'a> {
     }
 
     // Sorts the slots in the first m cells by their names, with as many spare cells. Runs are merged, and the slice's own method is not taken: an
-    // order of names can be made against that, in which it compares twice as often. Of this and what else makes the order and the ranks it is
+    // order of names can be made against that, in which it compares nearly twice as often as a heap's sort. Of this and what else makes the order and the ranks it is
     // not proved that they come out right: both are tested where they are used.
     fn sort<'b, 'c>(self, order: &'b mut [u16], spare: &'c mut [u16], m: usize)
         requires { (m ≤ length order.old) × (m ≤ length spare.old) × (m ≤ most_slots) }

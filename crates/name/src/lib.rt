@@ -168,8 +168,9 @@ fn equal_words(s: &[u8], t: &[u8], i0: usize) -> bool
     be::le64(s, n - 8) == be::le64(t, n - 8)
 }
 
-// Whether two runs of bytes are equal: 32 bytes a turn, then eight.
+// Whether two runs of bytes are equal: 32 bytes a turn, then eight; fewer than eight byte by byte.
 // Kept: `==` of slices took 1.5 times as long (255 bytes: 10.4 ns for 6.8), and a lookup of such a name in 512 bytes is at its bar of 1.3 tests.
+// For fewer than eight bytes it is a call, with which this function is not inlined: tests of short names then took 1.3 times as long.
 pub fn equal(s: &[u8], t: &[u8]) -> bool
     ensures { result ≡ same s.now t.now }
 {
